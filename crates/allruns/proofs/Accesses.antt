@@ -1,0 +1,130 @@
+-- The laws of the access table: what the rest of the proof knows of kinds. Assumes nothing.
+use mathlib.Core.Path.{_≡_, refl, sym, _∙_, ap, ap₂}
+use mathlib.Core.List.{List, [], _∷_, _++_}
+use mathlib.Core.Bool.{Bool, true, false, not, _&&_, _||_, false≢true}
+use Prim.Native.Nat.{ℕ}
+use native.Mathlib.Decide.{ℕ-discrete}
+use lib.Dec.{eqb, ltb}
+use borrow.Author.Tests.{eq-eqb, ne-eqb, ltb-true, ltb-false}
+use lib.ListN.{length, getD, set}
+use lib.Seq.{getD-set-other, getD-set-same, set-comm, set-set, set-out}
+use Rattle.spec.specs.Access.{Access, Kind, cellAfter, compatible, conflict, load, registersAfter, store}
+use Rattle.spec.specs.Lists.{anyOf}
+
+pub eqb-swap : (a b : ℕ) → eqb a b ≡ eqb b a
+eqb-swap a b = at (ℕ-discrete a b)
+  where
+    at : Dec (a ≡ b) → eqb a b ≡ eqb b a
+    at (yes e) = eq-eqb a b e ∙ sym (eq-eqb b a (sym e))
+    at (no e) = ne-eqb a b e ∙ sym (ne-eqb b a (λ q. e (sym q)))
+
+-- The three laws of the table.
+compatible-swap : (k l : Kind) → compatible k l ≡ compatible l k
+unfolding compatible
+compatible-swap load load = refl
+compatible-swap load (store w) = refl
+compatible-swap (store v) load = refl
+compatible-swap (store v) (store w) = refl
+
+pub compatible-left : (k l : Kind) (old : ℕ) → compatible k l ≡ true → cellAfter l (cellAfter k old) ≡ cellAfter k (cellAfter l old)
+unfolding compatible cellAfter
+compatible-left load load old q = refl
+compatible-left load (store w) old q = refl
+compatible-left (store v) load old q = refl
+compatible-left (store v) (store w) old q = absurd (false≢true q)
+
+pub compatible-taken : (k l : Kind) (d old : ℕ) (regs : List ℕ) → compatible k l ≡ true → registersAfter l d (cellAfter k old) regs ≡ registersAfter l d old regs
+unfolding compatible cellAfter registersAfter
+compatible-taken load l d old regs q = refl
+compatible-taken (store v) load d old regs q = absurd (false≢true q)
+compatible-taken (store v) (store w) d old regs q = refl
+
+-- What follows from them.
+pub conflict-swap : (x y : Access) → conflict x y ≡ conflict y x
+unfolding conflict
+conflict-swap x y = ap₂ (λ a b. a && not b) (eqb-swap (x .cell) (y .cell)) (compatible-swap (x .kind) (y .kind))
+
+pub conflict-agree : (x y : Access) → conflict x y ≡ false → x .cell ≡ y .cell → compatible (x .kind) (y .kind) ≡ true
+unfolding conflict
+conflict-agree x y q e = by (compatible (x .kind) (y .kind)) (rw (eq-eqb (x .cell) (y .cell) e) at q)
+  where
+    by : (b : Bool) → not b ≡ false → b ≡ true
+    by true q = refl
+    by false q = sym q
+
+-- A cell touched.
+pub touch-twice : (cells : List ℕ) (c : ℕ) (k l : Kind)
+    → set (set cells c (cellAfter k (getD cells c 0))) c (cellAfter l (getD (set cells c (cellAfter k (getD cells c 0))) c 0)) ≡ set cells c (cellAfter l (cellAfter k (getD cells c 0)))
+touch-twice cells c k l = by (ltb c (length cells)) refl
+  where
+    by : (z : Bool) → ltb c (length cells) ≡ z
+        → set (set cells c (cellAfter k (getD cells c 0))) c (cellAfter l (getD (set cells c (cellAfter k (getD cells c 0))) c 0)) ≡ set cells c (cellAfter l (cellAfter k (getD cells c 0)))
+    by true z = ap (λ v. set (set cells c (cellAfter k (getD cells c 0))) c (cellAfter l v)) (getD-set-same cells c _ 0 (ltb-true _ _ z)) ∙ set-set cells c _ _
+    by false z =
+        ap (λ m. set m c (cellAfter l (getD m c 0))) (set-out cells c _ (ltb-false _ _ z)) ∙ set-out cells c _ (ltb-false _ _ z) ∙ sym (set-out cells c _ (ltb-false _ _ z))
+
+-- What an access of cell e, after one of cell c with which it does not conflict, finds in its cell.
+pub taken-after : (cells : List ℕ) (c e : ℕ) (k l : Kind) (d : ℕ) (regs : List ℕ) → conflict (record { cell = c; kind = k }) (record { cell = e; kind = l }) ≡ false
+    → registersAfter l d (getD (set cells c (cellAfter k (getD cells c 0))) e 0) regs ≡ registersAfter l d (getD cells e 0) regs
+taken-after cells c e k l d regs q = by (ℕ-discrete c e) (ltb c (length cells)) refl
+  where
+    by : Dec (c ≡ e) → (z : Bool) → ltb c (length cells) ≡ z → registersAfter l d (getD (set cells c (cellAfter k (getD cells c 0))) e 0) regs ≡ registersAfter l d (getD cells e 0) regs
+    by (no n) z p = ap (λ v. registersAfter l d v regs) (getD-set-other cells c e _ 0 (λ s. n (sym s)))
+    by (yes y) true p =
+        ap (λ i. registersAfter l d (getD (set cells c (cellAfter k (getD cells c 0))) i 0) regs) (sym y) ∙ ap (λ v. registersAfter l d v regs) (getD-set-same cells c _ 0 (ltb-true _ _ p))
+        ∙ compatible-taken k l d (getD cells c 0) regs (conflict-agree (record { cell = c; kind = k }) (record { cell = e; kind = l }) q y) ∙ ap (λ i. registersAfter l d (getD cells i 0) regs) y
+    by (yes y) false p = ap (λ m. registersAfter l d (getD m e 0) regs) (set-out cells c _ (ltb-false _ _ p))
+
+pub cells-swap : (cells : List ℕ) (c e : ℕ) (k l : Kind) → conflict (record { cell = c; kind = k }) (record { cell = e; kind = l }) ≡ false
+    → set (set cells c (cellAfter k (getD cells c 0))) e (cellAfter l (getD (set cells c (cellAfter k (getD cells c 0))) e 0))
+    ≡ set (set cells e (cellAfter l (getD cells e 0))) c (cellAfter k (getD (set cells e (cellAfter l (getD cells e 0))) c 0))
+cells-swap cells c e k l q = by (ℕ-discrete c e)
+  where
+    by : Dec (c ≡ e) → set (set cells c (cellAfter k (getD cells c 0))) e (cellAfter l (getD (set cells c (cellAfter k (getD cells c 0))) e 0))
+        ≡ set (set cells e (cellAfter l (getD cells e 0))) c (cellAfter k (getD (set cells e (cellAfter l (getD cells e 0))) c 0))
+    by (no n) =
+        ap (λ v. set (set cells c (cellAfter k (getD cells c 0))) e (cellAfter l v)) (getD-set-other cells c e _ 0 (λ s. n (sym s)))
+        ∙ set-comm cells c e _ _ n
+        ∙ ap (λ v. set (set cells e (cellAfter l (getD cells e 0))) c (cellAfter k v)) (sym (getD-set-other cells e c _ 0 n))
+    by (yes y) =
+        ap (λ i. set (set cells c (cellAfter k (getD cells c 0))) i (cellAfter l (getD (set cells c (cellAfter k (getD cells c 0))) i 0))) (sym y)
+        ∙ touch-twice cells c k l
+        ∙ ap (set cells c) (compatible-left k l (getD cells c 0) (conflict-agree (record { cell = c; kind = k }) (record { cell = e; kind = l }) q y))
+        ∙ sym (touch-twice cells c l k)
+        ∙ ap (λ i. set (set cells i (cellAfter l (getD cells i 0))) c (cellAfter k (getD (set cells i (cellAfter l (getD cells i 0))) c 0))) y
+
+-- On `some`.
+pub some-same : {A : Type 0} (p q : A → Bool) (xs : List A) → ((x : A) → p x ≡ q x) → anyOf p xs ≡ anyOf q xs
+unfolding anyOf
+some-same p q [] h = refl
+some-same p q (x ∷ xs) h = ap₂ _||_ (h x) (some-same p q xs h)
+
+pub some-append : {A : Type 0} (p : A → Bool) (xs ys : List A) → anyOf p (xs ++ ys) ≡ (anyOf p xs || anyOf p ys)
+unfolding anyOf
+some-append p [] ys = refl
+some-append p (x ∷ xs) ys = ap (λ b. p x || b) (some-append p xs ys) ∙ assoc (p x) (anyOf p xs) (anyOf p ys)
+  where
+    assoc : (a b c : Bool) → (a || (b || c)) ≡ (a || b || c)
+    assoc true b c = refl
+    assoc false b c = refl
+
+pub some-or : {A : Type 0} (p q : A → Bool) (xs : List A) → anyOf (λ x. p x || q x) xs ≡ (anyOf p xs || anyOf q xs)
+unfolding anyOf
+some-or p q [] = refl
+some-or p q (x ∷ xs) = ap (λ b. p x || q x || b) (some-or p q xs) ∙ mid (p x) (q x) (anyOf p xs) (anyOf q xs)
+  where
+    mid : (a b c d : Bool) → (a || b || (c || d)) ≡ (a || c || (b || d))
+    mid true b c d = refl
+    mid false true true d = refl
+    mid false true false d = refl
+    mid false false c d = refl
+
+pub some-none : {A : Type 0} (xs : List A) → anyOf (λ x. false) xs ≡ false
+unfolding anyOf
+some-none [] = refl
+some-none (x ∷ xs) = some-none xs
+
+pub some-swap : {A B : Type 0} (p : A → B → Bool) (xs : List A) (ys : List B) → anyOf (λ x. anyOf (p x) ys) xs ≡ anyOf (λ y. anyOf (λ x. p x y) xs) ys
+unfolding anyOf
+some-swap p [] ys = sym (some-none ys)
+some-swap p (x ∷ xs) ys = ap (λ b. anyOf (p x) ys || b) (some-swap p xs ys) ∙ sym (some-or (p x) (λ y. anyOf (λ x. p x y) xs) ys)

@@ -1,0 +1,160 @@
+-- Spent is said only at the limit, and the counted barriers are as many as `barriers` says. For every table. Assumes nothing.
+use mathlib.Core.Path.{_≡_, refl, _∙_, ap}
+use mathlib.Core.List.{List, [], _∷_, _++_}
+use mathlib.Core.Bool.{Bool, true, false, cond, _&&_}
+use Prim.Native.Nat.{ℕ, zero, suc, _+_}
+use native.Mathlib.Omega.{arith}
+use lib.Dec.{leb}
+use lib.ListN.{length, length-append}
+use Rattle.spec.specs.declared.Verdict.{Verdict}
+use Rattle.spec.specs.declared.Verdict.the-variants.{Passed, Race, Outside, Diverged, Spent}
+use Rattle.spec.specs.Access.{Kind}
+use Rattle.spec.specs.Op.{Op, CALC, Mem, MEM, IF, ELSE, ENDIF, WHILE, ENDWHILE, BARRIER, UNKNOWN, value}
+use Rattle.spec.specs.Table.{Table, Row, rowAt, cellByte, kindOf, endOf}
+use Rattle.spec.specs.Shape.{Shape, shapeOf, bound, address}
+use Rattle.spec.specs.Mask.{Mask, any, full, lowest}
+use Rattle.spec.specs.Log.{conflictMask, raceKind}
+use Rattle.spec.specs.LockStep.{Saved, LockState, Step, continues, stops, andThen, inTurn, advance, reg, setReg, computeTurn, madeAccess, tryAccess, accessTurn, forEnabled, countSteps, topMask, pop}
+use Rattle.spec.specs.LockStep.{ifRow, elseRow, endifRow, leaveOrStay, whileRow, endwhileRow, passBarrier, barrierRow, runRow, LockResult, resultOf, runFrom, initialState, lockstep, countedAt, countedAfter, countedFrom, countedBarriers}
+
+isSpent : Verdict → ℕ
+isSpent Passed = 0
+isSpent (Race t u k c) = 0
+isSpent (Outside t c) = 0
+isSpent (Diverged t u) = 0
+isSpent Spent = 1
+
+-- A step leaves these counts of rows and barriers; where it stops, it is not for want of rows, and the barriers are c.
+abbrev Leaves : (rows barriers c : ℕ) → Step → Type 0
+Leaves r b c (continues z) = (z .rows ≡ r) × (z .barriers ≡ b)
+Leaves r b c (stops v z) = (isSpent v ≡ 0) × (z .barriers ≡ c)
+
+leaves-then : (r b c r′ b′ : ℕ) (x : Step) (f : LockState → Step) → Leaves r b c x → ((z : LockState) → z .rows ≡ r → z .barriers ≡ b → Leaves r′ b′ c (f z)) → Leaves r′ b′ c (andThen x f)
+unfolding andThen
+leaves-then r b c r′ b′ (continues z) f h g = g z (h .0) (h .1)
+leaves-then r b c r′ b′ (stops v z) f h g = h
+
+-- A thread's turn that leaves the counts, taken by any number of threads.
+abbrev KeepsCounts : (LockState → ℕ → Step) → Type 0
+KeepsCounts f = (s : LockState) (t : ℕ) → Leaves (s .rows) (s .barriers) (s .barriers) (f s t)
+
+leaves-turns : (f : LockState → ℕ → Step) → KeepsCounts f → (r b : ℕ) (ts : List ℕ) (s : LockState) → s .rows ≡ r → s .barriers ≡ b → Leaves r b b (inTurn f ts s)
+unfolding inTurn
+leaves-turns f h r b [] s p q = (p, q)
+leaves-turns f h r b (t ∷ ts) s p q = leaves-then r b b r b (f s t) (inTurn f ts) (move (f s t) (h s t)) (λ z x y. leaves-turns f h r b ts z x y)
+  where
+    move : (x : Step) → Leaves (s .rows) (s .barriers) (s .barriers) x → Leaves r b b x
+    move (continues z) k = (k .0 ∙ p, k .1 ∙ q)
+    move (stops v z) k = (k .0, k .1 ∙ q)
+
+leaves-enabled : (f : LockState → ℕ → Step) → KeepsCounts f → (s : LockState) → Leaves (suc (s .rows)) (s .barriers) (s .barriers) (forEnabled f s)
+unfolding forEnabled advance
+leaves-enabled f h s =
+    leaves-then (s .rows) (s .barriers) (s .barriers) (suc (s .rows)) (s .barriers) (inTurn f _ s) _ (leaves-turns f h (s .rows) (s .barriers) _ s refl refl) (λ z p q. (ap suc p, q))
+
+keeps-compute : (x : Row) (f : ℕ → ℕ → ℕ → ℕ) → KeepsCounts (computeTurn x f)
+unfolding computeTurn setReg
+keeps-compute x f s t = (refl, refl)
+
+keeps-access : (L : Shape) (m : Mem) (x : Row) → KeepsCounts (accessTurn L m x)
+unfolding accessTurn tryAccess madeAccess isSpent
+keeps-access L m x s t = by (leb (bound L m) c) (any others)
+  where
+    c : ℕ
+    c = reg s t (cellByte m x)
+
+    k : Kind
+    k = kindOf m (reg s t (x .a))
+
+    others : Mask
+    others = conflictMask (s .log) (address L m c) t k
+
+    by : (out races : Bool)
+        → Leaves (s .rows) (s .barriers) (s .barriers)
+        (cond out (stops (Outside t c) s) (cond races (stops (Race t (lowest others) (raceKind (s .log) (address L m c) (lowest others) k) (address L m c)) s) (continues (madeAccess s t (x .d) (address L m c) k))))
+    by true races = (refl, refl)
+    by false true = (refl, refl)
+    by false false = (refl, refl)
+
+leaves-while : (T : Table) (s : LockState) (v : List Saved) (m : Mask) → Leaves (suc (s .rows)) (s .barriers) (s .barriers) (continues (leaveOrStay T s v m))
+unfolding leaveOrStay advance
+leaves-while T s v m = by (any m)
+  where
+    by : (p : Bool) → Leaves (suc (s .rows)) (s .barriers) (s .barriers) (continues (cond p (advance (suc (s .row)) m v s) (advance (suc (endOf T (s .row))) (topMask v) (pop v) s)))
+    by true = (refl, refl)
+    by false = (refl, refl)
+
+leaves-barrier : (s : LockState) (a f : Bool) (v : Verdict) → isSpent v ≡ 0
+    → Leaves (suc (s .rows)) (s .barriers + length (cond (a && f) (s .cells ∷ []) [])) (s .barriers + length (cond (a && f) (s .cells ∷ []) []))
+    (cond a (cond f (continues (passBarrier s)) (stops v s)) (continues (advance (suc (s .row)) (s .enabled) (s .saved) s)))
+unfolding passBarrier advance
+leaves-barrier s true true v h = (refl, omega arith)
+leaves-barrier s true false v h = (h, omega arith)
+leaves-barrier s false f v h = (refl, omega arith)
+
+-- The barriers after a row.
+grown : LockState → Op → ℕ
+grown s o = s .barriers + length (countedAt o s)
+
+-- A row that counts no barrier.
+uncounted : (r b : ℕ) (x : Step) → Leaves r b b x → Leaves r (b + 0) (b + 0) x
+uncounted r b (continues z) h = let p = h .1 in (h .0, omega (arith, p))
+uncounted r b (stops v z) h = let p = h .1 in (h .0, omega (arith, p))
+
+leaves-row : (T : Table) (L : Shape) (x : Row) (s : LockState) (o : Op) → Leaves (suc (s .rows)) (grown s o) (grown s o) (runRow T L x s o)
+unfolding grown runRow countedAt advance countSteps barrierRow isSpent ifRow elseRow endifRow whileRow endwhileRow
+leaves-row T L x s (CALC c) = uncounted (suc (s .rows)) (s .barriers) (runRow T L x s (CALC c)) (leaves-enabled _ (keeps-compute x (λ t p q. value c (L .threads) t (x .a) (x .b) p q)) s)
+leaves-row T L x s (MEM m) = uncounted (suc (s .rows)) (s .barriers) (runRow T L x s (MEM m)) (leaves-enabled _ (keeps-access L m x) s)
+leaves-row T L x s IF = uncounted (suc (s .rows)) (s .barriers) (runRow T L x s IF) (refl, refl)
+leaves-row T L x s ELSE = uncounted (suc (s .rows)) (s .barriers) (runRow T L x s ELSE) (refl, refl)
+leaves-row T L x s ENDIF = uncounted (suc (s .rows)) (s .barriers) (runRow T L x s ENDIF) (refl, refl)
+leaves-row T L x s WHILE = uncounted (suc (s .rows)) (s .barriers) (runRow T L x s WHILE) (leaves-while T (countSteps (s .enabled) s) _ _)
+leaves-row T L x s ENDWHILE = uncounted (suc (s .rows)) (s .barriers) (runRow T L x s ENDWHILE) (refl, refl)
+leaves-row T L x s BARRIER = leaves-barrier s (any (s .enabled)) (full (s .enabled)) _ refl
+leaves-row T L x s UNKNOWN = uncounted (suc (s .rows)) (s .barriers) (runRow T L x s UNKNOWN) (refl, refl)
+
+-- What a run with `left` rows to go says in its counts, its result being o and its counted barriers bs.
+record Counted (left : ℕ) (s : LockState) (o : LockResult) (bs : List (List ℕ)) : Type 0 where
+  pub atLimit : isSpent (o .verdict) ≡ 1 → o .state .rows ≡ s .rows + left
+  pub barriers : length bs + s .barriers ≡ o .state .barriers
+
+counted-on : (T : Table) (L : Shape) (left : ℕ) (s : LockState) (o : Op) (x : Step) → Leaves (suc (s .rows)) (grown s o) (grown s o) x
+    → ((z : LockState) → Counted left z (runFrom T L left z) (countedFrom T L left z))
+    → Counted (suc left) s (resultOf x (runFrom T L left)) (countedAt o s ++ countedAfter x (countedFrom T L left))
+unfolding resultOf countedAfter grown isSpent
+counted-on T L left s o (continues z) h f =
+    let l = length-append (countedAt o s) (countedFrom T L left z) in
+    let p = h .0 in
+    let q = h .1 in
+    let w = f z .barriers in
+    record { atLimit = λ e. let v = f z .atLimit e in omega (arith, v, p); barriers = omega (arith, l, q, w) }
+counted-on T L left s o (stops v z) h f =
+    let l = length-append (countedAt o s) [] in
+    let q = h .1 in
+    record { atLimit = λ e. let p = h .0 in absurd (omega (arith, e, p)); barriers = omega (arith, l, q) }
+
+counted-run : (T : Table) (L : Shape) (left : ℕ) (s : LockState) → Counted left s (runFrom T L left s) (countedFrom T L left s)
+unfolding runFrom countedFrom isSpent
+counted-run T L zero s = record { atLimit = λ e. omega arith; barriers = omega arith }
+counted-run T L (suc left) s =
+    by (leb (length T) (s .row))
+    (counted-on T L left s (rowAt T (s .row) .op) (runRow T L (rowAt T (s .row)) s (rowAt T (s .row) .op)) (leaves-row T L (rowAt T (s .row)) s (rowAt T (s .row) .op)) (counted-run T L left))
+  where
+    out : LockResult
+    out = resultOf (runRow T L (rowAt T (s .row)) s (rowAt T (s .row) .op)) (runFrom T L left)
+
+    bars : List (List ℕ)
+    bars = countedAt (rowAt T (s .row) .op) s ++ countedAfter (runRow T L (rowAt T (s .row)) s (rowAt T (s .row) .op)) (countedFrom T L left)
+
+    by : (b : Bool) → Counted (suc left) s out bars
+        → Counted (suc left) s (elim b as (λ c. LockResult) [ true ↦ record { verdict = Passed; state = s } | false ↦ out ]) (elim b as (λ c. List (List ℕ)) [ true ↦ [] | false ↦ bars ])
+    by true h = record { atLimit = λ e. absurd (omega (arith, e)); barriers = omega arith }
+    by false h = h
+
+pub spent-at-limit : (T : Table) (n : ℕ) (cells : List ℕ) (limit : ℕ) → lockstep T n cells limit .verdict ≡ Spent → lockstep T n cells limit .state .rows ≡ limit
+unfolding lockstep initialState isSpent
+spent-at-limit T n cells limit e = let p = counted-run T (shapeOf n cells) limit (initialState n cells) .atLimit (ap isSpent e) in omega (arith, p)
+
+pub counted-length : (T : Table) (n : ℕ) (cells : List ℕ) (limit : ℕ) → length (countedBarriers T n cells limit) ≡ lockstep T n cells limit .state .barriers
+unfolding lockstep countedBarriers initialState
+counted-length T n cells limit = let p = counted-run T (shapeOf n cells) limit (initialState n cells) .barriers in omega (arith, p)

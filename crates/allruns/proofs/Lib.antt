@@ -1,0 +1,17 @@
+pub mod Bools
+pub mod Accesses
+pub mod Descent
+pub mod Diamond
+pub mod LogRecord
+pub mod Nesting
+pub mod Progress
+pub mod Blocked
+pub mod Classes
+pub mod Simulation
+pub mod Turns
+pub mod Rows
+pub mod Aside
+pub mod BarrierRow
+pub mod LockRun
+pub mod Counts
+pub mod Theorem

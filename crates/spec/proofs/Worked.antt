@@ -1,0 +1,23 @@
+-- The worked launches come out of the definitions: report bytes and the whole log, for all of them in one computation. Assumes nothing.
+use mathlib.Core.Path.{_≡_, refl}
+use mathlib.Core.List.{List, [], _∷_, map}
+use Prim.Native.Nat.{ℕ}
+use Rattle.spec.specs.Log.{logWords}
+use Rattle.spec.specs.LaunchFile.{Launch, Checked, refused, accepted, fileLaunch}
+use Rattle.spec.specs.Entries.{launchRun, printed}
+use Rattle.spec.specs.Examples.{Worked, examples}
+use Rattle.spec.proofs.Computing.{computing}
+
+unfoldable pub finalLog : Checked Launch → List ℕ
+finalLog (refused r) = []
+finalLog (accepted launch) = logWords (launchRun launch .state .log)
+
+unfoldable pub computed : Worked → List ℕ × List ℕ
+computed x = let launch = fileLaunch (x .file) in (printed launch, finalLog launch)
+
+unfoldable pub expected : Worked → List ℕ × List ℕ
+expected x = (x .report, x .log)
+
+pub worked : map computed examples ≡ map expected examples
+unfolding computing computed expected finalLog
+worked = refl

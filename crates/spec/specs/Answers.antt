@@ -1,0 +1,68 @@
+-- The answers' types, as the source declares them (src/lib.rt), and document 01's numbers for them. Assumes nothing.
+use Prim.Native.Nat.{ℕ}
+use mathlib.Core.Option.{Option, none, some}
+use mathlib.Core.Bool.{Bool, true, false}
+use mathlib.Core.List.{List, [], _∷_}
+pub use Rattle.spec.specs.declared.AccessKind.{AccessKind}
+pub use Rattle.spec.specs.declared.AccessKind.the-variants.{ReadWrite, WriteRead, WriteWrite}
+pub use Rattle.spec.specs.declared.Verdict.{Verdict}
+pub use Rattle.spec.specs.declared.Verdict.the-variants.{Passed, Race, Outside, Diverged, Spent}
+pub use Rattle.spec.specs.declared.Outcome.{Outcome}
+pub use Rattle.spec.specs.declared.Refusal.{Refusal}
+pub use Rattle.spec.specs.declared.Refusal.the-variants.{TableLength, TooManyRows, UnknownOp, BadOperand, Misplaced, TooDeep, LeftOpen, ThreadsOutOfRange, CellsOutOfRange, LimitOutOfRange, LineNotDue, FileTooLong, CellsLength, LogLength, ReportTooLong, ReportCells, OutputLength}
+pub use Rattle.spec.specs.declared.Answer.{Answer}
+pub use Rattle.spec.specs.declared.Written.{Written}
+pub use Rattle.spec.specs.declared.Subject.{Subject}
+
+-- "Turned back": the number of a refusal.
+unfoldable pub refusalNumber : Refusal → ℕ
+refusalNumber TableLength = 1
+refusalNumber (TooManyRows p) = 2
+refusalNumber (UnknownOp p) = 3
+refusalNumber (BadOperand p) = 4
+refusalNumber (Misplaced p) = 5
+refusalNumber (TooDeep p) = 6
+refusalNumber (LeftOpen p) = 7
+refusalNumber (ThreadsOutOfRange p) = 8
+refusalNumber (CellsOutOfRange p) = 9
+refusalNumber (LimitOutOfRange p) = 10
+refusalNumber (LineNotDue p) = 11
+refusalNumber FileTooLong = 12
+refusalNumber CellsLength = 20
+refusalNumber LogLength = 21
+refusalNumber (ReportTooLong p) = 22
+refusalNumber ReportCells = 23
+refusalNumber OutputLength = 24
+
+-- "Turned back": its place. A line counts from 1, a row from 0; 0 stands where there is no place.
+unfoldable pub refusalPlace : Refusal → ℕ
+refusalPlace TableLength = 0
+refusalPlace (TooManyRows p) = p
+refusalPlace (UnknownOp p) = p
+refusalPlace (BadOperand p) = p
+refusalPlace (Misplaced p) = p
+refusalPlace (TooDeep p) = p
+refusalPlace (LeftOpen p) = p
+refusalPlace (ThreadsOutOfRange p) = p
+refusalPlace (CellsOutOfRange p) = p
+refusalPlace (LimitOutOfRange p) = p
+refusalPlace (LineNotDue p) = p
+refusalPlace FileTooLong = 0
+refusalPlace CellsLength = 0
+refusalPlace LogLength = 0
+refusalPlace (ReportTooLong p) = p
+refusalPlace ReportCells = 0
+refusalPlace OutputLength = 0
+
+-- A test that is refused where it fails; and the first refusal of several tests, in their order.
+unfoldable pub unless : Bool → Refusal → Option Refusal
+unless true r = none
+unless false r = some r
+
+unfoldable pub orElse : Option Refusal → Option Refusal → Option Refusal
+orElse none y = y
+orElse (some r) y = some r
+
+unfoldable pub first : List (Option Refusal) → Option Refusal
+first [] = none
+first (x ∷ xs) = orElse x (first xs)

@@ -1,0 +1,141 @@
+-- What each public entry answers and what it leaves in each lent buffer, for all inputs. "Turned back", "The launch file and the report". Assumes nothing.
+use mathlib.Core.List.{List, [], _∷_, _++_}
+use mathlib.Core.Bool.{Bool, true, false, cond, _&&_}
+use mathlib.Core.Option.{Option, none, some}
+use Prim.Native.Nat.{ℕ, _+_, _*_, _/_, _%_}
+use lib.Dec.{eqb, leb}
+use lib.ListN.{length, drop}
+use Rattle.spec.specs.Limits.{maxThreads, maxCells, maxRows, maxLimit, fileCells, fileLog, fileOutput}
+use Rattle.spec.specs.Answers.{Outcome, Refusal, TableLength, TooManyRows, ThreadsOutOfRange, CellsOutOfRange, LimitOutOfRange, CellsLength, LogLength, OutputLength, ReportCells, ReportTooLong}
+use Rattle.spec.specs.Answers.{Answer, Written, Subject, refusalNumber, refusalPlace, unless, orElse, first}
+use Rattle.spec.specs.declared.Answer.the-variants as answer
+use Rattle.spec.specs.declared.Written.the-variants as written
+use Rattle.spec.specs.declared.Subject.the-variants as subject
+use Rattle.spec.specs.Table.{rowsOf}
+use Rattle.spec.specs.TableCheck.{tableRefusal}
+use Rattle.spec.specs.Log.{logWords}
+use Rattle.spec.specs.LockStep.{LockResult, lockstep, outcomeOf}
+use Rattle.spec.specs.LaunchFile.{Launch, Checked, refused, accepted, unlessRefused, fileLaunch}
+use Rattle.spec.specs.Report.{runReport, refusalReport, reportOf}
+
+-- A lent buffer with w written from its start; what stands behind w keeps its value.
+unfoldable pub over : List ℕ → List ℕ → List ℕ
+over w buffer = w ++ drop (length w) buffer
+
+-- The bare launch: table bytes, the numbers of threads and cells, the limit, lent cells and lent log.
+
+-- From the input: 1, 2, 8, 9, 10, then the rows. From the state: 20, 21. Nothing here stands on a line.
+unfoldable pub bareRefusal : (table : List ℕ) → (threads cells limit : ℕ) → (lentCells lentLog : List ℕ) → Option Refusal
+bareRefusal table threads cells limit lentCells lentLog =
+    first
+    (unless (eqb (length table % 4) 0) TableLength
+    ∷ unless (leb (length table / 4) maxRows) (TooManyRows 0)
+    ∷ unless (leb 1 threads && leb threads maxThreads) (ThreadsOutOfRange 0)
+    ∷ unless (leb 1 cells && leb cells maxCells) (CellsOutOfRange 0)
+    ∷ unless (leb limit maxLimit) (LimitOutOfRange 0)
+    ∷ tableRefusal (rowsOf table)
+    ∷ unless (eqb (length lentCells) cells) CellsLength
+    ∷ unless (eqb (length lentLog) (2 * cells)) LogLength
+    ∷ [])
+
+-- The run that an accepted bare launch makes: the lent cells are the launch's.
+unfoldable pub bareRun : (table : List ℕ) → (threads limit : ℕ) → (lentCells : List ℕ) → LockResult
+bareRun table threads limit lentCells = lockstep (rowsOf table) threads lentCells limit
+
+unfoldable pub answerOf : Option Refusal → Outcome → Answer
+answerOf none o = answer.Ran o
+answerOf (some r) o = answer.Refused r
+
+-- A buffer that a refusal leaves as it was lent.
+unfoldable pub keptIf : Option Refusal → (lent new : List ℕ) → List ℕ
+keptIf none lent new = new
+keptIf (some r) lent new = lent
+
+unfoldable pub bareAnswer : (table : List ℕ) → (threads cells limit : ℕ) → (lentCells lentLog : List ℕ) → Answer
+bareAnswer table threads cells limit lentCells lentLog =
+    answerOf (bareRefusal table threads cells limit lentCells lentLog) (outcomeOf (bareRun table threads limit lentCells))
+
+unfoldable pub bareCells : (table : List ℕ) → (threads cells limit : ℕ) → (lentCells lentLog : List ℕ) → List ℕ
+bareCells table threads cells limit lentCells lentLog =
+    keptIf (bareRefusal table threads cells limit lentCells lentLog) lentCells (bareRun table threads limit lentCells .state .cells)
+
+unfoldable pub bareLog : (table : List ℕ) → (threads cells limit : ℕ) → (lentCells lentLog : List ℕ) → List ℕ
+bareLog table threads cells limit lentCells lentLog =
+    keptIf (bareRefusal table threads cells limit lentCells lentLog) lentLog (logWords (bareRun table threads limit lentCells .state .log))
+
+-- The report writer: what to report, a cell slice (not for a refusal), a buffer.
+
+-- 23 first, then 22 with the length that is needed.
+unfoldable pub cellsReported : Subject → List ℕ → Option Refusal
+cellsReported (subject.Ran o) cells = unless (leb 1 (length cells) && leb (length cells) maxCells) ReportCells
+cellsReported (subject.Refused number place) cells = none
+
+unfoldable pub writerRefusal : Subject → (cells buffer : List ℕ) → Option Refusal
+writerRefusal what cells buffer =
+    let needed = length (reportOf what cells) in
+    first (cellsReported what cells ∷ unless (leb needed (length buffer)) (ReportTooLong needed) ∷ [])
+
+unfoldable pub writtenOf : Option Refusal → ℕ → Written
+writtenOf none n = written.Wrote n
+writtenOf (some r) n = written.Refused r
+
+unfoldable pub writerAnswer : Subject → (cells buffer : List ℕ) → Written
+writerAnswer what cells buffer = writtenOf (writerRefusal what cells buffer) (length (reportOf what cells))
+
+unfoldable pub writerBuffer : Subject → (cells buffer : List ℕ) → List ℕ
+writerBuffer what cells buffer = keptIf (writerRefusal what cells buffer) buffer (over (reportOf what cells) buffer)
+
+-- The whole-file entry: file bytes, lent cells, lent log, output.
+
+-- From the input: the file's refusal. From the state: 20, 21, 24.
+unfoldable pub lentRefusal : (lentCells lentLog output : List ℕ) → Option Refusal
+lentRefusal lentCells lentLog output =
+    first
+    (unless (eqb (length lentCells) fileCells) CellsLength
+    ∷ unless (eqb (length lentLog) fileLog) LogLength
+    ∷ unless (leb fileOutput (length output)) OutputLength
+    ∷ [])
+
+unfoldable pub andState : Checked Launch → Option Refusal → Checked Launch
+andState (refused r) state = refused r
+andState (accepted launch) state = unlessRefused state launch
+
+unfoldable pub fileChecked : (file lentCells lentLog output : List ℕ) → Checked Launch
+fileChecked file lentCells lentLog output = andState (fileLaunch file) (lentRefusal lentCells lentLog output)
+
+-- The run of an accepted launch, and its report.
+unfoldable pub launchRun : Launch → LockResult
+launchRun launch = lockstep (launch .table) (launch .threads) (launch .cells) (launch .limit)
+
+unfoldable pub launchReport : Launch → List ℕ
+launchReport launch = runReport (outcomeOf (launchRun launch)) (launchRun launch .state .cells)
+
+-- The answer: the refusal, or the report's length.
+unfoldable pub reportLength : Checked Launch → Written
+reportLength (refused r) = written.Refused r
+reportLength (accepted launch) = written.Wrote (length (launchReport launch))
+
+unfoldable pub fileAnswer : (file lentCells lentLog output : List ℕ) → Written
+fileAnswer file lentCells lentLog output = reportLength (fileChecked file lentCells lentLog output)
+
+-- A refusal leaves each buffer as it was lent. An accepted launch leaves what its run makes from the buffer's start; the rest is kept.
+unfoldable pub ifAccepted : Checked Launch → (lent : List ℕ) → (Launch → List ℕ) → List ℕ
+ifAccepted (refused r) lent made = lent
+ifAccepted (accepted launch) lent made = over (made launch) lent
+
+unfoldable pub fileCellsAfter : (file lentCells lentLog output : List ℕ) → List ℕ
+fileCellsAfter file lentCells lentLog output = ifAccepted (fileChecked file lentCells lentLog output) lentCells (λ launch. launchRun launch .state .cells)
+
+unfoldable pub fileLogAfter : (file lentCells lentLog output : List ℕ) → List ℕ
+fileLogAfter file lentCells lentLog output = ifAccepted (fileChecked file lentCells lentLog output) lentLog (λ launch. logWords (launchRun launch .state .log))
+
+unfoldable pub fileOutputAfter : (file lentCells lentLog output : List ℕ) → List ℕ
+fileOutputAfter file lentCells lentLog output = ifAccepted (fileChecked file lentCells lentLog output) output launchReport
+
+-- The program check, which lends buffers of the right sizes: it prints the report, or the refusal's report.
+unfoldable pub printed : Checked Launch → List ℕ
+printed (refused r) = refusalReport (refusalNumber r) (refusalPlace r)
+printed (accepted launch) = launchReport launch
+
+unfoldable pub checkPrints : (file : List ℕ) → List ℕ
+checkPrints file = printed (fileLaunch file)

@@ -1,0 +1,142 @@
+-- The launch file: which line is due at each place, what the lines say, and the first refusal. "The launch file and the report", "Turned back". Assumes nothing.
+use mathlib.Core.List.{List, [], _∷_}
+use mathlib.Core.Bool.{Bool, true, false, cond, _&&_}
+use mathlib.Core.Option.{Option, none, some}
+use Prim.Native.Nat.{ℕ, zero, suc}
+use Prim.Native.String.{String}
+use lib.Dec.{leb}
+use lib.ListN.{length}
+use Rattle.spec.specs.Limits.{maxThreads, maxCells, maxRows, maxLimit, maxFile, words, bytes}
+use Rattle.spec.specs.Answers.{Refusal, FileTooLong, LineNotDue, ThreadsOutOfRange, CellsOutOfRange, LimitOutOfRange, TooManyRows}
+use Rattle.spec.specs.Lists.{equalList}
+use Rattle.spec.specs.Text.{text, newline, comma, equals, numberBelow, Halves, splitAt}
+use Rattle.spec.specs.Table.{Table, Row, rowOf}
+use Rattle.spec.specs.TableCheck.{tableRefusal}
+
+-- What a launch is: its threads, its limit, its table and the words in its cells.
+pub record Launch : Type 0 where
+  pub threads : ℕ
+  pub limit : ℕ
+  pub table : Table
+  pub cells : List ℕ
+
+-- A refusal, or what is accepted.
+pub data Checked (A : Type 0) : Type 0 where
+  refused : Refusal → Checked A
+  accepted : A → Checked A
+
+-- What reading lines comes to: a refusal, or a value with the number of the line that is due next and the bytes from there on.
+pub data Read (A : Type 0) : Type 0 where
+  stop : Refusal → Read A
+  read : A → (line : ℕ) → (rest : List ℕ) → Read A
+
+-- A reader, given the number of the line that is due and the bytes from there on. Readers one after the other: the first refusal stays.
+abbrev pub Reader : Type 0 → Type 0
+Reader A = (line : ℕ) → (rest : List ℕ) → Read A
+
+unfoldable pub continue : {A B : Type 0} → Read A → (A → Reader B) → Read B
+continue (stop r) f = stop r
+continue (read a line rest) f = f a line rest
+
+infixl 1 _>>=_ _>>_
+unfoldable pub _>>=_ : {A B : Type 0} → Reader A → (A → Reader B) → Reader B
+_>>=_ p f line rest = continue (p line rest) f
+
+unfoldable pub _>>_ : {A B : Type 0} → Reader A → Reader B → Reader B
+_>>_ p q line rest = continue (p line rest) (λ a. q)
+
+unfoldable pub gives : {A : Type 0} → A → Reader A
+gives a line rest = read a line rest
+
+-- The same reader so many times.
+unfoldable pub times : {A : Type 0} → ℕ → Reader A → Reader (List A)
+times zero p = gives []
+times (suc n) p = p >>= λ x. times n p >>= λ xs. gives (x ∷ xs)
+
+-- Where there is a value, go on with it.
+unfoldable pub given : {A B : Type 0} → Option A → (A → Option B) → Option B
+given none f = none
+given (some a) f = f a
+
+-- The line `key=value`, ended by byte 10: what its value reads as, and the bytes behind the line. The value is the part after the first `=`.
+unfoldable pub lineValue : {A : Type 0} → String → (List ℕ → Option A) → List ℕ → Option (A × List ℕ)
+lineValue key reads rest =
+    given (splitAt newline rest) λ line.
+    given (splitAt equals (line .before)) λ parts.
+    given (cond (equalList (parts .before) (text key)) (reads (parts .behind)) none) λ value.
+    some (value, line .behind)
+
+-- A line that is not the one due is refused with 11 at its number.
+unfoldable pub isDue : {A : Type 0} → ℕ → Option (A × List ℕ) → Read A
+isDue line none = stop (LineNotDue line)
+isDue line (some found) = read (found .0) (suc line) (found .1)
+
+unfoldable pub due : {A : Type 0} → String → (List ℕ → Option A) → Reader A
+due key reads line rest = isDue line (lineValue key reads rest)
+
+-- A number that is out of its limits is refused with its own number.
+unfoldable pub require : Bool → Refusal → Reader (Unit {0})
+require true r line rest = read tt line rest
+require false r line rest = stop r
+
+-- Nothing stands behind the last line: what does is 11 at the number that its line has.
+unfoldable pub fileEnds : Reader (Unit {0})
+fileEnds line [] = read tt line []
+fileEnds line (b ∷ rest) = stop (LineNotDue line)
+
+-- Values: a fixed text; a number below 2 ^ 32; a row, which is four numbers below 256 with commas between them.
+unfoldable pub exactly : String → List ℕ → Option (Unit {0})
+exactly s value = cond (equalList value (text s)) (some tt) none
+
+unfoldable pub number : List ℕ → Option ℕ
+number value = numberBelow words value
+
+unfoldable pub byte : List ℕ → Option ℕ
+byte value = numberBelow bytes value
+
+unfoldable pub rowValue : List ℕ → Option Row
+rowValue value =
+    given (splitAt comma value) λ first.
+    given (splitAt comma (first .behind)) λ second.
+    given (splitAt comma (second .behind)) λ third.
+    given (byte (first .before)) λ op.
+    given (byte (second .before)) λ d.
+    given (byte (third .before)) λ a.
+    given (byte (third .behind)) λ b.
+    some (rowOf op d a b)
+
+-- The lines of a launch file, in their order.
+unfoldable pub launchLines : Reader Launch
+launchLines = do
+  due "kernel" (exactly "1")
+  threads ← due "threads" number
+  require (leb 1 threads && leb threads maxThreads) (ThreadsOutOfRange 2)
+  cells ← due "cells" number
+  require (leb 1 cells && leb cells maxCells) (CellsOutOfRange 3)
+  limit ← due "limit" number
+  require (leb limit maxLimit) (LimitOutOfRange 4)
+  rows ← due "rows" number
+  require (leb rows maxRows) (TooManyRows 5)
+  table ← times rows (due "row" rowValue)
+  contents ← times cells (due "cell" number)
+  due "end" (exactly "kernel")
+  fileEnds
+  gives (record { threads = threads; limit = limit; table = table; cells = contents })
+
+-- A launch, unless there is a refusal.
+unfoldable pub unlessRefused : Option Refusal → Launch → Checked Launch
+unlessRefused none launch = accepted launch
+unlessRefused (some r) launch = refused r
+
+-- After all lines the table is checked, row by row.
+unfoldable pub checkedTable : Read Launch → Checked Launch
+checkedTable (stop r) = refused r
+checkedTable (read launch line rest) = unlessRefused (tableRefusal (launch .table)) launch
+
+-- A file that is too long is refused before any line is read.
+unfoldable pub fileLaunch : List ℕ → Checked Launch
+fileLaunch file =
+    elim (leb (length file) maxFile) [
+      | true ↦ checkedTable (launchLines 1 file)
+      | false ↦ refused FileTooLong
+    ]

@@ -1,0 +1,41 @@
+-- The figures of document 01. "What the detector's checker covers", "Turned back". Assumes nothing.
+use Prim.Native.Nat.{ℕ, _^_}
+
+abbrev pub maxThreads : ℕ
+maxThreads = 32
+
+abbrev pub maxCells : ℕ
+maxCells = 1024
+
+abbrev pub maxRows : ℕ
+maxRows = 256
+
+abbrev pub maxNesting : ℕ
+maxNesting = 8
+
+-- The most rows that a launch may be allowed to run.
+abbrev pub maxLimit : ℕ
+maxLimit = 1000000
+
+abbrev pub maxFile : ℕ
+maxFile = 32768
+
+-- Registers of a thread; numbers of a launch file, cells and registers are below `words`, bytes below `bytes`.
+abbrev pub registers : ℕ
+registers = 16
+
+abbrev pub words : ℕ
+words = 2 ^ 32
+
+abbrev pub bytes : ℕ
+bytes = 256
+
+-- What the whole-file entry has to be lent: words for the cells, words for the log, bytes for the report.
+abbrev pub fileCells : ℕ
+fileCells = 1024
+
+abbrev pub fileLog : ℕ
+fileLog = 2048
+
+abbrev pub fileOutput : ℕ
+fileOutput = 17408

@@ -1,0 +1,20 @@
+-- Tests on lists. Assumes nothing.
+use mathlib.Core.List.{List, [], _∷_}
+use mathlib.Core.Bool.{Bool, true, false, _&&_, _||_}
+use Prim.Native.Nat.{ℕ}
+use lib.Dec.{eqb}
+
+-- Some element passes the test; every element does.
+unfoldable pub anyOf : {A : Type 0} → (A → Bool) → List A → Bool
+anyOf p [] = false
+anyOf p (x ∷ xs) = p x || anyOf p xs
+
+unfoldable pub every : {A : Type 0} → (A → Bool) → List A → Bool
+every p [] = true
+every p (x ∷ xs) = p x && every p xs
+
+unfoldable pub equalList : List ℕ → List ℕ → Bool
+equalList [] [] = true
+equalList [] (y ∷ ys) = false
+equalList (x ∷ xs) [] = false
+equalList (x ∷ xs) (y ∷ ys) = eqb x y && equalList xs ys

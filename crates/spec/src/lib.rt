@@ -1,0 +1,69 @@
+// The answers of document 01. The definitions in specs/ and all code share these types.
+
+// The kind of a race: what the other thread did to the cell, then what the acting thread does to it.
+pub enum AccessKind {
+    ReadWrite,
+    WriteRead,
+    WriteWrite,
+}
+
+// How a launch ended.
+// Race: the acting thread, the lowest conflicting one, the kind, the cell.
+// Outside: the thread, the number that it used.
+// Diverged: the lowest enabled thread, the lowest one not enabled.
+pub enum Verdict {
+    Passed,
+    Race(u32, u32, AccessKind, u32),
+    Outside(u32, u32),
+    Diverged(u32, u32),
+    Spent,
+}
+
+// What a report says beside the cells: the verdict, the row where the run stopped, and the counts.
+pub struct Outcome {
+    pub verdict: Verdict,
+    pub row: u32,
+    pub rows: u32,
+    pub steps: u32,
+    pub barriers: u32,
+}
+
+// Why an input is turned back. A case holds its place where that is no constant:
+// a line, a row, or the length that was needed.
+pub enum Refusal {
+    TableLength,
+    TooManyRows(u32),
+    UnknownOp(u32),
+    BadOperand(u32),
+    Misplaced(u32),
+    TooDeep(u32),
+    LeftOpen(u32),
+    ThreadsOutOfRange(u32),
+    CellsOutOfRange(u32),
+    LimitOutOfRange(u32),
+    LineNotDue(u32),
+    FileTooLong,
+    CellsLength,
+    LogLength,
+    ReportTooLong(u32),
+    ReportCells,
+    OutputLength,
+}
+
+// The bare launch answers a refusal or the outcome of the run.
+pub enum Answer {
+    Refused(Refusal),
+    Ran(Outcome),
+}
+
+// The entries that write a report answer a refusal or the report's length.
+pub enum Written {
+    Refused(Refusal),
+    Wrote(usize),
+}
+
+// What a report is made of: the outcome of a run, or a refusal's number and place.
+pub enum Subject {
+    Ran(Outcome),
+    Refused(u32, u32),
+}
