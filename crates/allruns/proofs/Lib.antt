@@ -15,3 +15,4 @@ pub mod BarrierRow
 pub mod LockRun
 pub mod Counts
 pub mod Theorem
+pub mod Launches

@@ -1,2 +1,6 @@
 pub mod Computing
+pub mod OpTable
+pub mod WordTable
+pub mod ConflictTable
 pub mod Worked
+pub mod MachineRuns

@@ -117,7 +117,15 @@ examples =
       report = lines "verdict=race/row=5/thread=0/other=1/kind=rw/at=0/rows=5/steps=8/barriers=0/cell=4/end=report";
       log = 3 ∷ 0 ∷ [];
     }
-    -- thread 1 stores, then thread 0 loads in the ELSE part, Ra having changed since the IF
+    -- ELSE goes by what its IF enabled, though thread 1 has changed R0 since
+    ∷ record {
+      file =
+          lines
+          "kernel=1/threads=2/cells=2/limit=100/rows=8/row=2,0,0,0/row=2,2,0,0/row=32,0,0,0/row=1,0,0,0/row=33,0,0,0/row=1,1,7,0/row=34,0,0,0/row=17,2,1,0/cell=9/cell=9/end=kernel";
+      report = lines "verdict=passed/row=-/thread=-/other=-/kind=-/at=-/rows=8/steps=13/barriers=0/cell=7/cell=0/end=report";
+      log = 0 ∷ 0 ∷ 1 ∷ 2 ∷ [];
+    }
+    -- thread 1 stores, then thread 0 loads in the ELSE part
     ∷ record {
       file = lines "kernel=1/threads=2/cells=1/limit=100/rows=7/row=2,0,0,0/row=32,0,0,0/row=17,1,0,0/row=1,0,0,0/row=33,0,0,0/row=16,2,1,0/row=34,0,0,0/cell=4/end=kernel";
       report = lines "verdict=race/row=5/thread=0/other=1/kind=wr/at=0/rows=5/steps=7/barriers=0/cell=1/end=report";

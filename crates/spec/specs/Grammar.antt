@@ -11,7 +11,7 @@ use Rattle.spec.specs.Table.{Row, Table, rowAt, role, plain}
 
 mutual
   pub data Body : Type 0 where
-    none : Body
+    empty : Body
     plainRow : (x : Row) → role (x .op) ≡ plain → Body → Body
     construct : Construct → Body → Body
 
@@ -23,7 +23,7 @@ mutual
 -- The rows of a body, from the top.
 unfoldable mutual
   pub bodyRows : Body → Table
-  bodyRows none = []
+  bodyRows empty = []
   bodyRows (plainRow x p rest) = x ∷ bodyRows rest
   bodyRows (construct c rest) = constructRows c ++ bodyRows rest
 
@@ -35,7 +35,7 @@ unfoldable mutual
 -- How many constructs stand within each other at the deepest place.
 unfoldable mutual
   pub bodyDepth : Body → ℕ
-  bodyDepth none = 0
+  bodyDepth empty = 0
   bodyDepth (plainRow x p rest) = bodyDepth rest
   bodyDepth (construct c rest) = max (constructDepth c) (bodyDepth rest)
 

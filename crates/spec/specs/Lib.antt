@@ -19,3 +19,4 @@ pub mod LaunchFile
 pub mod Report
 pub mod Entries
 pub mod Examples
+pub mod Demands

@@ -1,0 +1,60 @@
+-- Demand 3 holds of every launch that is not refused: nothing else is asked. Assumes nothing.
+use mathlib.Core.Path.{_≡_, refl, ap, subst}
+use mathlib.Core.List.{List}
+use mathlib.Core.Bool.{Bool, true, false}
+use mathlib.Core.Option.{Option, none, some}
+use Prim.Native.Nat.{ℕ}
+use native.Mathlib.Omega.{arith}
+use lib.Dec.{leb}
+use lib.ListN.{length}
+use Rattle.spec.specs.declared.Refusal.{Refusal}
+use Rattle.spec.specs.declared.Refusal.the-variants.{FileTooLong}
+use Rattle.spec.specs.Limits.{maxFile}
+use Rattle.spec.specs.Answers.{orElse, first}
+use Rattle.spec.specs.Table.{rowsOf}
+use Rattle.spec.specs.TableCheck.{tableRefusal}
+use Rattle.spec.specs.LaunchFile.{Launch, Checked, refused, accepted, Read, stop, read, unlessRefused, checkedTable, launchLines, fileLaunch}
+use Rattle.spec.specs.Entries.{bareRefusal}
+use Rattle.spec.specs.Demands.{BareDemand3, FileDemand3}
+use Rattle.structure.proofs.Refusals.{orElse-none}
+use Rattle.structure.proofs.Acceptance.{well-formed}
+use Rattle.allruns.proofs.Theorem.{demand3}
+
+-- What follows the first test refuses nothing either.
+behind : (x y : Option Refusal) → orElse x y ≡ none → y ≡ none
+behind x y e = orElse-none x y .0 e .1
+
+-- The table's test is the sixth of a bare launch.
+pub bare-table : (table : List ℕ) (threads cells limit : ℕ) (lentCells lentLog : List ℕ) → bareRefusal table threads cells limit lentCells lentLog ≡ none
+    → tableRefusal (rowsOf table) ≡ none
+unfolding bareRefusal first
+bare-table table threads cells limit lentCells lentLog e = orElse-none _ _ .0 (behind _ _ (behind _ _ (behind _ _ (behind _ _ (behind _ _ e))))) .0
+
+pub bare-demand3 : (table : List ℕ) (threads cells limit : ℕ) (lentCells lentLog : List ℕ) → BareDemand3 table threads cells limit lentCells lentLog
+bare-demand3 table threads cells limit lentCells lentLog e =
+    demand3 (rowsOf table) (well-formed (rowsOf table) (bare-table table threads cells limit lentCells lentLog e)) threads lentCells limit
+
+-- The table of an accepted file is not refused.
+never : {A : Type 0} (r : Refusal) (launch : Launch) → refused r ≡ accepted launch → A
+never r launch e = let z : _≡_ {A = ℕ} 0 1 = cc in absurd (omega arith)
+
+kept : (found : Option Refusal) (launch goal : Launch) → tableRefusal (launch .table) ≡ found → unlessRefused found launch ≡ accepted goal → tableRefusal (goal .table) ≡ none
+unfolding unlessRefused
+kept none launch goal q e = let same : launch ≡ goal = cc in subst (λ l. tableRefusal (l .table) ≡ none) same q
+kept (some r) launch goal q e = never r goal e
+
+lines-table : (lines : Read Launch) (goal : Launch) → checkedTable lines ≡ accepted goal → tableRefusal (goal .table) ≡ none
+unfolding checkedTable
+lines-table (stop r) goal e = never r goal e
+lines-table (read launch line rest) goal e = kept (tableRefusal (launch .table)) launch goal refl e
+
+pub file-table : (file : List ℕ) (launch : Launch) → fileLaunch file ≡ accepted launch → tableRefusal (launch .table) ≡ none
+unfolding fileLaunch
+file-table file launch = by (leb (length file) maxFile)
+  where
+    by : (b : Bool) → (elim b as (λ c. Checked Launch) [ true ↦ checkedTable (launchLines 1 file) | false ↦ refused FileTooLong ]) ≡ accepted launch → tableRefusal (launch .table) ≡ none
+    by true e = lines-table (launchLines 1 file) launch e
+    by false e = never FileTooLong launch e
+
+pub file-demand3 : (file : List ℕ) → FileDemand3 file
+file-demand3 file launch e = demand3 (launch .table) (well-formed (launch .table) (file-table file launch e)) (launch .threads) (launch .cells) (launch .limit)

@@ -1,0 +1,121 @@
+-- Runs of the threads' own machine, computed move by move. Assumes nothing.
+use mathlib.Core.Path.{_≡_, refl}
+use mathlib.Core.List.{List, [], _∷_, _++_, map}
+use mathlib.Core.Bool.{Bool, true, false, _&&_}
+use Prim.Native.Nat.{ℕ}
+use lib.ListN.{replicate}
+use Rattle.spec.specs.Table.{Table, rowOf}
+use Rattle.spec.specs.Shape.{Shape, shapeOf}
+use Rattle.spec.specs.Threads.{Group, Move, row, release, next, possible, atEnd, threadCount, anyBelow}
+use Rattle.spec.specs.AllRuns.{startOfRuns, leaves, cellsAtReleases}
+use Rattle.spec.proofs.Computing.{computing}
+
+-- What a list of moves comes to: whether each is possible where it is made, and what holds afterwards.
+pub record Played : Type 0 where
+  pub allPossible : Bool
+  pub ended : Bool
+  pub bad : Bool
+  pub mayMove : Bool
+  pub mayRelease : Bool
+  pub cells : List ℕ
+  pub atReleases : List (List ℕ)
+
+unfoldable pub isRun : Table → Shape → Group → List Move → Bool
+isRun T L g [] = true
+isRun T L g (m ∷ ms) = possible T L g m && isRun T L (next T L g m) ms
+
+unfoldable pub played : Table → ℕ → List ℕ → List Move → Played
+played T n cells ms =
+    let g = leaves T n cells ms in
+    record {
+      allPossible = isRun T (shapeOf n cells) (startOfRuns T n cells) ms;
+      ended = atEnd T g;
+      bad = g .bad;
+      mayMove = anyBelow (threadCount g) (λ t. possible T (shapeOf n cells) g (row t));
+      mayRelease = possible T (shapeOf n cells) g release;
+      cells = g .cells;
+      atReleases = cellsAtReleases T n cells ms;
+    }
+
+-- The tables of P1, of P2 and of the two-loop barrier, and a LOAD outside.
+unfoldable pub racing : Table
+racing =
+    rowOf 2 0 0 0
+    ∷ rowOf 1 1 1 0
+    ∷ rowOf 4 2 0 1
+    ∷ rowOf 16 3 2 0
+    ∷ rowOf 16 4 0 0
+    ∷ rowOf 4 3 3 4
+    ∷ rowOf 17 0 3 0 ∷ []
+
+unfoldable pub meeting : Table
+meeting =
+    rowOf 2 0 0 0
+    ∷ rowOf 1 1 1 0
+    ∷ rowOf 4 2 0 1
+    ∷ rowOf 16 3 2 0
+    ∷ rowOf 37 0 0 0
+    ∷ rowOf 16 4 0 0
+    ∷ rowOf 4 3 3 4
+    ∷ rowOf 17 0 3 0 ∷ []
+
+unfoldable pub twoLoops : Table
+twoLoops =
+    rowOf 2 0 0 0
+    ∷ rowOf 1 6 1 0
+    ∷ rowOf 1 7 4 0
+    ∷ rowOf 32 0 0 0
+    ∷ rowOf 4 1 6 15
+    ∷ rowOf 4 2 7 15
+    ∷ rowOf 33 0 0 0
+    ∷ rowOf 4 1 7 15
+    ∷ rowOf 4 2 6 15
+    ∷ rowOf 34 0 0 0
+    ∷ rowOf 13 5 3 1
+    ∷ rowOf 35 0 5 0
+    ∷ rowOf 1 4 0 0
+    ∷ rowOf 13 8 4 2
+    ∷ rowOf 35 0 8 0
+    ∷ rowOf 37 0 0 0
+    ∷ rowOf 4 4 4 6
+    ∷ rowOf 13 8 4 2
+    ∷ rowOf 36 0 0 0
+    ∷ rowOf 4 3 3 6
+    ∷ rowOf 13 5 3 1
+    ∷ rowOf 36 0 0 0 ∷ []
+
+unfoldable pub straying : Table
+straying = rowOf 1 1 2 0 ∷ rowOf 16 2 1 0 ∷ []
+
+unfoldable pub of : ℕ → ℕ → List Move
+of k t = replicate k (row t)
+
+-- P1, row by row as in lock step: thread 1's store ends the run badly, and no move is possible after it.
+pub race-is-bad : played racing 2 (1 ∷ 1 ∷ 1 ∷ []) (row 0 ∷ row 1 ∷ row 0 ∷ row 1 ∷ row 0 ∷ row 1 ∷ row 0 ∷ row 1 ∷ row 0 ∷ row 1 ∷ row 0 ∷ row 1 ∷ row 0 ∷ row 1 ∷ []) ≡
+    record { allPossible = true; ended = false; bad = true; mayMove = false; mayRelease = false; cells = 2 ∷ 1 ∷ 1 ∷ []; atReleases = [] }
+unfolding computing played isRun racing of
+race-is-bad = refl
+
+-- P2, thread 1 always first: all come to the barrier, and only a release is possible.
+pub barrier-holds : played meeting 2 (1 ∷ 1 ∷ 1 ∷ []) (of 4 1 ++ of 4 0) ≡
+    record { allPossible = true; ended = false; bad = false; mayMove = false; mayRelease = true; cells = 1 ∷ 1 ∷ 1 ∷ []; atReleases = [] }
+unfolding computing played isRun meeting of
+barrier-holds = refl
+
+-- P2 on to its end: the stores behind the release race with no load before it.
+pub release-forgets : played meeting 2 (1 ∷ 1 ∷ 1 ∷ []) (of 4 1 ++ (of 4 0 ++ (release ∷ (of 3 1 ++ of 3 0)))) ≡
+    record { allPossible = true; ended = true; bad = false; mayMove = false; mayRelease = false; cells = 2 ∷ 2 ∷ 1 ∷ []; atReleases = (1 ∷ 1 ∷ 1 ∷ []) ∷ [] }
+unfolding computing played isRun meeting of
+release-forgets = refl
+
+-- The two-loop barrier: after one release both threads wait at the same row, with loop counts 2, 1 and 1, 2, and the run is stuck.
+pub counts-differ : played twoLoops 2 (0 ∷ []) (of 12 0 ++ (of 13 1 ++ (release ∷ (of 11 0 ++ of 4 1)))) ≡
+    record { allPossible = true; ended = false; bad = false; mayMove = false; mayRelease = false; cells = 0 ∷ []; atReleases = (0 ∷ []) ∷ [] }
+unfolding computing played isRun twoLoops of
+counts-differ = refl
+
+-- A LOAD of cell 2 of 2.
+pub outside-is-bad : played straying 1 (5 ∷ 6 ∷ []) (of 2 0) ≡
+    record { allPossible = true; ended = false; bad = true; mayMove = false; mayRelease = false; cells = 5 ∷ 6 ∷ []; atReleases = [] }
+unfolding computing played isRun straying of
+outside-is-bad = refl

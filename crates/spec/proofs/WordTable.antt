@@ -1,0 +1,132 @@
+-- Every op's value at the edges of the words, as document 01 gives it: a row for each x, in it a value for each y. Assumes nothing.
+use mathlib.Core.Path.{_≡_, refl}
+use mathlib.Core.List.{List, [], _∷_, map}
+use Prim.Native.Nat.{ℕ}
+use Rattle.spec.specs.Op.{Calc, SET, TID, COUNT, ADD, SUB, MUL, AND, OR, XOR, SHR, SAR, EQ, LT, SLT, value}
+use Rattle.spec.proofs.Computing.{computing}
+
+-- 0, 1, 2 ^ 31 - 1, 2 ^ 31, 2 ^ 32 - 1; and amounts of a shift.
+unfoldable pub edges : List ℕ
+edges = 0 ∷ 1 ∷ 2147483647 ∷ 2147483648 ∷ 4294967295 ∷ []
+
+unfoldable pub amounts : List ℕ
+amounts = 0 ∷ 1 ∷ 31 ∷ 32 ∷ 33 ∷ 4294967295 ∷ []
+
+-- The op at every x of the edges and every y of `ys`, in a launch of 7 threads, by thread 5, in a row whose bytes a and b are 3 and 2.
+unfoldable pub tabulated : List ℕ → Calc → List (List ℕ)
+tabulated ys c = map (λ x. map (λ y. value c 7 5 3 2 x y) ys) edges
+
+pub add-table : tabulated edges ADD ≡
+    (0 ∷ 1 ∷ 2147483647 ∷ 2147483648 ∷ 4294967295 ∷ [])
+    ∷ (1 ∷ 2 ∷ 2147483648 ∷ 2147483649 ∷ 0 ∷ [])
+    ∷ (2147483647 ∷ 2147483648 ∷ 4294967294 ∷ 4294967295 ∷ 2147483646 ∷ [])
+    ∷ (2147483648 ∷ 2147483649 ∷ 4294967295 ∷ 0 ∷ 2147483647 ∷ [])
+    ∷ (4294967295 ∷ 0 ∷ 2147483646 ∷ 2147483647 ∷ 4294967294 ∷ [])
+    ∷ []
+unfolding computing edges tabulated
+add-table = refl
+
+pub sub-table : tabulated edges SUB ≡
+    (0 ∷ 4294967295 ∷ 2147483649 ∷ 2147483648 ∷ 1 ∷ [])
+    ∷ (1 ∷ 0 ∷ 2147483650 ∷ 2147483649 ∷ 2 ∷ [])
+    ∷ (2147483647 ∷ 2147483646 ∷ 0 ∷ 4294967295 ∷ 2147483648 ∷ [])
+    ∷ (2147483648 ∷ 2147483647 ∷ 1 ∷ 0 ∷ 2147483649 ∷ [])
+    ∷ (4294967295 ∷ 4294967294 ∷ 2147483648 ∷ 2147483647 ∷ 0 ∷ [])
+    ∷ []
+unfolding computing edges tabulated
+sub-table = refl
+
+pub mul-table : tabulated edges MUL ≡
+    (0 ∷ 0 ∷ 0 ∷ 0 ∷ 0 ∷ [])
+    ∷ (0 ∷ 1 ∷ 2147483647 ∷ 2147483648 ∷ 4294967295 ∷ [])
+    ∷ (0 ∷ 2147483647 ∷ 1 ∷ 2147483648 ∷ 2147483649 ∷ [])
+    ∷ (0 ∷ 2147483648 ∷ 2147483648 ∷ 0 ∷ 2147483648 ∷ [])
+    ∷ (0 ∷ 4294967295 ∷ 2147483649 ∷ 2147483648 ∷ 1 ∷ [])
+    ∷ []
+unfolding computing edges tabulated
+mul-table = refl
+
+pub and-table : tabulated edges AND ≡
+    (0 ∷ 0 ∷ 0 ∷ 0 ∷ 0 ∷ [])
+    ∷ (0 ∷ 1 ∷ 1 ∷ 0 ∷ 1 ∷ [])
+    ∷ (0 ∷ 1 ∷ 2147483647 ∷ 0 ∷ 2147483647 ∷ [])
+    ∷ (0 ∷ 0 ∷ 0 ∷ 2147483648 ∷ 2147483648 ∷ [])
+    ∷ (0 ∷ 1 ∷ 2147483647 ∷ 2147483648 ∷ 4294967295 ∷ [])
+    ∷ []
+unfolding computing edges tabulated
+and-table = refl
+
+pub or-table : tabulated edges OR ≡
+    (0 ∷ 1 ∷ 2147483647 ∷ 2147483648 ∷ 4294967295 ∷ [])
+    ∷ (1 ∷ 1 ∷ 2147483647 ∷ 2147483649 ∷ 4294967295 ∷ [])
+    ∷ (2147483647 ∷ 2147483647 ∷ 2147483647 ∷ 4294967295 ∷ 4294967295 ∷ [])
+    ∷ (2147483648 ∷ 2147483649 ∷ 4294967295 ∷ 2147483648 ∷ 4294967295 ∷ [])
+    ∷ (4294967295 ∷ 4294967295 ∷ 4294967295 ∷ 4294967295 ∷ 4294967295 ∷ [])
+    ∷ []
+unfolding computing edges tabulated
+or-table = refl
+
+pub xor-table : tabulated edges XOR ≡
+    (0 ∷ 1 ∷ 2147483647 ∷ 2147483648 ∷ 4294967295 ∷ [])
+    ∷ (1 ∷ 0 ∷ 2147483646 ∷ 2147483649 ∷ 4294967294 ∷ [])
+    ∷ (2147483647 ∷ 2147483646 ∷ 0 ∷ 4294967295 ∷ 2147483648 ∷ [])
+    ∷ (2147483648 ∷ 2147483649 ∷ 4294967295 ∷ 0 ∷ 2147483647 ∷ [])
+    ∷ (4294967295 ∷ 4294967294 ∷ 2147483648 ∷ 2147483647 ∷ 0 ∷ [])
+    ∷ []
+unfolding computing edges tabulated
+xor-table = refl
+
+pub eq-table : tabulated edges EQ ≡
+    (1 ∷ 0 ∷ 0 ∷ 0 ∷ 0 ∷ [])
+    ∷ (0 ∷ 1 ∷ 0 ∷ 0 ∷ 0 ∷ [])
+    ∷ (0 ∷ 0 ∷ 1 ∷ 0 ∷ 0 ∷ [])
+    ∷ (0 ∷ 0 ∷ 0 ∷ 1 ∷ 0 ∷ [])
+    ∷ (0 ∷ 0 ∷ 0 ∷ 0 ∷ 1 ∷ [])
+    ∷ []
+unfolding computing edges tabulated
+eq-table = refl
+
+pub lt-table : tabulated edges LT ≡
+    (0 ∷ 1 ∷ 1 ∷ 1 ∷ 1 ∷ [])
+    ∷ (0 ∷ 0 ∷ 1 ∷ 1 ∷ 1 ∷ [])
+    ∷ (0 ∷ 0 ∷ 0 ∷ 1 ∷ 1 ∷ [])
+    ∷ (0 ∷ 0 ∷ 0 ∷ 0 ∷ 1 ∷ [])
+    ∷ (0 ∷ 0 ∷ 0 ∷ 0 ∷ 0 ∷ [])
+    ∷ []
+unfolding computing edges tabulated
+lt-table = refl
+
+pub slt-table : tabulated edges SLT ≡
+    (0 ∷ 1 ∷ 1 ∷ 0 ∷ 0 ∷ [])
+    ∷ (0 ∷ 0 ∷ 1 ∷ 0 ∷ 0 ∷ [])
+    ∷ (0 ∷ 0 ∷ 0 ∷ 0 ∷ 0 ∷ [])
+    ∷ (1 ∷ 1 ∷ 1 ∷ 0 ∷ 1 ∷ [])
+    ∷ (1 ∷ 1 ∷ 1 ∷ 0 ∷ 0 ∷ [])
+    ∷ []
+unfolding computing edges tabulated
+slt-table = refl
+
+pub shr-table : tabulated amounts SHR ≡
+    (0 ∷ 0 ∷ 0 ∷ 0 ∷ 0 ∷ 0 ∷ [])
+    ∷ (1 ∷ 0 ∷ 0 ∷ 0 ∷ 0 ∷ 0 ∷ [])
+    ∷ (2147483647 ∷ 1073741823 ∷ 0 ∷ 0 ∷ 0 ∷ 0 ∷ [])
+    ∷ (2147483648 ∷ 1073741824 ∷ 1 ∷ 0 ∷ 0 ∷ 0 ∷ [])
+    ∷ (4294967295 ∷ 2147483647 ∷ 1 ∷ 0 ∷ 0 ∷ 0 ∷ [])
+    ∷ []
+unfolding computing edges amounts tabulated
+shr-table = refl
+
+pub sar-table : tabulated amounts SAR ≡
+    (0 ∷ 0 ∷ 0 ∷ 0 ∷ 0 ∷ 0 ∷ [])
+    ∷ (1 ∷ 0 ∷ 0 ∷ 0 ∷ 0 ∷ 0 ∷ [])
+    ∷ (2147483647 ∷ 1073741823 ∷ 0 ∷ 0 ∷ 0 ∷ 0 ∷ [])
+    ∷ (2147483648 ∷ 3221225472 ∷ 4294967295 ∷ 4294967295 ∷ 4294967295 ∷ 4294967295 ∷ [])
+    ∷ (4294967295 ∷ 4294967295 ∷ 4294967295 ∷ 4294967295 ∷ 4294967295 ∷ 4294967295 ∷ [])
+    ∷ []
+unfolding computing edges amounts tabulated
+sar-table = refl
+
+-- SET, TID and COUNT read no register.
+pub plain-values : (x y : ℕ) → map (λ c. value c 7 5 3 2 x y) (SET ∷ TID ∷ COUNT ∷ []) ≡ 515 ∷ 5 ∷ 7 ∷ []
+unfolding computing
+plain-values x y = refl
