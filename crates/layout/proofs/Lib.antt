@@ -1,0 +1,6 @@
+pub mod Memory
+pub mod Lists
+pub mod Buffers
+pub mod LogBuffer
+pub mod Turning
+pub mod Holding

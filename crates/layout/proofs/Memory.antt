@@ -1,0 +1,113 @@
+-- How the code's registers, cells and log stand for those of the lock-step run, and what a thread's turn and a row's turns do to them. Assumes nothing.
+use mathlib.Core.Path.{_≡_}
+use mathlib.Core.List.{List, []}
+use Prim.Native.Nat.{ℕ, _+_, _*_, _<_, _≤_}
+use lib.ListN.{length, getD}
+use lib.Count.{ones}
+use Rattle.spec.specs.Mask.{Mask, maskWord, members, holding}
+use Rattle.spec.specs.Log.{Log, logWords}
+use Rattle.spec.specs.Op.{Calc, CALC, Mem, MEM, opOf, value}
+use Rattle.spec.specs.Table.{Row}
+use Rattle.spec.specs.LockStep.{LockState, Step, continues, stops, inTurn, computeTurn, accessTurn}
+use Rattle.layout.specs.declared.Access.{Access}
+use Rattle.layout.specs.declared.Access.the-variants.{Done, Stop}
+use Rattle.layout.specs.declared.Turns.{Turns}
+
+-- Register r of thread t stands at r * 32 + t.
+pub record Regs (n : ℕ) (regs : List (List ℕ)) (flat : List ℕ) : Type 0 where
+  pub size : length flat ≡ 512
+  pub threads : length regs ≡ n
+  pub sixteen : (t : ℕ) → t < n → length (getD regs t []) ≡ 16
+  pub at : (t r : ℕ) → t < n → r < 16 → getD flat (r * 32 + t) 0 ≡ getD (getD regs t []) r 0
+
+-- A mask of n threads for each of k cells.
+pub record Masks (n k : ℕ) (ms : List Mask) : Type 0 where
+  pub count : length ms ≡ k
+  pub each : (c : ℕ) → c < k → length (getD ms c []) ≡ n
+
+-- The log buffer of k cells.
+pub record LogIs (n k : ℕ) (G : Log) (log : List ℕ) : Type 0 where
+  pub words-are : log ≡ logWords G
+  pub readers-are : Masks n k (G .readers)
+  pub writers-are : Masks n k (G .writers)
+
+pub record Memory (n : ℕ) (s : LockState) (regs cells log : List ℕ) : Type 0 where
+  pub few : n ≤ 32
+  pub regs-are : Regs n (s .regs) regs
+  pub cells-are : cells ≡ s .cells
+  pub log-is : LogIs n (length (s .cells)) (s .log) log
+
+-- A row's threads change nothing else but the count of steps.
+pub record Kept (k : ℕ) (s z : LockState) : Type 0 where
+  pub row-same : z .row ≡ s .row
+  pub enabled-same : z .enabled ≡ s .enabled
+  pub saved-same : z .saved ≡ s .saved
+  pub rows-same : z .rows ≡ s .rows
+  pub barriers-same : z .barriers ≡ s .barriers
+  pub steps-more : z .steps ≡ s .steps + k
+
+abbrev pub accessOf : Step → Access
+accessOf (continues z) = Done
+accessOf (stops v z) = Stop v
+
+abbrev pub stateOf : Step → LockState
+stateOf (continues z) = z
+stateOf (stops v z) = z
+
+abbrev pub stepsOf : Step → ℕ
+stepsOf (continues z) = 1
+stepsOf (stops v z) = 0
+
+-- From s, what o says was done: the answer, the buffers, and k steps.
+pub record Did (n k : ℕ) (s : LockState) (o : Step) (r : Access) (regs cells log : List ℕ) : Type 0 where
+  pub answer : r ≡ accessOf o
+  pub memory : Memory n (stateOf o) regs cells log
+  pub kept : Kept k s (stateOf o)
+
+-- One thread's turn, for every state that the buffers stand for.
+abbrev pub OneTurn : (LockState → ℕ → Step) → (n t : ℕ) → (regs cells log : List ℕ) → Access → (regs′ cells′ log′ : List ℕ) → Type 0
+OneTurn f n t regs cells log r regs′ cells′ log′ = (s : LockState) → Memory n s regs cells log → Did n (stepsOf (f s t)) s (f s t) r regs′ cells′ log′
+
+-- The turns of a row's enabled threads, `mask` being the enabled mask.
+abbrev pub AllTurns : (LockState → ℕ → Step) → (n mask : ℕ) → (regs cells log : List ℕ) → (r : Access) (k : ℕ) → (regs′ cells′ log′ : List ℕ) → Type 0
+AllTurns f n mask regs cells log r k regs′ cells′ log′ =
+    (s : LockState) → mask ≡ maskWord (s .enabled) → length (s .enabled) ≡ n → Memory n s regs cells log
+    → Did n k s (inTurn f (members (s .enabled)) s) r regs′ cells′ log′
+
+-- Those of a mask whose register a is true.
+abbrev pub HoldingIs : (n mask a : ℕ) → (regs : List ℕ) → ℕ → Type 0
+HoldingIs n mask a regs r = (m : Mask) (rs : List (List ℕ)) → mask ≡ maskWord m → length m ≡ n → Regs n rs regs → r ≡ maskWord (holding a m rs)
+
+-- What a computing row asks of its bytes: ops 1 to 3 read no register.
+pub record ComputeAsks (op d a b : ℕ) : Type 0 where
+  pub known : 1 ≤ op
+  pub small : op ≤ 14
+  pub target : d < 16
+  pub left : 4 ≤ op → a < 16
+  pub right : 4 ≤ op → b < 16
+
+-- What a computing row does; k is the constant of its bytes a and b.
+abbrev pub ComputeAll : (op n mask d a b k : ℕ) → (regs regs′ : List ℕ) → Type 0
+ComputeAll op n mask d a b k regs regs′ =
+    (c : Calc) (x : Row) → opOf op ≡ CALC c → x .d ≡ d → x .a ≡ a → x .b ≡ b → k ≡ a + 256 * b
+    → (cells log : List ℕ) → AllTurns (computeTurn x (λ t p q. value c n t (x .a) (x .b) p q)) n mask regs cells log Done (ones mask) regs′ cells log
+
+-- What an access row asks.
+pub record AccessAsks (op d a : ℕ) (cells log : List ℕ) : Type 0 where
+  pub known : 16 ≤ op
+  pub small : op ≤ 17
+  pub target : d < 16
+  pub source : a < 16
+  pub twice : length log ≡ 2 * length cells
+  pub cells-few : length cells ≤ 1024
+
+-- One thread's access, and a row's accesses, in a launch of n threads.
+abbrev pub AccessOne : (op t d a : ℕ) → (regs cells log : List ℕ) → Access → (regs′ cells′ log′ : List ℕ) → Type 0
+AccessOne op t d a regs cells log r regs′ cells′ log′ =
+    (n : ℕ) (m : Mem) (x : Row) → opOf op ≡ MEM m → t < n → x .d ≡ d → x .a ≡ a
+    → OneTurn (accessTurn (record { threads = n; cells = length cells }) m x) n t regs cells log r regs′ cells′ log′
+
+abbrev pub AccessAll : (op n mask d a : ℕ) → (regs cells log : List ℕ) → Turns → (regs′ cells′ log′ : List ℕ) → Type 0
+AccessAll op n mask d a regs cells log r regs′ cells′ log′ =
+    (m : Mem) (x : Row) → opOf op ≡ MEM m → x .d ≡ d → x .a ≡ a
+    → AllTurns (accessTurn (record { threads = n; cells = length cells }) m x) n mask regs cells log (r .access) (r .steps) regs′ cells′ log′

@@ -1,0 +1,31 @@
+// The run's own state, and how its buffers stand for the lock-step definition's (proofs/). No functions.
+// regs holds register r of thread t at r * 32 + t; log holds all reader masks, then all writer masks;
+// saved and openers hold the mask and the row of each open construct, the innermost last below the depth.
+
+// What an access comes to.
+pub enum Access {
+    Done,
+    Stop(spec::Verdict),
+}
+
+// What a row's accesses come to, and how many threads have stepped.
+pub struct Turns {
+    pub access: Access,
+    pub steps: u32,
+}
+
+// The small part of the state, which goes by value.
+pub struct State {
+    pub row: usize,
+    pub mask: u32,
+    pub depth: usize,
+    pub rows: u32,
+    pub steps: u32,
+    pub barriers: u32,
+}
+
+// What a row comes to.
+pub enum Next {
+    Go(State),
+    Stop(spec::Verdict, State),
+}

@@ -1,0 +1,15 @@
+use Rattle.masks.proofs.Bits.{one-bit}
+use borrow.Author.Needs.{needs}
+use Rattle.masks.proofs.with_thread.Statement.{statement}
+use Rattle.masks.proofs.with_thread.Tie as tie
+use Rattle.masks.proofs.with_thread.Reads as reads
+use Rattle.masks.proofs.with_thread.Lts as lts
+
+shl-result : tie.Need-shl-result
+shl-result c = search needs
+
+returns : tie.Need-returns
+returns c = simp (one-bit (c .args .t) (c .pre))
+
+pub with-thread-spec : {M : Type 1} → statement M
+with-thread-spec = tie.close (tie.spec shl-result returns)
