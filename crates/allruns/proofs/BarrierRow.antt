@@ -20,6 +20,7 @@ use Rattle.spec.specs.Threads.{Group, Thread, atOneBarrier, isBarrier, machine,
 use Rattle.spec.specs.declared.Verdict.{Verdict}
 use Rattle.spec.specs.declared.Verdict.the-variants.{Diverged}
 use Rattle.spec.specs.Threads as own
+use Rattle.allruns.proofs.Lists.{getD-map-at}
 use Rattle.allruns.proofs.LogRecord.{log-cleared}
 use Rattle.allruns.proofs.Bools.{and-left, and-right, and-make}
 use Rattle.allruns.proofs.Turns.{One, touch-one, calc-one}
@@ -69,11 +70,6 @@ gathered-make T (x ∷ xs) r l k b h =
     (every-make (λ y. eqb (y .row) (x .row) && equalList (y .loops) (x .loops)) xs noThread
     (λ i j. let y = h (suc i) (omega arith) in
     and-make (eq-eqb _ _ (y .0 ∙ sym (z .0))) (ap₂ equalList (y .1) (z .1) ∙ same-self l)))
-
-getD-map-at : {A B : Type 0} (f : A → B) (xs : List A) (i : ℕ) (d : A) (e : B) → i < length xs → getD (map f xs) i e ≡ f (getD xs i d)
-getD-map-at f [] i d e l = absurd (omega arith)
-getD-map-at f (x ∷ xs) zero d e l = refl
-getD-map-at f (x ∷ xs) (suc i) d e l = getD-map-at f xs i d e (omega arith)
 
 place-size : (T : Table) (r : ℕ) (on : Mask) (fs : List Frame) (t : ℕ) → length (place T r on fs t .loops) ≡ length T
 unfolding place

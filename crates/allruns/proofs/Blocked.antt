@@ -1,4 +1,4 @@
--- What ends badly or stands still for ever: runs that refute `AllRunsEnd`. Assumes nothing.
+-- What ends badly or stands still for ever: runs that refute `RunsAlwaysEnd`. Assumes nothing.
 use mathlib.Core.Path.{_≡_, refl, sym, _∙_, ap, ap₂, subst}
 use mathlib.Core.Logic.{_⊎_, inl, inr}
 use mathlib.Core.List.{List, [], _∷_}

@@ -1,4 +1,4 @@
--- Facts on Booleans and on `someBelow`. Assumes nothing.
+-- Facts on Booleans and on `anyBelow`. Assumes nothing.
 use mathlib.Core.Path.{_≡_, refl, sym, _∙_, ap, ap₂}
 use mathlib.Core.Bool.{Bool, true, false, not, _&&_, _||_, or-comm, false≢true}
 use Prim.Native.Nat.{ℕ, zero, suc, _<_}

@@ -1,3 +1,4 @@
+pub mod Lists
 pub mod Bools
 pub mod Accesses
 pub mod Descent
@@ -16,3 +17,7 @@ pub mod LockRun
 pub mod Counts
 pub mod Theorem
 pub mod Launches
+pub mod Invariants
+pub mod LoopCounts
+pub mod StuckAtBarrier
+pub mod WordBounds

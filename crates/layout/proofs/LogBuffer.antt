@@ -12,6 +12,8 @@ use lib.Seq.{ext-getD, getD-set-same, getD-set-other}
 use Rattle.spec.specs.declared.AccessKind.{AccessKind}
 use Rattle.spec.specs.declared.AccessKind.the-variants.{ReadWrite, WriteWrite}
 use Rattle.spec.specs.Access.{Kind, load, store}
+use Rattle.spec.specs.Op.{Mem, MEM, opOf}
+use Rattle.spec.specs.Table.{kindOf}
 use Rattle.spec.specs.Mask.{Mask, maskWord, has, union}
 use Rattle.spec.specs.Log.{Log, logWords, emptyLog, cleared, withThread, logged, testedMask, conflictMask, raceKind}
 use Rattle.masks.proofs.Words.{word-or, word-set, word-has, word-except, union-size}
@@ -178,3 +180,23 @@ empty-is n k log e =
   where
     twice : 2 * k ≡ k + k
     twice = omega arith
+
+-- What the code's three functions on the log mean, for an access of cell i by op; the value that a store stores does not matter to them.
+abbrev pub ConflictIs : (op k i t : ℕ) → (log : List ℕ) → ℕ → Type 0
+ConflictIs op k i t log r =
+    (n v : ℕ) (m : Mem) (G : Log) → opOf op ≡ MEM m → n ≤ 32 → t < n → LogIs n k G log → r ≡ maskWord (conflictMask G i t (kindOf m v))
+
+abbrev pub KindIs : (op k i u : ℕ) → (log : List ℕ) → AccessKind → Type 0
+KindIs op k i u log r = (n v : ℕ) (m : Mem) (G : Log) → opOf op ≡ MEM m → LogIs n k G log → r ≡ raceKind G i u (kindOf m v)
+
+abbrev pub LoggedIs : (op k i t : ℕ) → (log log′ : List ℕ) → Type 0
+LoggedIs op k i t log log′ =
+    (n v : ℕ) (m : Mem) (G : Log) → opOf op ≡ MEM m → n ≤ 32 → t < n → LogIs n k G log → LogIs n k (logged G i t (kindOf m v)) log′
+
+-- Where the log has room for the access.
+pub record LogAsks (op k i : ℕ) (log : List ℕ) : Type 0 where
+  pub known : 16 ≤ op
+  pub small : op ≤ 17
+  pub twice : length log ≡ 2 * k
+  pub inside : i < k
+  pub few : k ≤ 1024

@@ -13,8 +13,9 @@ use Rattle.spec.specs.Table.{Table, Row, rowAt, cellByte, kindOf, endOf,
 use Rattle.spec.specs.Shape.{Shape, bound, address}
 use Rattle.spec.specs.Runs.{Machine}
 
--- `loops` has a number for each row of the table. At a WHILE around the thread it is how often that WHILE was found true since its loop was last
--- entered. At every other row it is 0, since a WHILE found false puts its own number back to 0; so equal loop counts are equal lists.
+-- `loops` has a number for each row of the table. At a WHILE around the thread, or at the thread's own row, it is how often that WHILE was found true
+-- since its loop was last entered. At every other row it is 0, since a WHILE found false puts its own number back to 0; so at a BARRIER equal loop
+-- counts are equal lists.
 pub record Thread : Type 0 where
   pub row : ℕ
   pub regs : List ℕ

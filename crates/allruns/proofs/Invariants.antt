@@ -1,0 +1,122 @@
+-- What every move keeps holds in every run: a property of each thread's own state, and one of the cells. Assumes nothing.
+use mathlib.Core.Path.{_≡_, refl, _∙_}
+use mathlib.Core.List.{List, [], _∷_, map}
+use mathlib.Core.Bool.{Bool, true, false, cond, not, false≢true}
+use Prim.Native.Nat.{ℕ, zero, suc, _<_}
+use native.Mathlib.Omega.{arith}
+use lib.Dec.{ltb}
+use borrow.Author.Tests.{ltb-true}
+use lib.ListN.{length, getD, set, replicate, length-set, length-map, length-replicate, getD-replicate}
+use Rattle.spec.specs.Access.{Kind}
+use Rattle.spec.specs.AllRuns.{RunOf, leaves}
+use Rattle.spec.specs.Limits.{registers}
+use Rattle.spec.specs.Op.{BARRIER, CALC, ELSE, ENDIF, ENDWHILE, IF, MEM, Mem, Op, UNKNOWN, WHILE}
+use Rattle.spec.specs.Runs.{Run, after}
+use Rattle.spec.specs.Shape.{Shape, address, bound, shapeOf}
+use Rattle.spec.specs.Table.{Table, rowAt}
+use Rattle.spec.specs.Threads.{Effect, Group, Move, Thread, accesses, cellsAfter, effect, effectAt, effectOf, endsBadly, initialGroup, isBarrier, machine, markBad, next, noThread, pastBarrier, performed, possible, reach, release, released, row, strays, threadAfter, threadCount, waits}
+use Rattle.allruns.proofs.Lists.{getD-map-at}
+use Rattle.allruns.proofs.Bools.{and-left, and-right}
+use Rattle.allruns.proofs.Diamond.{gathered-at}
+
+-- What holds of the j-th element of a list and of v holds of the j-th element after v is put, wherever it is put.
+pub set-keeps : {A : Type 0} (P : A → Type 0) (xs : List A) (d : A) (i : ℕ) (v : A) (j : ℕ) → (i < length xs → P v) → P (getD xs j d) → P (getD (set xs i v) j d)
+set-keeps P [] d i v j p h = h
+set-keeps P (x ∷ xs) d zero v zero p h = p (omega arith)
+set-keeps P (x ∷ xs) d zero v (suc j) p h = h
+set-keeps P (x ∷ xs) d (suc i) v zero p h = h
+set-keeps P (x ∷ xs) d (suc i) v (suc j) p h = set-keeps P xs d i v j (λ l. p (omega arith)) h
+
+pub replicate-keeps : {A : Type 0} (P : A → Type 0) (n : ℕ) (a d : A) (i : ℕ) → P a → P d → P (getD (replicate n a) i d)
+replicate-keeps P zero a d i p q = q
+replicate-keeps P (suc n) a d zero p q = p
+replicate-keeps P (suc n) a d (suc i) p q = replicate-keeps P n a d i p q
+
+-- P holds of each of n threads, and Q of the cells.
+pub record Holds (n : ℕ) (P : Thread → Type 0) (Q : List ℕ → Type 0) (s : Group) : Type 0 where
+  pub count : length (s .threads) ≡ n
+  pub each : (t : ℕ) → t < n → P (getD (s .threads) t noThread)
+  pub shared : Q (s .cells)
+
+-- P holds as a run begins, P and Q hold after each row within the table, by its op, and P after a BARRIER is passed.
+pub record Keeps (T : Table) (L : Shape) (P : Thread → Type 0) (Q : List ℕ → Type 0) : Type 0 where
+  pub first : P (record { row = 0; regs = replicate registers 0; loops = replicate (length T) 0 })
+  pub rows : (t : ℕ) (x : Thread) (cells : List ℕ) → t < L .threads → x .row < length T → (o : Op) → rowAt T (x .row) .op ≡ o → P x → Q cells
+      → P (threadAfter x cells (effectOf T L t x (rowAt T (x .row)) o)) × Q (cellsAfter cells (effectOf T L t x (rowAt T (x .row)) o))
+  pub barriers : (x : Thread) → rowAt T (x .row) .op ≡ BARRIER → P x → P (pastBarrier x)
+
+barrier-op : (o : Op) → isBarrier o ≡ true → o ≡ BARRIER
+unfolding isBarrier
+barrier-op (CALC c) q = absurd (false≢true q)
+barrier-op (MEM m) q = absurd (false≢true q)
+barrier-op IF q = absurd (false≢true q)
+barrier-op ELSE q = absurd (false≢true q)
+barrier-op ENDIF q = absurd (false≢true q)
+barrier-op WHILE q = absurd (false≢true q)
+barrier-op ENDWHILE q = absurd (false≢true q)
+barrier-op BARRIER q = refl
+barrier-op UNKNOWN q = absurd (false≢true q)
+
+-- What LOAD and STORE come to.
+pub reach-cases : (F : Effect → Type 0) (L : Shape) (m : Mem) (c : ℕ) (k : Kind) (d : ℕ) → F (accesses (address L m c) k d) → F strays → F (reach L m c k d)
+unfolding reach
+reach-cases F L m c k d f g = by (ltb c (bound L m))
+  where
+    by : (z : Bool) → F (cond z (accesses (address L m c) k d) strays)
+    by true = f
+    by false = g
+
+module _ (T : Table) (L : Shape) (P : Thread → Type 0) (Q : List ℕ → Type 0) (k : Keeps T L P Q) where
+  keeps-effect : (t : ℕ) (x : Thread) (cells : List ℕ) → t < L .threads → P x → Q cells → P (threadAfter x cells (effect T L t x)) × Q (cellsAfter cells (effect T L t x))
+  unfolding effect threadAfter cellsAfter
+  keeps-effect t x cells l p q = by (ltb (x .row) (length T)) refl
+    where
+      d : Effect
+      d = effectOf T L t x (rowAt T (x .row)) (rowAt T (x .row) .op)
+
+      by : (z : Bool) → ltb (x .row) (length T) ≡ z → P (threadAfter x cells (cond z d waits)) × Q (cellsAfter cells (cond z d waits))
+      by true e = k .rows t x cells l (ltb-true _ _ e) (rowAt T (x .row) .op) refl p q
+      by false e = (p, q)
+
+  keeps-next : (s : Group) (m : Move) → possible T L s m ≡ true → Holds (L .threads) P Q s → Holds (L .threads) P Q (next T L s m)
+  unfolding possible next released
+  keeps-next s release c h =
+      record {
+        count = length-map (s .threads) pastBarrier ∙ h .count;
+        each = λ t l.
+            let g : t < length (s .threads) = omega (arith, h .count) in
+            rw (getD-map-at pastBarrier (s .threads) t noThread noThread g) (k .barriers _ (barrier-op _ (gathered-at T (s .threads) t (and-right (not (s .bad)) _ c) g)) (h .each t l));
+        shared = h .shared;
+      }
+  keeps-next s (row t) c h = by (endsBadly s t (effectAt T L s t))
+    where
+      l : t < L .threads
+      l = unfold threadCount in (let g : t < length (s .threads) = ltb-true t _ (and-left _ _ (and-right (not (s .bad)) _ c)) in omega (arith, h .count))
+
+      x : Thread
+      x = getD (s .threads) t noThread
+
+      new : P (threadAfter x (s .cells) (effect T L t x)) × Q (cellsAfter (s .cells) (effect T L t x))
+      new = keeps-effect t x (s .cells) l (h .each t l) (h .shared)
+
+      moved : Holds (L .threads) P Q (performed s t (effectAt T L s t))
+      moved = unfold performed effectAt in (record {
+        count = length-set (s .threads) t _ ∙ h .count;
+        each = λ u m. set-keeps P (s .threads) noThread t _ u (λ z. new .0) (h .each u m);
+        shared = new .1;
+      })
+
+      by : (z : Bool) → Holds (L .threads) P Q (cond z (markBad s) (performed s t (effectAt T L s t)))
+      by true = unfold markBad in (record { count = h .count; each = h .each; shared = h .shared })
+      by false = moved
+
+  keeps-run : (ms : List Move) (s : Group) → Run (machine T L) s ms → Holds (L .threads) P Q s → Holds (L .threads) P Q (after (machine T L) s ms)
+  keeps-run [] s r h = h
+  keeps-run (m ∷ ms) s r h = keeps-run ms (next T L s m) (r .1) (keeps-next s m (r .0) h)
+
+pub in-every-run : (T : Table) (n : ℕ) (cells : List ℕ) (P : Thread → Type 0) (Q : List ℕ → Type 0) → Keeps T (shapeOf n cells) P Q → Q cells → (ms : List Move) → RunOf T n cells ms
+    → Holds n P Q (leaves T n cells ms)
+unfolding shapeOf initialGroup
+in-every-run T n cells P Q k q ms r =
+    keeps-run T (shapeOf n cells) P Q k ms _ r
+    (record { count = length-replicate n _; each = λ t l. rw (getD-replicate n t _ noThread l) (k .first); shared = q })

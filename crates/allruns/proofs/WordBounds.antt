@@ -1,0 +1,246 @@
+-- Words stay words: in the lock-step run and in every run of the threads all registers and cells are below 2 ^ 32. Assumes nothing.
+use mathlib.Core.Path.{_≡_, refl, _∙_}
+use mathlib.Core.Logic.{_⊎_, inl, inr}
+use mathlib.Core.List.{List, [], _∷_}
+use mathlib.Core.Bool.{Bool, true, false, cond}
+use Prim.Native.Nat.{ℕ, zero, suc, _+_, _-_, _*_, _^_, _<_, _≤_}
+use native.Mathlib.Omega.{arith}
+use native.Mathlib.Nat.{mod-lt, div-le-self}
+use borrow.Author.Tests.{leb-false}
+use lib.Bits.{and-lt, or-lt, xor-lt}
+use lib.Dec.{eqb, leb, ltb}
+use lib.IntN.{ℤ, pos, negsuc}
+use lib.Signed.{ltZ, mag, mag-shr, shrZ}
+use lib.ListN.{length, getD, set, replicate, length-set, length-replicate, List·getD-eq-default}
+use Rattle.spec.specs.declared.Verdict.the-variants.{Passed}
+use Rattle.spec.specs.Access.{Kind, load, store, cellAfter, registersAfter}
+use Rattle.spec.specs.AllRuns.{RunOf, leaves}
+use Rattle.spec.specs.Limits.{registers}
+use Rattle.spec.specs.LockStep.{LockState, LockResult, Saved, Step, accessTurn, advance, andThen, barrierRow, computeTurn, continues, countSteps, elseRow, endifRow, endwhileRow, forEnabled, ifRow, inTurn, initialState, leaveOrStay, lockstep, madeAccess, passBarrier, pop, reg, resultOf, runFrom, runRow, setReg, stops, topMask, tryAccess, whileRow}
+use Rattle.spec.specs.Log.{conflictMask}
+use Rattle.spec.specs.Mask.{Mask, any, full}
+use Rattle.spec.specs.Op.{Op, Calc, SET, TID, COUNT, ADD, SUB, MUL, AND, OR, XOR, SHR, SAR, EQ, LT, SLT, CALC, Mem, MEM, LOAD, STORE, IF, ELSE, ENDIF, WHILE, ENDWHILE, BARRIER, UNKNOWN, value}
+use Rattle.spec.specs.Shape.{Shape, address, bound, shapeOf}
+use Rattle.spec.specs.Table.{Table, Row, rowAt, cellByte, endOf, kindOf}
+use Rattle.spec.specs.Threads as own
+use Rattle.spec.specs.Threads.{Group, Move, Thread, cellsAfter, effectOf, goto, noThread, onIf, onWhile, pastBarrier, put, threadAfter}
+use Rattle.spec.specs.Word.{signed, top, truth, unsigned}
+use Rattle.allruns.proofs.Progress.{either}
+use Rattle.allruns.proofs.Invariants.{Holds, Keeps, in-every-run, reach-cases, replicate-keeps, set-keeps}
+
+abbrev pub Word : ℕ → Type 0
+Word v = v < 2 ^ 32
+
+-- The default of a list is 0, so a place past the end needs no word.
+abbrev pub Words : List ℕ → Type 0
+Words xs = (i : ℕ) → Word (getD xs i 0)
+
+cond-keeps : {A : Type 0} (P : A → Type 0) (b : Bool) {x y : A} → P x → P y → P (cond b x y)
+cond-keeps P true p q = p
+cond-keeps P false p q = q
+
+truth-word : (b : Bool) → Word (truth b)
+truth-word b = cond-keeps Word b (omega arith) (omega arith)
+
+signed-mag : (x : ℕ) → Word x → Word (mag (signed x))
+signed-mag x l = cond-keeps (λ z. Word (mag z)) (ltb x (2 ^ 31)) l (omega arith)
+
+unsigned-word : (z : ℤ) → Word (mag z) → Word (unsigned z)
+unsigned-word (pos k) l = l
+unsigned-word (negsuc k) l = omega arith
+
+pub value-word : (c : Calc) (n t a b x y : ℕ) → Word n → Word t → a < 256 → b < 256 → Word x → Word y → Word (value c n t a b x y)
+unfolding value
+value-word SET n t a b x y hn ht ha hb hx hy = omega arith
+value-word TID n t a b x y hn ht ha hb hx hy = ht
+value-word COUNT n t a b x y hn ht ha hb hx hy = hn
+value-word ADD n t a b x y hn ht ha hb hx hy = mod-lt (x + y) (omega arith)
+value-word SUB n t a b x y hn ht ha hb hx hy = mod-lt (x + 2 ^ 32 - y) (omega arith)
+value-word MUL n t a b x y hn ht ha hb hx hy = mod-lt (x * y) (omega arith)
+value-word AND n t a b x y hn ht ha hb hx hy = and-lt 32 x y hx hy
+value-word OR n t a b x y hn ht ha hb hx hy = or-lt 32 x y hx hy
+value-word XOR n t a b x y hn ht ha hb hx hy = xor-lt 32 x y hx hy
+value-word SHR n t a b x y hn ht ha hb hx hy = cond-keeps Word (ltb y 32) (omega (arith, div-le-self x (2 ^ y))) (omega arith)
+value-word SAR n t a b x y hn ht ha hb hx hy =
+    cond-keeps Word (ltb y 32) (unsigned-word (shrZ (signed x) (2 ^ y)) (omega (arith, mag-shr (signed x) (2 ^ y), signed-mag x hx))) (cond-keeps Word (top x) (omega arith) (omega arith))
+value-word EQ n t a b x y hn ht ha hb hx hy = truth-word (eqb x y)
+value-word LT n t a b x y hn ht ha hb hx hy = truth-word (ltb x y)
+value-word SLT n t a b x y hn ht ha hb hx hy = truth-word (ltZ (signed x) (signed y))
+
+-- An access that stores a word.
+abbrev KindWord : Kind → Type 0
+KindWord load = Unit {0}
+KindWord (store v) = Word v
+
+kind-word : (m : Mem) (v : ℕ) → Word v → KindWord (kindOf m v)
+unfolding kindOf
+kind-word LOAD v l = tt
+kind-word STORE v l = l
+
+cells-words : (k : Kind) (c : ℕ) (cells : List ℕ) → KindWord k → Words cells → Words (set cells c (cellAfter k (getD cells c 0)))
+unfolding cellAfter
+cells-words load c cells h ws i = set-keeps Word cells 0 c _ i (λ z. ws c) (ws i)
+cells-words (store v) c cells h ws i = set-keeps Word cells 0 c _ i (λ z. h) (ws i)
+
+registers-words : (k : Kind) (d old : ℕ) (regs : List ℕ) → KindWord k → Word old → Words regs → Words (registersAfter k d old regs)
+unfolding registersAfter
+registers-words load d old regs h l ws i = set-keeps Word regs 0 d old i (λ z. l) (ws i)
+registers-words (store v) d old regs h l ws i = ws i
+
+zero-words : Words (replicate registers 0)
+zero-words i = replicate-keeps Word registers 0 0 i (omega arith) (omega arith)
+
+-- Every register of every thread is a word, and every cell.
+pub record WordsIn (regs : ℕ → List ℕ) (cells : List ℕ) : Type 0 where
+  pub ofThreads : (t : ℕ) → Words (regs t)
+  pub ofCells : Words cells
+
+abbrev pub WordState : LockState → Type 0
+WordState s = WordsIn (λ t. getD (s .regs) t []) (s .cells)
+
+abbrev pub WordGroup : Group → Type 0
+WordGroup s = WordsIn (λ t. getD (s .threads) t noThread .regs) (s .cells)
+
+-- The rows' bytes a and b.
+abbrev pub Bytes : Table → Type 0
+Bytes T = (r : ℕ) → r < length T → (rowAt T r .a < 256) × (rowAt T r .b < 256)
+
+-- A state of n threads, whose registers and cells are words; and what a row comes to, such a state.
+abbrev Sound : (n : ℕ) → LockState → Type 0
+Sound n s = (length (s .regs) ≡ n) × WordState s
+
+abbrev SoundStep : (n : ℕ) → Step → Type 0
+SoundStep n (continues s) = Sound n s
+SoundStep n (stops v s) = Sound n s
+
+sound-then : (n : ℕ) (x : Step) (f : LockState → Step) → SoundStep n x → ((s : LockState) → Sound n s → SoundStep n (f s)) → SoundStep n (andThen x f)
+unfolding andThen
+sound-then n (continues s) f h g = g s h
+sound-then n (stops v s) f h g = h
+
+sound-turns : (n : ℕ) (f : LockState → ℕ → Step) → ((s : LockState) (t : ℕ) → Sound n s → SoundStep n (f s t)) → (ts : List ℕ) (s : LockState) → Sound n s → SoundStep n (inTurn f ts s)
+unfolding inTurn
+sound-turns n f g [] s h = h
+sound-turns n f g (t ∷ ts) s h = sound-then n (f s t) (inTurn f ts) (g s t h) (sound-turns n f g ts)
+
+sound-enabled : (n : ℕ) (f : LockState → ℕ → Step) → ((s : LockState) (t : ℕ) → Sound n s → SoundStep n (f s t)) → (s : LockState) → Sound n s → SoundStep n (forEnabled f s)
+unfolding forEnabled advance
+sound-enabled n f g s h = sound-then n (inTurn f _ s) _ (sound-turns n f g _ s h) (λ z k. k)
+
+-- One thread's registers put.
+put-words : (n t : ℕ) (s : LockState) (regs cells : List ℕ) → Sound n s → (t < n → Words regs) → Words cells
+    → (length (set (s .regs) t regs) ≡ n) × WordsIn (λ u. getD (set (s .regs) t regs) u []) cells
+put-words n t s regs cells h p q = (
+  length-set (s .regs) t regs ∙ h .0,
+  record { ofThreads = λ u. set-keeps Words (s .regs) [] t regs u (λ l. p (omega (arith, h .0))) (h .1 .ofThreads u); ofCells = q },
+)
+
+sound-compute : (n : ℕ) (x : Row) (f : ℕ → ℕ → ℕ → ℕ) → ((t p q : ℕ) → t < n → Word p → Word q → Word (f t p q)) → (s : LockState) (t : ℕ) → Sound n s → SoundStep n (computeTurn x f s t)
+unfolding computeTurn setReg reg
+sound-compute n x f g s t h =
+    put-words n t s _ (s .cells) h
+    (λ l i. set-keeps Word (getD (s .regs) t []) 0 (x .d) _ i (λ z. g t _ _ l (h .1 .ofThreads t (x .a)) (h .1 .ofThreads t (x .b))) (h .1 .ofThreads t i)) (h .1 .ofCells)
+
+sound-access : (n : ℕ) (L : Shape) (m : Mem) (x : Row) (s : LockState) (t : ℕ) → Sound n s → SoundStep n (accessTurn L m x s t)
+unfolding accessTurn tryAccess madeAccess reg
+sound-access n L m x s t h =
+    cond-keeps (SoundStep n) (leb (bound L m) c) h
+    (cond-keeps (SoundStep n) (any (conflictMask (s .log) (address L m c) t k)) h
+    (put-words n t s _ _ h (λ l. registers-words k (x .d) _ _ w (h .1 .ofCells (address L m c)) (h .1 .ofThreads t)) (cells-words k (address L m c) (s .cells) w (h .1 .ofCells))))
+  where
+    c : ℕ
+    c = reg s t (cellByte m x)
+
+    k : Kind
+    k = kindOf m (reg s t (x .a))
+
+    w : KindWord k
+    w = kind-word m _ (h .1 .ofThreads t (x .a))
+
+sound-while : (n : ℕ) (T : Table) (s : LockState) (v : List Saved) (m : Mask) → Sound n s → Sound n (leaveOrStay T s v m)
+unfolding leaveOrStay advance
+sound-while n T s v m h = cond-keeps (Sound n) (any m) {x = advance (suc (s .row)) m v s} {y = advance (suc (endOf T (s .row))) (topMask v) (pop v) s} h h
+
+module _ (T : Table) (L : Shape) (bytes : Bytes T) (few : Word (L .threads)) where
+  sound-row : (s : LockState) → s .row < length T → (o : Op) → Sound (L .threads) s → SoundStep (L .threads) (runRow T L (rowAt T (s .row)) s o)
+  unfolding runRow advance countSteps barrierRow ifRow elseRow endifRow whileRow endwhileRow passBarrier
+  sound-row s l (CALC c) h =
+      let b = bytes (s .row) l in
+      sound-enabled (L .threads) _ (sound-compute (L .threads) _ _ (λ t p q m hp hq. value-word c (L .threads) t _ _ p q few (omega arith) (b .0) (b .1) hp hq)) s h
+  sound-row s l (MEM m) h = sound-enabled (L .threads) _ (sound-access (L .threads) L m _) s h
+  sound-row s l IF h = h
+  sound-row s l ELSE h = h
+  sound-row s l ENDIF h = h
+  sound-row s l WHILE h = sound-while (L .threads) T (countSteps (s .enabled) s) _ _ h
+  sound-row s l ENDWHILE h = h
+  sound-row s l BARRIER h = cond-keeps (SoundStep (L .threads)) (any (s .enabled)) (cond-keeps (SoundStep (L .threads)) (full (s .enabled)) h h) h
+  sound-row s l UNKNOWN h = h
+
+  sound-result : (x : Step) (f : LockState → LockResult) → SoundStep (L .threads) x → ((s : LockState) → Sound (L .threads) s → Sound (L .threads) (f s .state)) → Sound (L .threads) (resultOf x f .state)
+  unfolding resultOf
+  sound-result (continues s) f h g = g s h
+  sound-result (stops v s) f h g = h
+
+  sound-run : (left : ℕ) (s : LockState) → Sound (L .threads) s → Sound (L .threads) (runFrom T L left s .state)
+  unfolding runFrom
+  sound-run zero s h = h
+  sound-run (suc left) s h = by (leb (length T) (s .row)) refl (sound-run left)
+    where
+      out : LockResult
+      out = resultOf (runRow T L (rowAt T (s .row)) s (rowAt T (s .row) .op)) (runFrom T L left)
+
+      by : (z : Bool) → leb (length T) (s .row) ≡ z → ((s : LockState) → Sound (L .threads) s → Sound (L .threads) (runFrom T L left s .state))
+          → Sound (L .threads) ((elim z as (λ c. LockResult) [ true ↦ record { verdict = Passed; state = s } | false ↦ out ]) .state)
+      by true q ih = h
+      by false q ih = sound-result _ _ (sound-row s (leb-false _ _ q) (rowAt T (s .row) .op) h) ih
+
+pub lockstep-words : (T : Table) (n : ℕ) (cells : List ℕ) (limit : ℕ) → Word n → Bytes T → Words cells → WordState (lockstep T n cells limit .state)
+unfolding lockstep shapeOf initialState
+lockstep-words T n cells limit few bytes words =
+    sound-run T (shapeOf n cells) bytes few limit (initialState n cells)
+    (length-replicate n _, record { ofThreads = λ t. replicate-keeps Words n _ [] t zero-words (λ i. omega arith); ofCells = words }) .1
+
+-- The same of the threads' own machine.
+module _ (T : Table) (L : Shape) (bytes : Bytes T) (few : Word (L .threads)) where
+  words-row : (t : ℕ) (x : Thread) (cells : List ℕ) → t < L .threads → x .row < length T → (o : Op) → Words (x .regs) → Words cells
+      → Words (threadAfter x cells (effectOf T L t x (rowAt T (x .row)) o) .regs) × Words (cellsAfter cells (effectOf T L t x (rowAt T (x .row)) o))
+  unfolding effectOf threadAfter cellsAfter put goto onIf onWhile own.reg
+  words-row t x cells m l (CALC c) h w =
+      let b = bytes (x .row) l in
+      (λ i. set-keeps Word (x .regs) 0 _ _ i (λ z. value-word c (L .threads) t _ _ _ _ few (omega arith) (b .0) (b .1) (h _) (h _)) (h i), w)
+  words-row t x cells m l (MEM o) h w =
+      reach-cases (λ e. Words (threadAfter x cells e .regs) × Words (cellsAfter cells e)) L o _ _ _
+      (registers-words _ _ _ (x .regs) k (w _) h, cells-words _ _ cells k w) (h, w)
+    where
+      k : KindWord (kindOf o (own.reg x (rowAt T (x .row) .a)))
+      k = kind-word o _ (h _)
+  words-row t x cells m l IF h w = (by (own.reg x (rowAt T (x .row) .a)), w)
+    where
+      by : (v : ℕ) → Words (onIf T x v .regs)
+      by zero = h
+      by (suc v) = h
+  words-row t x cells m l ELSE h w = (h, w)
+  words-row t x cells m l ENDIF h w = (h, w)
+  words-row t x cells m l WHILE h w = (by (own.reg x (rowAt T (x .row) .a)), w)
+    where
+      by : (v : ℕ) → Words (onWhile T x v .regs)
+      by zero = h
+      by (suc v) = h
+  words-row t x cells m l ENDWHILE h w = (h, w)
+  words-row t x cells m l BARRIER h w = (h, w)
+  words-row t x cells m l UNKNOWN h w = (h, w)
+
+  keeps-words : Keeps T L (λ x. Words (x .regs)) Words
+  unfolding pastBarrier goto
+  keeps-words = record { first = zero-words; rows = λ t x cells m l o q h w. words-row t x cells m l o h w; barriers = λ x q h. h }
+
+pub runs-words : (T : Table) (n : ℕ) (cells : List ℕ) → Word n → Bytes T → Words cells → (ms : List Move) → RunOf T n cells ms → WordGroup (leaves T n cells ms)
+unfolding shapeOf noThread
+runs-words T n cells few bytes words ms r = record { ofThreads = λ t. by t (either t n); ofCells = h .shared }
+  where
+    h : Holds n (λ x. Words (x .regs)) Words (leaves T n cells ms)
+    h = in-every-run T n cells (λ x. Words (x .regs)) Words (keeps-words T (shapeOf n cells) bytes few) words ms r
+
+    by : (t : ℕ) → (t < n) ⊎ (n ≤ t) → Words (getD (leaves T n cells ms .threads) t noThread .regs)
+    by t (inl l) = h .each t l
+    by t (inr l) = rw (List·getD-eq-default (leaves T n cells ms .threads) noThread {n = t} (omega (arith, h .count))) (λ i. omega arith)
