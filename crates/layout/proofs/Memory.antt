@@ -2,7 +2,7 @@
 use mathlib.Core.Path.{_≡_}
 use mathlib.Core.List.{List, []}
 use Prim.Native.Nat.{ℕ, _+_, _*_, _<_, _≤_}
-use lib.ListN.{length, getD}
+use lib.ListN.{length, getD, set}
 use lib.Count.{ones}
 use Rattle.spec.specs.Mask.{Mask, maskWord, members, holding}
 use Rattle.spec.specs.Log.{Log, logWords}
@@ -111,3 +111,16 @@ abbrev pub AccessAll : (op n mask d a : ℕ) → (regs cells log : List ℕ) →
 AccessAll op n mask d a regs cells log r regs′ cells′ log′ =
     (m : Mem) (x : Row) → opOf op ≡ MEM m → x .d ≡ d → x .a ≡ a
     → AllTurns (accessTurn (record { threads = n; cells = length cells }) m x) n mask regs cells log (r .access) (r .steps) regs′ cells′ log′
+
+-- A LOAD moves cell i to place `to` of the registers, a STORE place `from` to cell i.
+pub record Transferred (op to from i : ℕ) (regs cells regs′ cells′ : List ℕ) : Type 0 where
+  pub load-regs : op ≡ 16 → regs′ ≡ set regs to (getD cells i 0)
+  pub load-cells : op ≡ 16 → cells′ ≡ cells
+  pub store-regs : (op ≡ 16 → ⊥) → regs′ ≡ regs
+  pub store-cells : (op ≡ 16 → ⊥) → cells′ ≡ set cells i (getD regs from 0)
+
+-- The register with the cell's number.
+pub record CellRegister (op d a r : ℕ) : Type 0 where
+  pub small : r < 16
+  pub of-load : op ≡ 16 → r ≡ a
+  pub of-store : (op ≡ 16 → ⊥) → r ≡ d

@@ -1,0 +1,155 @@
+-- One thread's access, by what it comes to: outside, a race, or made. Assumes nothing.
+use mathlib.Core.Path.{_≡_, refl, sym, _∙_, ap, ap₂, subst}
+use mathlib.Core.Logic.{_⊎_, inl, inr}
+use mathlib.Core.List.{List, []}
+use mathlib.Core.Bool.{Bool, true, false, cond}
+use Prim.Native.Nat.{ℕ, _+_, _*_, _<_, _≤_}
+use native.Mathlib.Omega.{arith}
+use native.Mathlib.Decide.{ℕ-discrete}
+use borrow.Author.Tests.{le-leb, lt-leb}
+use lib.Dec.{leb}
+use lib.Count.{trailingZeros}
+use lib.ListN.{length, getD, set, length-set}
+use lib.Seq.{set-getD}
+use Rattle.spec.specs.declared.AccessKind.{AccessKind}
+use Rattle.spec.specs.declared.Verdict.the-variants.{Race, Outside}
+use Rattle.spec.specs.Access.{Kind, load, store, cellAfter, registersAfter}
+use Rattle.spec.specs.Op.{Mem, MEM, LOAD, STORE, opOf}
+use Rattle.spec.specs.Table.{Row, cellByte, kindOf}
+use Rattle.spec.specs.Shape.{Shape, bound, address}
+use Rattle.spec.specs.Mask.{Mask, maskWord, any, lowest}
+use Rattle.spec.specs.Log.{Log, logged, conflictMask, raceKind}
+use Rattle.spec.specs.LockStep.{LockState, Step, continues, stops, reg, madeAccess, tryAccess, accessTurn}
+use Rattle.masks.proofs.Words.{any-none, any-some, lowest-is}
+use Rattle.layout.specs.declared.Access.{Access}
+use Rattle.layout.specs.declared.Access.the-variants.{Done, Stop}
+use Rattle.layout.proofs.Memory.{Regs, LogIs, Memory, Kept, Did, stepsOf, Transferred, CellRegister}
+use Rattle.layout.proofs.Buffers.{regs-set}
+use Rattle.layout.proofs.LogBuffer.{ConflictIs, KindIs, LoggedIs, conflict-size}
+use Rattle.layout.proofs.Turning.{kept-none}
+use Rattle.memory.proofs.LogTests.{mem-load, mem-store}
+
+-- The two ops: a LOAD with its register, a STORE with its own.
+pub which : (op d a b : ℕ) (m : Mem) → 16 ≤ op → op ≤ 17 → opOf op ≡ MEM m → CellRegister op d a b
+    → ((op ≡ 16) × (m ≡ LOAD) × (b ≡ a)) ⊎ ((op ≡ 16 → ⊥) × (m ≡ STORE) × (b ≡ d))
+which op d a b m h l o r = by (ℕ-discrete op 16)
+  where
+    by : Dec (op ≡ 16) → ((op ≡ 16) × (m ≡ LOAD) × (b ≡ a)) ⊎ ((op ≡ 16 → ⊥) × (m ≡ STORE) × (b ≡ d))
+    by (yes e) = inl (e, mem-load op m e o, r .of-load e)
+    by (no n) = inr (n, mem-store op m (omega arith) o, r .of-store n)
+
+module _ (n t : ℕ) (s : LockState) (regs cells log : List ℕ) (M : Memory n s regs cells log) (h : t < n) where
+  -- what the code reads at r * 32 + j is the thread's register
+  reg-is : (r j q : ℕ) → j ≡ t → q ≡ r → r < 16 → getD regs (r * 32 + j) 0 ≡ reg s t q
+  unfolding reg
+  reg-is r j q ej eq l = ap (λ z. getD regs (r * 32 + z) 0) ej ∙ M .regs-are .at t r h l ∙ ap (λ z. getD (getD (s .regs) t []) z 0) (sym eq)
+
+  cells-size : length cells ≡ length (s .cells)
+  cells-size = ap length (M .cells-are)
+
+  log-here : LogIs n (length cells) (s .log) log
+  log-here = subst (λ k. LogIs n k (s .log) log) (sym cells-size) (M .log-is)
+
+  module _ (op d a b j i : ℕ) (m : Mem) (x : Row) (o : opOf op ≡ MEM m) (p : 16 ≤ op) (q : op ≤ 17) (r : CellRegister op d a b) (ed : x .d ≡ d) (ea : x .a ≡ a) (ld : d < 16) (la : a < 16) (ej : j ≡ t)
+      (ei : i ≡ getD regs (b * 32 + j) 0) where
+    abbrev shape : Shape
+    shape = record { threads = n; cells = length cells }
+
+    abbrev kind : Kind
+    kind = kindOf m (reg s t (x .a))
+
+    abbrev turn : Step
+    turn = accessTurn shape m x s t
+
+    number-is : reg s t (cellByte m x) ≡ i
+    unfolding cellByte
+    number-is = by (which op d a b m p q o r)
+      where
+        by : ((op ≡ 16) × (m ≡ LOAD) × (b ≡ a)) ⊎ ((op ≡ 16 → ⊥) × (m ≡ STORE) × (b ≡ d)) → reg s t (cellByte m x) ≡ i
+        by (inl (e, f, g)) = ap (λ y. reg s t (cellByte y x)) f ∙ sym (ei ∙ reg-is b j (x .a) ej (ea ∙ sym g) (r .small))
+        by (inr (e, f, g)) = ap (λ y. reg s t (cellByte y x)) f ∙ sym (ei ∙ reg-is b j (x .d) ej (ed ∙ sym g) (r .small))
+
+    turn-at : turn ≡ cond (leb (length cells) i) (stops (Outside t i) s) (tryAccess s t d i kind)
+    unfolding accessTurn bound address
+    turn-at = ap₂ (λ c e. cond (leb (length cells) c) (stops (Outside t c) s) (tryAccess s t e c kind)) number-is ed
+
+    did : (y : Step) (w : Access) (regs′ cells′ log′ : List ℕ) → turn ≡ y → Did n (stepsOf y) s y w regs′ cells′ log′ → Did n (stepsOf turn) s turn w regs′ cells′ log′
+    did y w regs′ cells′ log′ e D = subst (λ z. Did n (stepsOf z) s z w regs′ cells′ log′) (sym e) D
+
+    pub outside-did : (v : ℕ) → v ≡ i → length cells ≤ i → Did n (stepsOf turn) s turn (Stop (Outside t v)) regs cells log
+    outside-did v ev g =
+        did (stops (Outside t i) s) _ regs cells log (turn-at ∙ rw (le-leb (length cells) i g))
+        (record { answer = ap (λ z. Stop (Outside t z)) ev; memory = M; kept = kept-none s })
+
+    module _ (l : i < length cells) (w : ℕ) (C : ConflictIs op (length cells) i t log w) where
+      abbrev others : Mask
+      others = conflictMask (s .log) i t kind
+
+      ew : w ≡ maskWord others
+      ew = C n (reg s t (x .a)) m (s .log) o (M .few) h log-here
+
+      inside : turn ≡ cond (any others) (stops (Race t (lowest others) (raceKind (s .log) i (lowest others) kind) i) s) (continues (madeAccess s t d i kind))
+      unfolding tryAccess
+      inside = turn-at ∙ rw (lt-leb (length cells) i l)
+
+      size : length others ≡ n
+      size = conflict-size n (length (s .cells)) (s .log) log (M .log-is) i (omega (arith, cells-size)) t kind
+
+      pub race-did : (u v : ℕ) (k : AccessKind) → v ≡ i → (w ≡ 0 → ⊥) → u ≡ trailingZeros 32 w → KindIs op (length cells) i u log k
+          → Did n (stepsOf turn) s turn (Stop (Race t u k v)) regs cells log
+      race-did u v k ev ne eu K =
+          let ek : k ≡ raceKind (s .log) i u kind = K n (reg s t (x .a)) m (s .log) o log-here in
+          let some : any others ≡ true = any-some others (λ e. ne (ew ∙ e)) in
+          let low : u ≡ lowest others = eu ∙ ap (trailingZeros 32) ew ∙ lowest-is others 32 (omega (arith, size, M .few)) some in
+          did (stops (Race t (lowest others) (raceKind (s .log) i (lowest others) kind) i) s) _ regs cells log (inside ∙ rw some)
+          (record {
+            answer = ap₂ (λ y z. Stop (Race t u y z)) ek ev ∙ ap (λ y. Stop (Race t y (raceKind (s .log) i y kind) i)) low;
+            memory = M;
+            kept = kept-none s;
+          })
+
+      -- made: the buffers after it
+      made : (regs′ cells′ log′ : List ℕ) → Transferred op (d * 32 + j) (a * 32 + j) i regs cells regs′ cells′ → LogIs n (length (s .cells)) (logged (s .log) i t kind) log′
+          → Memory n (madeAccess s t d i kind) regs′ cells′ log′
+      unfolding madeAccess
+      made regs′ cells′ log′ T G = by (which op d a b m p q o r)
+        where
+          old : ℕ
+          old = getD (s .cells) i 0
+
+          mine : List ℕ
+          mine = getD (s .regs) t []
+
+          memory : (k : Kind) → kind ≡ k → Regs n (set (s .regs) t (registersAfter k d old mine)) regs′ → cells′ ≡ set (s .cells) i (cellAfter k old) → Memory n (madeAccess s t d i kind) regs′ cells′ log′
+          memory k e R C =
+              record {
+                few = M .few;
+                regs-are = subst (λ y. Regs n (set (s .regs) t (registersAfter y d old mine)) regs′) (sym e) R;
+                cells-are = C ∙ ap (λ y. set (s .cells) i (cellAfter y old)) (sym e);
+                log-is = subst (λ c. LogIs n c (logged (s .log) i t kind) log′) (sym (length-set (s .cells) i (cellAfter kind old))) G;
+              }
+
+          by : ((op ≡ 16) × (m ≡ LOAD) × (b ≡ a)) ⊎ ((op ≡ 16 → ⊥) × (m ≡ STORE) × (b ≡ d)) → Memory n (madeAccess s t d i kind) regs′ cells′ log′
+          by (inl (e, f, g)) =
+              memory load (unfold kindOf in (ap (λ y. kindOf y (reg s t (x .a))) f))
+              (unfold registersAfter in (subst (λ z. Regs n (set (s .regs) t (set mine d old)) z)
+              (ap₂ (λ y z. set regs (d * 32 + y) (getD z i 0)) (sym ej) (sym (M .cells-are)) ∙ sym (T .load-regs e))
+              (regs-set n (s .regs) regs (M .regs-are) t d old (M .few) h ld)))
+              (unfold cellAfter in (T .load-cells e ∙ M .cells-are ∙ sym (set-getD (s .cells) i 0)))
+          by (inr (e, f, g)) =
+              memory (store (reg s t (x .a))) (unfold kindOf in (ap (λ y. kindOf y (reg s t (x .a))) f))
+              (unfold registersAfter in (subst (λ z. Regs n z regs′) (sym (set-getD (s .regs) t [])) (subst (λ z. Regs n (s .regs) z) (sym (T .store-regs e)) (M .regs-are))))
+              (unfold cellAfter in (T .store-cells e ∙ ap₂ (λ y z. set y i z) (M .cells-are) (reg-is a j (x .a) ej ea la)))
+
+      pub made-did : (regs′ cells′ log′ : List ℕ) → w ≡ 0 → Transferred op (d * 32 + j) (a * 32 + j) i regs cells regs′ cells′ → LoggedIs op (length cells) i t log log′
+          → Did n (stepsOf turn) s turn Done regs′ cells′ log′
+      made-did regs′ cells′ log′ z T E =
+          let G : LogIs n (length (s .cells)) (logged (s .log) i t kind) log′ =
+          subst (λ k. LogIs n k (logged (s .log) i t kind) log′) cells-size (E n (reg s t (x .a)) m (s .log) o (M .few) h log-here) in
+          let none : any others ≡ false = any-none others (sym ew ∙ z) in
+          did (continues (madeAccess s t d i kind)) _ regs′ cells′ log′ (inside ∙ rw none)
+          (record {
+            answer = refl;
+            memory = made regs′ cells′ log′ T G;
+            kept = unfold madeAccess in (record { row-same = refl; enabled-same = refl; saved-same = refl; rows-same = refl; barriers-same = refl; steps-more = omega arith });
+          })

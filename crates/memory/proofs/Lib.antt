@@ -1,0 +1,2 @@
+pub mod LogTests
+pub mod Accesses

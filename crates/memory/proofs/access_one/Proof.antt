@@ -1,0 +1,125 @@
+use mathlib.Core.Path.{_≡_, refl, sym}
+use native.Mathlib.Omega.{arith}
+use Rattle.memory.proofs.Accesses.{outside-did, race-did, made-did}
+use borrow.Author.Needs.{needs}
+use Rattle.memory.proofs.access_one.Statement.{statement}
+use Rattle.memory.proofs.access_one.Tie as tie
+use Rattle.memory.proofs.access_one.Reads as reads
+use Rattle.memory.proofs.access_one.Lts as lts
+use Rattle.masks.proofs.lowest.Reads as lowest-reads
+use Rattle.memory.proofs.cell_register.Reads as cell-register-reads
+use Rattle.memory.proofs.conflict.Reads as conflict-reads
+use Rattle.memory.proofs.enter.Reads as enter-reads
+use Rattle.memory.proofs.index.Reads as index-reads
+use Rattle.memory.proofs.race_kind.Reads as race-kind-reads
+use Rattle.memory.proofs.transfer.Reads as transfer-reads
+
+-- src/lib.rt:93:9
+index-requires : tie.Need-index-requires
+index-requires c κs = search needs
+
+-- src/lib.rt:94:9
+cell-register-requires : tie.Need-cell-register-requires
+cell-register-requires c κs = search needs
+
+-- src/lib.rt:95:18
+mul-x : tie.Need-mul-x
+mul-x c = search needs
+
+-- src/lib.rt:95:18
+add-x : tie.Need-add-x
+add-x c = search needs
+
+-- src/lib.rt:95:13
+mul-x-2 : tie.Need-mul-x-2
+mul-x-2 c = search needs
+
+-- src/lib.rt:95:13
+element-copy-out-x : tie.Need-element-copy-out-x
+element-copy-out-x c = search needs
+
+-- src/lib.rt:96:9
+index-requires-2 : tie.Need-index-requires-2
+index-requires-2 c κs = search needs
+
+-- src/lib.rt:99:9
+returns : tie.Need-returns
+returns c =
+    let g = c .before .before .before .before .before .before .before .args in
+    λ n m x o h ed ea s M.
+    outside-did n (g .t) s (g .regs .now) (g .cells .now) (g .log .now) M h (g .op) (g .d) (g .a) (c .before .before .before .cell-register .result) (c .before .before .before .before .index .result) (c .before .index2 .result) m x o
+    (c .before .before .before .before .before .before .before .pre .1 .known) (c .before .before .before .before .before .before .before .pre .1 .small) (c .before .before .before .cell-register .ensures) ed ea (c .before .before .before .before .before .before .before .pre .1 .target) (c .before .before .before .before .before .before .before .pre .1 .source) (c .before .before .before .before .index .ensures) (c .before .index2 .ensures)
+    _ (sym (c .before .index2 .ensures)) (c .if1 .taken)
+
+-- src/lib.rt:101:9
+conflict-requires : tie.Need-conflict-requires
+conflict-requires c κs = search needs
+
+-- src/lib.rt:103:9
+enter-requires : tie.Need-enter-requires
+enter-requires c κs = search needs
+
+-- src/lib.rt:104:9
+transfer-requires : tie.Need-transfer-requires
+transfer-requires c κs = search needs
+
+-- src/lib.rt:105:9
+same-length : tie.Need-same-length
+same-length c = search needs
+
+-- src/lib.rt:105:9
+same-length-2 : tie.Need-same-length-2
+same-length-2 c = search needs
+
+-- src/lib.rt:105:9
+returns-2 : tie.Need-returns-2
+returns-2 c =
+    let g = c .before .before .before .before .before .before .before .before .before .before .before .before .before .before .before .before .before .before .before .args in
+    λ n m x o h ed ea s M.
+    made-did n (g .t) s (g .regs .now) (g .cells .now) (g .log .now) M h (g .op) (g .d) (g .a) (c .before .before .before .before .before .before .before .before .before .before .before .before .before .before .before .cell-register .result) (c .before .before .before .before .before .before .before .before .before .before .before .before .before .before .before .before .index .result) (c .before .before .before .before .before .before .before .before .before .before .before .before .before .index2 .result) m x o
+    (c .before .before .before .before .before .before .before .before .before .before .before .before .before .before .before .before .before .before .before .pre .1 .known) (c .before .before .before .before .before .before .before .before .before .before .before .before .before .before .before .before .before .before .before .pre .1 .small) (c .before .before .before .before .before .before .before .before .before .before .before .before .before .before .before .cell-register .ensures) ed ea (c .before .before .before .before .before .before .before .before .before .before .before .before .before .before .before .before .before .before .before .pre .1 .target) (c .before .before .before .before .before .before .before .before .before .before .before .before .before .before .before .before .before .before .before .pre .1 .source) (c .before .before .before .before .before .before .before .before .before .before .before .before .before .before .before .before .index .ensures) (c .before .before .before .before .before .before .before .before .before .before .before .before .before .index2 .ensures)
+    (c .before .before .before .before .before .before .before .before .before .before .before .before .if1 .left) (c .before .before .before .before .before .before .before .before .before .before .conflict .result) (c .before .before .before .before .before .before .before .before .before .before .conflict .ensures) _ _ _ (c .before .before .before .before .before .before .before .before .before .if2 .taken) (c .before .before .transfer .ensures) (c .before .before .before .before .before .before .before .enter .ensures)
+
+-- src/lib.rt:107:9
+lowest-requires : tie.Need-lowest-requires
+lowest-requires c κs = search needs
+
+-- src/lib.rt:108:9
+race-kind-requires : tie.Need-race-kind-requires
+race-kind-requires c κs = (c .before .lowest .ensures .1 (omega (arith, c .before .before .if2 .left)), record { known = c .before .before .before .before .before .before .before .before .before .before .before .before .pre .1 .known; small = c .before .before .before .before .before .before .before .before .before .before .before .before .pre .1 .small; twice = c .before .before .before .before .before .before .before .before .before .before .before .before .pre .1 .twice; inside = c .before .before .before .before .before .if1 .left; few = c .before .before .before .before .before .before .before .before .before .before .before .before .pre .1 .cells-few })
+
+-- src/lib.rt:81:1
+same-length-3 : tie.Need-same-length-3
+same-length-3 c = search needs
+
+-- src/lib.rt:81:1
+returns-3 : tie.Need-returns-3
+returns-3 c =
+    let g = c .before .before .before .before .before .before .before .before .before .before .before .before .before .args in
+    λ n m x o h ed ea s M.
+    race-did n (g .t) s (g .regs .now) (g .cells .now) (g .log .now) M h (g .op) (g .d) (g .a) (c .before .before .before .before .before .before .before .before .before .cell-register .result) (c .before .before .before .before .before .before .before .before .before .before .index .result) (c .before .before .before .before .before .before .before .index2 .result) m x o
+    (c .before .before .before .before .before .before .before .before .before .before .before .before .before .pre .1 .known) (c .before .before .before .before .before .before .before .before .before .before .before .before .before .pre .1 .small) (c .before .before .before .before .before .before .before .before .before .cell-register .ensures) ed ea (c .before .before .before .before .before .before .before .before .before .before .before .before .before .pre .1 .target) (c .before .before .before .before .before .before .before .before .before .before .before .before .before .pre .1 .source) (c .before .before .before .before .before .before .before .before .before .before .index .ensures) (c .before .before .before .before .before .before .before .index2 .ensures)
+    (c .before .before .before .before .before .before .if1 .left) (c .before .before .before .before .conflict .result) (c .before .before .before .before .conflict .ensures) _ _ _ (sym (c .before .before .before .before .before .before .before .index2 .ensures)) (c .before .before .before .if2 .left) (c .before .before .lowest .ensures .0) (c .race-kind .ensures)
+
+pub access-one-spec : {M : Type 1} → statement M
+access-one-spec =
+    tie.close
+    (tie.spec
+    index-requires
+    cell-register-requires
+    mul-x
+    add-x
+    mul-x-2
+    element-copy-out-x
+    index-requires-2
+    returns
+    conflict-requires
+    enter-requires
+    transfer-requires
+    same-length
+    same-length-2
+    returns-2
+    lowest-requires
+    race-kind-requires
+    same-length-3
+    returns-3)

@@ -1,0 +1,56 @@
+use borrow.Author.Needs.{needs}
+use mathlib.Core.Path.{_≡_, refl, sym, ap, ap₂, _∙_, subst}
+use Prim.Native.Nat.{ℕ, _≤_, _<_, _-_, _+_, _*_, _/_}
+use native.Mathlib.Nat.{not-suc-le-zero}
+use native.Mathlib.Omega.{arith}
+use lib.ListN.{length, getD, length-set}
+use Rattle.layout.proofs.LogBuffer.{cleared-more, cleared-all}
+use Rattle.memory.proofs.clear.Statement.{statement}
+use Rattle.memory.proofs.clear.Tie as tie
+use Rattle.memory.proofs.clear.Reads as reads
+use Rattle.memory.proofs.clear.Lts as lts
+
+abbrev Inv-loop : tie.InvT-loop
+Inv-loop log₀ i₀ log i = (i ≤ length log₀) × (length log ≡ length log₀) × ((j : ℕ) → j < i → getD log j 0 ≡ 0)
+
+abbrev μ-loop : tie.MeasureT-loop
+μ-loop log₀ i₀ log i = length log₀ - i
+
+loop-holds : tie.Need-loop-holds Inv-loop μ-loop
+loop-holds c = (omega arith, refl, λ j h. absurd (not-suc-le-zero h))
+
+mul-log : tie.Need-mul-log Inv-loop μ-loop
+mul-log c = search needs
+
+slice-write-log : tie.Need-slice-write-log Inv-loop μ-loop
+slice-write-log c = search needs
+
+add-i : tie.Need-add-i Inv-loop μ-loop
+add-i c = search needs
+
+loop-less : tie.Need-loop-less Inv-loop μ-loop
+loop-less c = omega arith
+
+loop-again : tie.Need-loop-again Inv-loop μ-loop
+loop-again c = (omega arith, simp length-set (omega arith), cleared-more (c .before .loop .log) (c .before .loop .i) (omega arith) (c .before .loop .inv .2))
+
+same-length : tie.Need-same-length Inv-loop μ-loop
+same-length c = c .before .loop .inv .1
+
+returns : tie.Need-returns Inv-loop μ-loop
+returns c = cleared-all (c .before .loop .log) _ (c .before .loop .inv .1) (λ j h. c .before .loop .inv .2 j (omega arith))
+
+pub clear-spec : {M : Type 1} → statement M
+clear-spec =
+    tie.close
+    (tie.spec
+    Inv-loop
+    μ-loop
+    loop-holds
+    mul-log
+    slice-write-log
+    add-i
+    loop-less
+    loop-again
+    same-length
+    returns)
