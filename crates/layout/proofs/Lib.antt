@@ -4,3 +4,6 @@ pub mod Buffers
 pub mod LogBuffer
 pub mod Turning
 pub mod Holding
+pub mod Represents
+pub mod Saving
+pub mod PlainRows

@@ -1,0 +1,69 @@
+use mathlib.Core.Path.{_≡_, refl, sym, ap, ap₂, _∙_, subst}
+use Prim.Native.Nat.{ℕ, _≤_, _<_, _-_, _+_, _*_}
+use native.Mathlib.Omega.{arith}
+use Rattle.constructs.proofs.Rows.{else-done}
+use borrow.Author.Needs.{needs}
+use Rattle.constructs.proofs.else_row.Statement.{statement}
+use Rattle.constructs.proofs.else_row.Tie as tie
+use Rattle.constructs.proofs.else_row.Reads as reads
+use Rattle.constructs.proofs.else_row.Lts as lts
+use Rattle.masks.proofs.count.Reads as count-reads
+use Rattle.masks.proofs.minus.Reads as minus-reads
+
+sub-m : tie.Need-sub-m
+sub-m c = search needs
+
+mul-m : tie.Need-mul-m
+mul-m c = search needs
+
+element-copy-out-m : tie.Need-element-copy-out-m
+element-copy-out-m c = search needs
+
+sub-openers : tie.Need-sub-openers
+sub-openers c = search needs
+
+mul-openers : tie.Need-mul-openers
+mul-openers c = search needs
+
+element-write-openers : tie.Need-element-write-openers
+element-write-openers c = search needs
+
+add-t8 : tie.Need-add-t8
+add-t8 c = search needs
+
+minus-requires : tie.Need-minus-requires
+minus-requires c κs = search needs
+
+add-t15 : tie.Need-add-t15
+add-t15 c = search needs
+
+count-requires : tie.Need-count-requires
+count-requires c κs = search needs
+
+add-t17 : tie.Need-add-t17
+add-t17 c = omega (arith, c .before .before .before .before .before .pre .0, c .before .count .ensures)
+
+returns : tie.Need-returns
+returns c =
+    let g = c .before .before .before .before .before .args in
+    λ n regs. (
+      record { rows-one = refl; steps-some = omega (arith, c .before .count .ensures); barriers-one = omega arith },
+      λ cells log z R. else-done n z (g .s) regs cells log (g .saved .now) (g .openers .now) R (c .before .before .before .minus .result) (c .before .count .result) (g .s .depth) (g .s .row) (g .s .mask) _ refl refl refl (c .before .before .before .before .before .pre .1) (c .before .before .before .before .before .pre .2) refl (c .before .before .before .minus .ensures) (c .before .count .ensures .0),
+    )
+
+pub else-row-spec : {M : Type 1} → statement M
+else-row-spec =
+    tie.close
+    (tie.spec
+    sub-m
+    mul-m
+    element-copy-out-m
+    sub-openers
+    mul-openers
+    element-write-openers
+    add-t8
+    minus-requires
+    add-t15
+    count-requires
+    add-t17
+    returns)

@@ -1,0 +1,198 @@
+// The rows of constructs, and BARRIER. Masks are saved on entry, with the construct's row beside them.
+ghost use mathlib.Core.Path.{_≡_};
+ghost use Prim.Native.Nat.{ℕ, _<_, _≤_};
+ghost use Rattle.layout.proofs.Represents.{Room, Becomes, ifOn, ElseBecomes, EndifBecomes, RoomForWhile, EnteredWhile, WhileBecomes, EndwhileBecomes, DepthAsks, ConstructDone, BarrierDone, movedOn};
+
+fn if_row(
+    regs: &[u32; 512],
+    saved: &mut [u32; 8],
+    openers: &mut [usize; 8],
+    n: u32,
+    a: usize,
+    s: layout::State,
+) -> layout::State
+    requires { ⌜ Room s × (n ≤ 32) × (a < 16) × (s .depth < 8) ⌝ }
+    ensures { λ r. ⌜ Becomes (ifOn a) n (now (regs .entry)) s (now (saved .entry)) (now (openers .entry)) r (now (saved .exit)) (now (openers .exit)) ⌝ }
+{
+    let depth = s.depth;
+    let row = s.row;
+    let mask = s.mask;
+    saved[depth] = mask;
+    openers[depth] = row;
+    let h = memory::holding(regs, n, mask, a);
+    layout::State {
+        row: row + 1,
+        mask: h,
+        depth: depth + 1,
+        rows: s.rows + 1,
+        steps: s.steps + masks::count(mask),
+        barriers: s.barriers,
+    }
+}
+
+fn else_row(saved: &[u32; 8], openers: &mut [usize; 8], s: layout::State) -> layout::State
+    requires { ⌜ Room s × (0 < s .depth) × (s .depth ≤ 8) ⌝ }
+    ensures { λ r. ⌜ ElseBecomes s (now (saved .entry)) (now (openers .entry)) r (now (openers .exit)) ⌝ }
+{
+    let depth = s.depth;
+    let row = s.row;
+    let mask = s.mask;
+    let m = saved[depth - 1];
+    openers[depth - 1] = row;
+    layout::State {
+        row: row + 1,
+        mask: masks::minus(m, mask),
+        depth: depth,
+        rows: s.rows + 1,
+        steps: s.steps + masks::count(mask),
+        barriers: s.barriers,
+    }
+}
+
+fn endif_row(saved: &[u32; 8], s: layout::State) -> layout::State
+    requires { ⌜ Room s × (0 < s .depth) × (s .depth ≤ 8) ⌝ }
+    ensures { λ r. ⌜ EndifBecomes s (now (saved .entry)) r ⌝ }
+{
+    let depth = s.depth;
+    let m = saved[depth - 1];
+    layout::State {
+        row: s.row + 1,
+        mask: m,
+        depth: depth - 1,
+        rows: s.rows + 1,
+        steps: s.steps + masks::count(m),
+        barriers: s.barriers,
+    }
+}
+
+// The depth with the WHILE's own saved mask, which is put there when the WHILE is come to from above.
+fn enter_while(saved: &mut [u32; 8], openers: &mut [usize; 8], s: layout::State) -> usize
+    requires { ⌜ RoomForWhile s (now openers) ⌝ }
+    ensures { λ r. ⌜ EnteredWhile r s (now (saved .entry)) (now (openers .entry)) (now (saved .exit)) (now (openers .exit)) ⌝ }
+{
+    let depth = s.depth;
+    let row = s.row;
+    if 0 < depth {
+        if openers[depth - 1] == row {
+            return depth;
+        }
+    }
+    saved[depth] = s.mask;
+    openers[depth] = row;
+    depth + 1
+}
+
+fn while_row(
+    regs: &[u32; 512],
+    saved: &mut [u32; 8],
+    openers: &mut [usize; 8],
+    n: u32,
+    a: usize,
+    end: usize,
+    s: layout::State,
+) -> layout::State
+    requires { ⌜ Room s × (n ≤ 32) × (a < 16) × (end < 256) × RoomForWhile s (now openers) ⌝ }
+    ensures { λ r. ⌜ WhileBecomes n a end (now (regs .entry)) s (now (saved .entry)) (now (openers .entry)) r (now (saved .exit)) (now (openers .exit)) ⌝ }
+{
+    let row = s.row;
+    let mask = s.mask;
+    let depth = enter_while(saved, openers, s);
+    let k = masks::count(mask);
+    let h = memory::holding(regs, n, mask, a);
+    if h == 0 {
+        let m = saved[depth - 1];
+        return layout::State {
+            row: end + 1,
+            mask: m,
+            depth: depth - 1,
+            rows: s.rows + 1,
+            steps: s.steps + k,
+            barriers: s.barriers,
+        };
+    }
+    layout::State {
+        row: row + 1,
+        mask: h,
+        depth: depth,
+        rows: s.rows + 1,
+        steps: s.steps + k,
+        barriers: s.barriers,
+    }
+}
+
+fn endwhile_row(openers: &[usize; 8], s: layout::State) -> layout::State
+    requires { ⌜ Room s × (0 < s .depth) × (s .depth ≤ 8) ⌝ }
+    ensures { λ r. ⌜ EndwhileBecomes s (now (openers .entry)) r ⌝ }
+{
+    let depth = s.depth;
+    layout::State {
+        row: openers[depth - 1],
+        mask: s.mask,
+        depth: depth,
+        rows: s.rows + 1,
+        steps: s.steps + masks::count(s.mask),
+        barriers: s.barriers,
+    }
+}
+
+pub fn construct_row(
+    regs: &[u32; 512],
+    saved: &mut [u32; 8],
+    openers: &mut [usize; 8],
+    n: u32,
+    op: u8,
+    a: usize,
+    end: usize,
+    s: layout::State,
+) -> layout::State
+    requires { ⌜ Room s × (n ≤ 32) × (end < 256) × (32 ≤ op) × (op ≤ 36) × ((op ≡ 32 → a < 16) × (op ≡ 35 → a < 16)) × DepthAsks op s (now openers) ⌝ }
+    ensures { λ r. ⌜ ConstructDone op n a end (now (regs .entry)) s (now (saved .entry)) (now (openers .entry)) r (now (saved .exit)) (now (openers .exit)) ⌝ }
+{
+    match op {
+        32 => if_row(regs, saved, openers, n, a, s),
+        33 => else_row(saved, openers, s),
+        34 => endif_row(saved, s),
+        35 => while_row(regs, saved, openers, n, a, end, s),
+        _ => endwhile_row(openers, s),
+    }
+}
+
+pub fn moved(s: layout::State, k: u32) -> layout::State
+    requires { ⌜ Room s × (k ≤ 32) ⌝ }
+    ensures { λ r. ⌜ r ≡ movedOn s k ⌝ }
+{
+    layout::State {
+        row: s.row + 1,
+        mask: s.mask,
+        depth: s.depth,
+        rows: s.rows + 1,
+        steps: s.steps + k,
+        barriers: s.barriers,
+    }
+}
+
+pub fn barrier_row(log: &mut [u32], n: u32, s: layout::State) -> layout::Next
+    requires { ⌜ Room s × (n ≤ 32) ⌝ }
+    ensures { λ r. ⌜ BarrierDone n s (now (log .entry)) r (now (log .exit)) ⌝ }
+{
+    let mask = s.mask;
+    if mask == 0 {
+        return layout::Next::Go(moved(s, 0));
+    }
+    let all = masks::all(n);
+    if mask == all {
+        memory::clear(log);
+        return layout::Next::Go(layout::State {
+            row: s.row + 1,
+            mask: mask,
+            depth: s.depth,
+            rows: s.rows + 1,
+            steps: s.steps,
+            barriers: s.barriers + 1,
+        });
+    }
+    layout::Next::Stop(
+        spec::Verdict::Diverged(masks::lowest(mask), masks::lowest(masks::minus(all, mask))),
+        s,
+    )
+}
