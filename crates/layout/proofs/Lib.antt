@@ -7,3 +7,4 @@ pub mod Holding
 pub mod Represents
 pub mod Saving
 pub mod PlainRows
+pub mod Running

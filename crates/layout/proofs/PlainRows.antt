@@ -18,7 +18,7 @@ counted-moved s r k e h = subst (Counted s) (sym e) (record { rows-one = refl; s
 
 pub counts-accessed : (s : State) (r : Next) (a : Access) (k : ℕ) → r ≡ accessed s a k → k ≤ 32 → Counts s r
 counts-accessed s r Done k e h = subst (Counts s) (sym e) (counted-moved s (movedOn s k) k refl h)
-counts-accessed s r (Stop v) k e h = subst (Counts s) (sym e) tt
+counts-accessed s r (Stop v) k e h = subst (Counts s) (sym e) refl
 
 pub memory-advance : (n r : ℕ) (m : Mask) (v : List Saved) (z : LockState) (regs cells log : List ℕ) → Memory n z regs cells log → Memory n (advance r m v z) regs cells log
 unfolding advance

@@ -36,7 +36,7 @@ pub record Represents (n : ℕ) (z : LockState) (s : State) (regs cells log save
   pub steps-is : s .steps ≡ z .steps
   pub barriers-is : s .barriers ≡ z .barriers
 
--- There is room for one more row; and what a row adds at most.
+-- There is room for one more row; and what a row adds at most. A row that stops stays where it is.
 pub record Room (s : State) : Type 0 where
   pub row-few : s .row < 256
   pub rows-few : s .rows < 1000000
@@ -50,7 +50,7 @@ pub record Counted (s r : State) : Type 0 where
 
 abbrev pub Counts : State → Next → Type 0
 Counts s (next.Go r) = Counted s r
-Counts s (next.Stop v r) = Unit {0}
+Counts s (next.Stop v r) = r .row ≡ s .row
 
 -- After a row whose threads took k steps: the next row; and the same row, where it stopped.
 abbrev pub movedOn : State → ℕ → State

@@ -61,7 +61,7 @@ lowest-requires-2 c κs = search needs
 returns-3 : tie.Need-returns-3
 returns-3 c =
     let g = c .before .before .before .before .before .before .before .args in
-    (tt, λ regs cells saved openers z R. barrier-stops (g .n) z (g .s) regs cells (g .log .now) saved openers R (c .before .before .before .before .all .result) (c .before .before .lowest .result) (c .before .minus .result) (c .lowest2 .result) (c .before .before .before .before .before .if1 .left) (c .before .before .before .before .all .ensures) (c .before .before .before .if2 .left) (c .before .before .lowest .ensures .0) (c .before .minus .ensures) (c .lowest2 .ensures .0))
+    (refl, λ regs cells saved openers z R. barrier-stops (g .n) z (g .s) regs cells (g .log .now) saved openers R (c .before .before .before .before .all .result) (c .before .before .lowest .result) (c .before .minus .result) (c .lowest2 .result) (c .before .before .before .before .before .if1 .left) (c .before .before .before .before .all .ensures) (c .before .before .before .if2 .left) (c .before .before .lowest .ensures .0) (c .before .minus .ensures) (c .lowest2 .ensures .0))
 
 pub barrier-row-spec : {M : Type 1} → statement M
 barrier-row-spec =

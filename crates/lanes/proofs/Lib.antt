@@ -1,0 +1,4 @@
+pub mod Filling
+pub mod Putting
+pub mod Ops
+pub mod Turns

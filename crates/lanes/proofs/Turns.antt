@@ -1,0 +1,136 @@
+-- The turns of a computing row's threads, one after the other, leave in the registers what the lanes hold. Assumes nothing.
+use mathlib.Core.Path.{_≡_, refl, sym, _∙_, ap, ap₂, subst, subst₂}
+use mathlib.Core.List.{List, []}
+use Prim.Native.Nat.{ℕ, zero, suc, _+_, _*_, _/_, _%_, _^_, _<_, _≤_}
+use native.Mathlib.Nat.{le-refl}
+use native.Mathlib.Numerals.{add-one}
+use native.Mathlib.Omega.{arith}
+use native.Mathlib.Decide.{ℕ-discrete}
+use lib.Count.{ones}
+use lib.Pow.{shr-shr}
+use lib.ListN.{length, getD, set}
+use lib.Seq.{set-getD}
+use Rattle.spec.specs.Mask.{maskWord, members}
+use Rattle.spec.specs.Op.{Calc, CALC, opOf, value}
+use Rattle.spec.specs.Table.{Row}
+use Rattle.spec.specs.LockStep.{LockState, Step, inTurn, computeTurn, setReg, update, reg}
+use Rattle.layout.specs.declared.Access.{Access}
+use Rattle.layout.specs.declared.Access.the-variants.{Done}
+use Rattle.layout.proofs.Memory.{Regs, Memory, Did, OneTurn, ComputeAsks, ComputeAll}
+use Rattle.layout.proofs.Buffers.{regs-set}
+use Rattle.layout.proofs.Turning.{Turning, turn-start, turn-in, turn-out, turn-whole}
+use Rattle.lanes.specs.Lanes.{Puts, lane, chosen, ByRow}
+use Rattle.lanes.proofs.Putting.{puts-none, puts-old, puts-more, puts-agree, chosen-in, chosen-off}
+
+-- Buffers that are the same where registers stand are those of the same state.
+did-alike : (n k : ℕ) (s : LockState) (o : Step) (regs regs′ cells log : List ℕ) → length regs′ ≡ 512 → ((t r : ℕ) → t < n → lane r regs′ t ≡ lane r regs t)
+    → Did n k s o Done regs cells log → Did n k s o Done regs′ cells log
+did-alike n k s o regs regs′ cells log l e D =
+    let M = D .memory in
+    let R = M .regs-are in
+    record {
+      answer = D .answer;
+      memory = record {
+        few = M .few;
+        regs-are = record { size = l; threads = R .threads; sixteen = R .sixteen; at = λ t r h q. e t r h ∙ R .at t r h q };
+        cells-are = M .cells-are;
+        log-is = M .log-is;
+      };
+      kept = D .kept;
+    }
+
+module _ (c : Calc) (n : ℕ) (x : Row) where
+  turn : LockState → ℕ → Step
+  turn = computeTurn x (λ t p q. value c n t (x .a) (x .b) p q)
+
+  one-turn : (t y : ℕ) (regs cells log : List ℕ) → t < n → x .d < 16
+      → ((s : LockState) → Memory n s regs cells log → value c n t (x .a) (x .b) (reg s t (x .a)) (reg s t (x .b)) ≡ y)
+      → OneTurn turn n t regs cells log Done (set regs (x .d * 32 + t) y) cells log
+  unfolding turn computeTurn setReg update
+  one-turn t y regs cells log h l e s M =
+      record {
+        answer = refl;
+        memory = record {
+          few = M .few;
+          regs-are =
+              subst (λ z. Regs n (set (s .regs) t (set (getD (s .regs) t []) (x .d) z)) (set regs (x .d * 32 + t) y)) (sym (e s M))
+              (regs-set n (s .regs) regs (M .regs-are) t (x .d) y (M .few) h l);
+          cells-are = M .cells-are;
+          log-is = M .log-is;
+        };
+        kept = record { row-same = refl; enabled-same = refl; saved-same = refl; rows-same = refl; barriers-same = refl; steps-more = omega arith };
+      }
+
+module _ {op n d a b k : ℕ} {regs v : List ℕ} (mask : ℕ) (A : ComputeAsks op d a b) (B : ByRow op n a b k regs v) where
+  -- Lane t of register d after the row.
+  abbrev new : ℕ → ℕ
+  new = chosen v mask d regs
+
+  -- The registers after the turns of the threads below t.
+  after : ℕ → List ℕ
+  after zero = regs
+  after (suc t) = set (after t) (d * 32 + t) (new t)
+
+  after-puts : (t : ℕ) → t ≤ 32 → Puts d new regs (after t) t
+  unfolding after
+  after-puts zero h = puts-none d new regs
+  after-puts (suc t) h =
+      subst (Puts d new regs (after (suc t))) (add-one t) (puts-more d new regs (after t) t (after-puts t (omega arith)) (new t) (A .target) (omega arith) refl)
+
+  module _ (c : Calc) (x : Row) (o : opOf op ≡ CALC c) (ed : x .d ≡ d) (ea : x .a ≡ a) (eb : x .b ≡ b) (ek : k ≡ a + 256 * b)
+      (cells log : List ℕ) (s : LockState) (em : mask ≡ maskWord (s .enabled)) (el : length (s .enabled) ≡ n) (M : Memory n s regs cells log) where
+    -- Register r of thread t, before its turn.
+    reg-is : (t r i : ℕ) → t < n → i ≡ r → r < 16 → (z : LockState) → Memory n z (after t) cells log → reg z t i ≡ lane r regs t
+    unfolding reg
+    reg-is t r i h e l z Z =
+        ap (λ j. getD (getD (z .regs) t []) j 0) e ∙ sym (Z .regs-are .at t r h l)
+        ∙ after-puts t (omega (arith, M .few)) .above (r * 32 + t) (λ j k q. omega (arith, M .few))
+
+    turn-of : (t : ℕ) → t < n → mask / 2 ^ t % 2 ≡ 1 → OneTurn (turn c n x) n t (after t) cells log Done (after (suc t)) cells log
+    unfolding after
+    turn-of t h q =
+        subst (λ i. OneTurn (turn c n x) n t (after t) cells log Done (set (after t) (i * 32 + t) (new t)) cells log) ed
+        (one-turn c n x t (new t) (after t) cells log h (omega (arith, ed, A .target)) (λ z Z.
+        ap₂ (λ i j. value c n t i j (reg z t (x .a)) (reg z t (x .b))) ea eb
+        ∙ sym (B .at c o ek t (reg z t (x .a)) (reg z t (x .b)) (omega (arith, M .few))
+        (λ m. reg-is t a (x .a) h ea (A .left m) z Z) (λ m. reg-is t b (x .b) h eb (A .right m) z Z))
+        ∙ chosen-in v mask d regs t q))
+
+    -- A thread that is not enabled keeps its register.
+    turn-off : (t : ℕ) → t < n → (mask / 2 ^ t % 2 ≡ 1 → ⊥) → after t ≡ after (suc t)
+    unfolding after
+    turn-off t h q =
+        sym (ap (set (after t) (d * 32 + t)) (sym (puts-old d new regs (after t) t (after-puts t (omega (arith, M .few))) ∙ chosen-off v mask d regs t q)) ∙ set-getD (after t) (d * 32 + t) 0)
+
+    step : (j t : ℕ) (rs : List ℕ) → Turning (turn c n x) n s j (t + 1) (mask / 2 ^ t / 2) rs cells log → Turning (turn c n x) n s j (suc t) (mask / 2 ^ suc t) rs cells log
+    step j t rs T = subst₂ (λ i m. Turning (turn c n x) n s j i m rs cells log) (add-one t) (shr-shr mask t 1 ∙ ap (λ i. mask / 2 ^ i) (add-one t)) T
+
+    turns : (t : ℕ) → t ≤ n → (j : ℕ) × Turning (turn c n x) n s j t (mask / 2 ^ t) (after t) cells log
+    unfolding after
+    turns zero h =
+        (0, subst (λ m. Turning (turn c n x) n s 0 0 m regs cells log) (let e : mask ≡ mask / 1 = omega arith in e) (turn-start (turn c n x) n s mask regs cells log em el M))
+    turns (suc t) h = by (turns t (omega arith)) (ℕ-discrete (mask / 2 ^ t % 2) 1)
+      where
+        by : (j : ℕ) × Turning (turn c n x) n s j t (mask / 2 ^ t) (after t) cells log → Dec (mask / 2 ^ t % 2 ≡ 1)
+            → (j : ℕ) × Turning (turn c n x) n s j (suc t) (mask / 2 ^ suc t) (after (suc t)) cells log
+        by T (yes q) =
+            (T .0 + 1, step (T .0 + 1) t (after (suc t)) (turn-in (turn c n x) n s (T .0) t (mask / 2 ^ t) (after t) cells log (T .1) (after (suc t)) cells log h q (turn-of t h q)))
+        by T (no q) = (
+          T .0,
+          subst (λ rs. Turning (turn c n x) n s (T .0) (suc t) (mask / 2 ^ suc t) rs cells log) (turn-off t h q)
+              (step (T .0) t (after t) (turn-out (turn c n x) n s (T .0) t (mask / 2 ^ t) (after t) cells log (T .1) h q)),
+        )
+
+    row-did : Did n (ones mask) s (inTurn (turn c n x) (members (s .enabled)) s) Done (after n) cells log
+    row-did =
+        let T = turns n (le-refl n) in
+        turn-whole (turn c n x) n s (T .0) n (mask / 2 ^ n) (after n) cells log (T .1) mask (ones mask) em refl (le-refl n)
+
+  -- The code's row: what it put into the lanes is v's under the mask.
+  pub row-done : {G : ℕ → ℕ} {regs′ : List ℕ} → Puts d G regs regs′ 32 → ((t : ℕ) → t < 32 → G t ≡ new t) → ComputeAll op n mask d a b k regs regs′
+  unfolding turn
+  row-done {G} {regs′} P same c x o ed ea eb ek cells log s em el M =
+      let size = M .regs-are .size in
+      did-alike n (ones mask) s (inTurn (turn c n x) (members (s .enabled)) s) (after n) regs′ cells log (P .size ∙ size)
+      (puts-agree d n G new regs regs′ (after n) size (M .few) P (after-puts n (M .few)) (λ t h. same t (omega (arith, M .few))))
+      (row-did c x o ed ea eb ek cells log s em el M)

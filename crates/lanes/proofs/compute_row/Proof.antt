@@ -1,0 +1,32 @@
+-- `lanes::compute_row` does what the turns of the row's enabled threads do, one after the other. Assumes nothing.
+use mathlib.Core.Path.{refl}
+use borrow.Author.Needs.{needs}
+use Rattle.lanes.proofs.Putting.{chosen-all}
+use Rattle.lanes.proofs.Turns.{row-done}
+use Rattle.lanes.proofs.compute_row.Statement.{statement}
+use Rattle.lanes.proofs.compute_row.Tie as tie
+
+value-lanes-requires : tie.Need-value-lanes-requires
+value-lanes-requires c κs = search needs
+
+put-all-requires : tie.Need-put-all-requires
+put-all-requires c κs = search needs
+
+put-requires : tie.Need-put-requires
+put-requires c κs = search needs
+
+returns : tie.Need-returns
+returns c =
+    let s = c .before .before .before .before .before in
+    let g = s .args in
+    let v = c .before .before .before .value-lanes in
+    row-done (g .mask) (s .pre .1) (v .ensures) (c .put-all .ensures) (λ t. chosen-all (v .result) (g .mask) (g .d) (g .regs .now) t (c .before .before .if1 .taken))
+
+returns-2 : tie.Need-returns-2
+returns-2 c =
+    let s = c .before .before .before .before .before in
+    row-done (s .args .mask) (s .pre .1) (c .before .before .before .value-lanes .ensures) (c .put .ensures) (λ t h. refl)
+
+pub compute-row-spec : {M : Type 1} → statement M
+compute-row-spec =
+    tie.close (tie.spec value-lanes-requires put-all-requires put-requires returns returns-2)

@@ -1,0 +1,31 @@
+-- `lanes::or_lanes` gives the lanes of OR. Assumes nothing.
+use Prim.Native.Nat.{_-_}
+use lib.Bits.{bitOr}
+use Rattle.lanes.specs.Lanes.{Filled, zip}
+use Rattle.lanes.proofs.Filling.{filling}
+use Rattle.lanes.proofs.or_lanes.Statement.{statement}
+use Rattle.lanes.proofs.or_lanes.Tie as tie
+
+abbrev Inv-loop : tie.InvT-loop
+Inv-loop p q v₀ t₀ v t = Filled (zip bitOr p q) v t
+
+abbrev μ-loop : tie.MeasureT-loop
+μ-loop p q v₀ t₀ v t = 32 - t
+
+pub or-lanes-spec : {M : Type 1} → statement M
+or-lanes-spec =
+    tie.close
+    (tie.spec
+    Inv-loop
+    μ-loop
+    (λ c. search filling)
+    (λ c. search filling)
+    (λ c. search filling)
+    (λ c. search filling)
+    (λ c. search filling)
+    (λ c. search filling)
+    (λ c. search filling)
+    (λ c. search filling)
+    (λ c. search filling)
+    (λ c. search filling)
+    (λ c. search filling))

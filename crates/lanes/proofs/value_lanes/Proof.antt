@@ -1,0 +1,44 @@
+-- `lanes::value_lanes` gives what a computing row gives each thread. Assumes nothing.
+use native.Mathlib.Omega.{arith}
+use borrow.Author.Needs.{needs}
+use Rattle.lanes.proofs.Ops.{by-set, by-tid, by-count, by-registers}
+use Rattle.lanes.proofs.value_lanes.Statement.{statement}
+use Rattle.lanes.proofs.value_lanes.Tie as tie
+
+returns : tie.Need-returns
+returns c = by-set (c .if2 .taken)
+
+threads-requires : tie.Need-threads-requires
+threads-requires c κs = search needs
+
+returns-2 : tie.Need-returns-2
+returns-2 c = by-tid (c .before .if3 .taken) (c .threads .ensures)
+
+returns-3 : tie.Need-returns-3
+returns-3 c = by-count (omega arith)
+
+lanes-of-requires : tie.Need-lanes-of-requires
+lanes-of-requires c κs = c .before .pre .left (c .if1 .left)
+
+lanes-of-requires-2 : tie.Need-lanes-of-requires-2
+lanes-of-requires-2 c κs = c .before .before .pre .right (c .before .if1 .left)
+
+alu-lanes-requires : tie.Need-alu-lanes-requires
+alu-lanes-requires c κs = search needs
+
+returns-4 : tie.Need-returns-4
+returns-4 c =
+    by-registers (c .before .before .before .if1 .left) (c .alu-lanes .ensures) (c .before .before .lanes-of .ensures) (c .before .lanes-of2 .ensures)
+
+pub value-lanes-spec : {M : Type 1} → statement M
+value-lanes-spec =
+    tie.close
+    (tie.spec
+    returns
+    threads-requires
+    returns-2
+    returns-3
+    lanes-of-requires
+    lanes-of-requires-2
+    alu-lanes-requires
+    returns-4)

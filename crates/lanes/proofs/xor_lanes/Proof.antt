@@ -1,0 +1,31 @@
+-- `lanes::xor_lanes` gives the lanes of XOR. Assumes nothing.
+use Prim.Native.Nat.{_-_}
+use lib.Bits.{bitXor}
+use Rattle.lanes.specs.Lanes.{Filled, zip}
+use Rattle.lanes.proofs.Filling.{filling}
+use Rattle.lanes.proofs.xor_lanes.Statement.{statement}
+use Rattle.lanes.proofs.xor_lanes.Tie as tie
+
+abbrev Inv-loop : tie.InvT-loop
+Inv-loop p q v₀ t₀ v t = Filled (zip bitXor p q) v t
+
+abbrev μ-loop : tie.MeasureT-loop
+μ-loop p q v₀ t₀ v t = 32 - t
+
+pub xor-lanes-spec : {M : Type 1} → statement M
+xor-lanes-spec =
+    tie.close
+    (tie.spec
+    Inv-loop
+    μ-loop
+    (λ c. search filling)
+    (λ c. search filling)
+    (λ c. search filling)
+    (λ c. search filling)
+    (λ c. search filling)
+    (λ c. search filling)
+    (λ c. search filling)
+    (λ c. search filling)
+    (λ c. search filling)
+    (λ c. search filling)
+    (λ c. search filling))

@@ -1,0 +1,270 @@
+// A computing row over all 32 lanes at once, lane t being thread t's: straight loops, then a store under the mask.
+ghost use Prim.Native.Nat.{_<_, _≤_};
+ghost use lib.Bits.{bitAnd, bitOr, bitXor};
+ghost use lib.ListN.{getD};
+ghost use Rattle.spec.specs.Word.{add, sub, mul, shr, sar, equal, less, signedLess};
+ghost use Rattle.layout.proofs.Memory.{ComputeAsks, ComputeAll};
+ghost use Rattle.lanes.specs.Lanes.{Filled, Puts, lane, zip, chosen, ByOp, ByRow};
+
+// Register r of all threads.
+fn lanes_of(regs: &[u32; 512], r: usize) -> [u32; 32]
+    requires { ⌜ r < 16 ⌝ }
+    ensures { λ v. ⌜ Filled (lane r (now (regs .entry))) v 32 ⌝ }
+{
+    let mut v: [u32; 32] = [0; 32];
+    let mut t = 0;
+    while t < 32 {
+        v[t] = regs[r * 32 + t];
+        t += 1;
+    }
+    v
+}
+
+fn threads() -> [u32; 32]
+    ensures { λ v. ⌜ Filled (λ t. t) v 32 ⌝ }
+{
+    let mut v: [u32; 32] = [0; 32];
+    let mut t = 0;
+    while t < 32 {
+        v[t] = t as u32;
+        t += 1;
+    }
+    v
+}
+
+// The lanes of the mask go to register d.
+fn put(regs: &mut [u32; 512], d: usize, v: [u32; 32], mask: u32)
+    requires { ⌜ d < 16 ⌝ }
+    ensures { λ _. ⌜ Puts d (chosen v mask d (now (regs .entry))) (now (regs .entry)) (now (regs .exit)) 32 ⌝ }
+{
+    let mut t = 0;
+    while t < 32 {
+        let i = d * 32 + t;
+        let old = regs[i];
+        regs[i] = if (mask >> t) % 2 == 1 { v[t] } else { old };
+        t += 1;
+    }
+}
+
+fn put_all(regs: &mut [u32; 512], d: usize, v: [u32; 32])
+    requires { ⌜ d < 16 ⌝ }
+    ensures { λ _. ⌜ Puts d (λ t. getD v t 0) (now (regs .entry)) (now (regs .exit)) 32 ⌝ }
+{
+    let mut t = 0;
+    while t < 32 {
+        regs[d * 32 + t] = v[t];
+        t += 1;
+    }
+}
+
+fn add_lanes(p: [u32; 32], q: [u32; 32]) -> [u32; 32]
+    ensures { λ v. ⌜ Filled (zip (λ x y. add x y) p q) v 32 ⌝ }
+{
+    let mut v: [u32; 32] = [0; 32];
+    let mut t = 0;
+    while t < 32 {
+        let x = p[t];
+        let y = q[t];
+        v[t] = words::add(x, y);
+        t += 1;
+    }
+    v
+}
+
+fn sub_lanes(p: [u32; 32], q: [u32; 32]) -> [u32; 32]
+    ensures { λ v. ⌜ Filled (zip (λ x y. sub x y) p q) v 32 ⌝ }
+{
+    let mut v: [u32; 32] = [0; 32];
+    let mut t = 0;
+    while t < 32 {
+        let x = p[t];
+        let y = q[t];
+        v[t] = words::sub(x, y);
+        t += 1;
+    }
+    v
+}
+
+fn mul_lanes(p: [u32; 32], q: [u32; 32]) -> [u32; 32]
+    ensures { λ v. ⌜ Filled (zip (λ x y. mul x y) p q) v 32 ⌝ }
+{
+    let mut v: [u32; 32] = [0; 32];
+    let mut t = 0;
+    while t < 32 {
+        let x = p[t];
+        let y = q[t];
+        v[t] = words::mul(x, y);
+        t += 1;
+    }
+    v
+}
+
+fn and_lanes(p: [u32; 32], q: [u32; 32]) -> [u32; 32]
+    ensures { λ v. ⌜ Filled (zip (λ x y. bitAnd x y) p q) v 32 ⌝ }
+{
+    let mut v: [u32; 32] = [0; 32];
+    let mut t = 0;
+    while t < 32 {
+        let x = p[t];
+        let y = q[t];
+        v[t] = x & y;
+        t += 1;
+    }
+    v
+}
+
+fn or_lanes(p: [u32; 32], q: [u32; 32]) -> [u32; 32]
+    ensures { λ v. ⌜ Filled (zip (λ x y. bitOr x y) p q) v 32 ⌝ }
+{
+    let mut v: [u32; 32] = [0; 32];
+    let mut t = 0;
+    while t < 32 {
+        let x = p[t];
+        let y = q[t];
+        v[t] = x | y;
+        t += 1;
+    }
+    v
+}
+
+fn xor_lanes(p: [u32; 32], q: [u32; 32]) -> [u32; 32]
+    ensures { λ v. ⌜ Filled (zip (λ x y. bitXor x y) p q) v 32 ⌝ }
+{
+    let mut v: [u32; 32] = [0; 32];
+    let mut t = 0;
+    while t < 32 {
+        let x = p[t];
+        let y = q[t];
+        v[t] = x ^ y;
+        t += 1;
+    }
+    v
+}
+
+fn shr_lanes(p: [u32; 32], q: [u32; 32]) -> [u32; 32]
+    ensures { λ v. ⌜ Filled (zip (λ x y. shr x y) p q) v 32 ⌝ }
+{
+    let mut v: [u32; 32] = [0; 32];
+    let mut t = 0;
+    while t < 32 {
+        let x = p[t];
+        let y = q[t];
+        v[t] = words::shr(x, y);
+        t += 1;
+    }
+    v
+}
+
+fn sar_lanes(p: [u32; 32], q: [u32; 32]) -> [u32; 32]
+    ensures { λ v. ⌜ Filled (zip (λ x y. sar x y) p q) v 32 ⌝ }
+{
+    let mut v: [u32; 32] = [0; 32];
+    let mut t = 0;
+    while t < 32 {
+        let x = p[t];
+        let y = q[t];
+        v[t] = words::sar(x, y);
+        t += 1;
+    }
+    v
+}
+
+fn eq_lanes(p: [u32; 32], q: [u32; 32]) -> [u32; 32]
+    ensures { λ v. ⌜ Filled (zip (λ x y. equal x y) p q) v 32 ⌝ }
+{
+    let mut v: [u32; 32] = [0; 32];
+    let mut t = 0;
+    while t < 32 {
+        let x = p[t];
+        let y = q[t];
+        v[t] = words::eq(x, y);
+        t += 1;
+    }
+    v
+}
+
+fn lt_lanes(p: [u32; 32], q: [u32; 32]) -> [u32; 32]
+    ensures { λ v. ⌜ Filled (zip (λ x y. less x y) p q) v 32 ⌝ }
+{
+    let mut v: [u32; 32] = [0; 32];
+    let mut t = 0;
+    while t < 32 {
+        let x = p[t];
+        let y = q[t];
+        v[t] = words::lt(x, y);
+        t += 1;
+    }
+    v
+}
+
+fn slt_lanes(p: [u32; 32], q: [u32; 32]) -> [u32; 32]
+    ensures { λ v. ⌜ Filled (zip (λ x y. signedLess x y) p q) v 32 ⌝ }
+{
+    let mut v: [u32; 32] = [0; 32];
+    let mut t = 0;
+    while t < 32 {
+        let x = p[t];
+        let y = q[t];
+        v[t] = words::slt(x, y);
+        t += 1;
+    }
+    v
+}
+
+fn alu_lanes(op: u8, x: [u32; 32], y: [u32; 32]) -> [u32; 32]
+    requires { ⌜ (4 ≤ op) × (op ≤ 14) ⌝ }
+    ensures { λ v. ⌜ ByOp op x y v ⌝ }
+{
+    match op {
+        4 => add_lanes(x, y),
+        5 => sub_lanes(x, y),
+        6 => mul_lanes(x, y),
+        7 => and_lanes(x, y),
+        8 => or_lanes(x, y),
+        9 => xor_lanes(x, y),
+        10 => shr_lanes(x, y),
+        11 => sar_lanes(x, y),
+        12 => eq_lanes(x, y),
+        13 => lt_lanes(x, y),
+        _ => slt_lanes(x, y),
+    }
+}
+
+// SET, TID and COUNT read no register.
+fn value_lanes(regs: &[u32; 512], n: u32, op: u8, a: usize, b: usize, k: u32) -> [u32; 32]
+    requires { ⌜ ComputeAsks op 0 a b ⌝ }
+    ensures { λ v. ⌜ ByRow op n a b k (now (regs .entry)) v ⌝ }
+{
+    if op < 4 {
+        if op == 1 {
+            return [k; 32];
+        }
+        if op == 2 {
+            return threads();
+        }
+        return [n; 32];
+    }
+    alu_lanes(op, lanes_of(regs, a), lanes_of(regs, b))
+}
+
+// k is the constant of SET's bytes a and b.
+pub fn compute_row(
+    regs: &mut [u32; 512],
+    n: u32,
+    mask: u32,
+    op: u8,
+    d: usize,
+    a: usize,
+    b: usize,
+    k: u32,
+)
+    requires { ⌜ (n ≤ 32) × ComputeAsks op d a b ⌝ }
+    ensures { λ _. ⌜ ComputeAll op n mask d a b k (now (regs .entry)) (now (regs .exit)) ⌝ }
+{
+    let v = value_lanes(regs, n, op, a, b, k);
+    if mask == 4294967295 {
+        put_all(regs, d, v);
+    } else {
+        put(regs, d, v, mask);
+    }
+}

@@ -1,0 +1,67 @@
+-- What a step and the run ask of a table and its buffers, and what they come to. Assumes nothing.
+use mathlib.Core.Path.{_≡_}
+use mathlib.Core.List.{List}
+use mathlib.Core.Option.{none}
+use Prim.Native.Nat.{ℕ, _+_, _*_, _<_, _≤_}
+use lib.ListN.{length, getD}
+use Rattle.spec.specs.declared.Verdict.{Verdict}
+use Rattle.spec.specs.declared.Outcome.{Outcome}
+use Rattle.spec.specs.Op.{WHILE, opOf}
+use Rattle.spec.specs.Table.{Table, Row, rowsOf, rowAt, endOf}
+use Rattle.spec.specs.TableCheck.{tableRefusal}
+use Rattle.spec.specs.Shape.{Shape}
+use Rattle.spec.specs.Log.{logWords}
+use Rattle.spec.specs.LockStep.{LockState, runRow, LockResult, outcomeOf}
+use Rattle.layout.specs.declared.State.{State}
+use Rattle.layout.specs.declared.Next.{Next}
+use Rattle.layout.proofs.Memory.{ComputeAsks}
+use Rattle.layout.proofs.Represents.{Represents, After, Counts, Room, DepthAsks}
+
+-- What the bytes of a row ask.
+pub record RowAsks (op d a b : ℕ) : Type 0 where
+  pub computes : op < 16 → ComputeAsks op d a b
+  pub accesses : 16 ≤ op → op < 32 → (op ≤ 17) × (d < 16) × (a < 16)
+  pub ifs : op ≡ 32 → a < 16
+  pub whiles : op ≡ 35 → a < 16
+  pub known : op ≤ 37
+
+pub record Ready (table : List ℕ) (n : ℕ) (s : State) (cells log openers : List ℕ) : Type 0 where
+  pub few : n ≤ 32
+  pub inside : s .row * 4 + 3 < length table
+  pub room : Room s
+  pub asks : RowAsks (getD table (s .row * 4) 0) (getD table (s .row * 4 + 1) 0) (getD table (s .row * 4 + 2) 0) (getD table (s .row * 4 + 3) 0)
+  pub depths : DepthAsks (getD table (s .row * 4) 0) s openers
+  pub twice : length log ≡ 2 * length cells
+  pub cells-few : length cells ≤ 1024
+
+-- A table that is not refused, with the rows of its loops' ends.
+pub record Runnable (table ends : List ℕ) : Type 0 where
+  pub few : length (rowsOf table) ≤ 256
+  pub accepted : tableRefusal (rowsOf table) ≡ none
+  pub ends-are : (r : ℕ) → r < length (rowsOf table) → rowAt (rowsOf table) r .op ≡ WHILE → getD ends r 0 ≡ endOf (rowsOf table) r
+
+-- The launch's shape, by the code's numbers.
+abbrev pub shapeBy : (n : ℕ) → (cells : List ℕ) → Shape
+shapeBy n cells = record { threads = n; cells = length cells }
+
+-- What an access row comes to.
+abbrev pub AccessDone : (op n d a : ℕ) (s : State) → (regs cells log : List ℕ) → (r : Next) → (regs′ cells′ log′ : List ℕ) → Type 0
+AccessDone op n d a s regs cells log r regs′ cells′ log′ =
+    Counts s r × ((saved openers : List ℕ) (T : Table) (x : Row) (z : LockState) → x .op ≡ opOf op → x .d ≡ d → x .a ≡ a → Represents n z s regs cells log saved openers
+    → After n (runRow T (shapeBy n cells) x z (x .op)) r regs′ cells′ log′ saved openers)
+
+-- What a step comes to.
+abbrev pub Steps : (table ends : List ℕ) (n : ℕ) (s : State) → (regs cells log saved openers : List ℕ) → (r : Next) → (regs′ cells′ log′ saved′ openers′ : List ℕ) → Type 0
+Steps table ends n s regs cells log saved openers r regs′ cells′ log′ saved′ openers′ =
+    Counts s r × ((z : LockState) → s .row < length (rowsOf table) → (rowAt (rowsOf table) (s .row) .op ≡ WHILE → getD ends (s .row) 0 ≡ endOf (rowsOf table) (s .row)) → Represents n z s regs cells log saved openers
+    → After n (runRow (rowsOf table) (shapeBy n cells) (rowAt (rowsOf table) (z .row)) z (rowAt (rowsOf table) (z .row) .op)) r regs′ cells′ log′ saved′ openers′)
+
+-- What the run comes to: the answer, the cells and the log are those of the definition's result o.
+pub record RunIs (o : LockResult) (r : Outcome) (cells log : List ℕ) : Type 0 where
+  pub outcome-is : r ≡ outcomeOf o
+  pub cells-are : cells ≡ o .state .cells
+  pub log-is : log ≡ logWords (o .state .log)
+
+-- The answer of a run that has ended in this state.
+abbrev pub endedAs : Verdict → State → Outcome
+endedAs v s = record { verdict = v; row = s .row; rows = s .rows; steps = s .steps; barriers = s .barriers }

@@ -1,0 +1,352 @@
+-- The run, one row at a time. Assumes nothing.
+use mathlib.Core.Path.{_≡_, refl, sym, _∙_, ap, subst}
+use mathlib.Core.Logic.{_⊎_, inl, inr, ⊎-elim}
+use mathlib.Core.List.{List, [], _∷_}
+use mathlib.Core.Bool.{true, false}
+use Prim.Native.Nat.{ℕ, zero, suc, _+_, _-_, _*_, _/_, _^_, _<_, _≤_}
+use native.Mathlib.Omega.{arith}
+use native.Mathlib.Decide.{ℕ-discrete}
+use borrow.Author.Tests.{le-leb, lt-leb}
+use lib.ListN.{length, getD, replicate, length-replicate, getD-replicate}
+use Rattle.spec.specs.declared.Verdict.{Verdict}
+use Rattle.spec.specs.declared.Verdict.the-variants.{Passed, Spent}
+use Rattle.spec.specs.declared.Outcome.{Outcome}
+use Rattle.spec.specs.Op.{Op, IF, ELSE, ENDIF, WHILE, ENDWHILE, UNKNOWN, opOf, opTable}
+use Rattle.spec.specs.Table.{Table, rowsOf, Role, opening, role, rowAt, openBefore, openedBy, endOf, innermost, Fits}
+use Rattle.spec.specs.Shape.{Shape, shapeOf}
+use Rattle.spec.specs.LockStep.{Saved, LockState, Step, continues, stops, topOpener, runRow, LockResult, resultOf, runFrom, initialState, lockstep, outcomeOf}
+use Rattle.spec.specs.Threads.{Group, machine, initialGroup}
+use Rattle.spec.specs.Runs.{after}
+use Rattle.structure.proofs.Acceptance.{well-formed, depth-bounded}
+use Rattle.allruns.proofs.Simulation.{Frame, isWhile}
+use Rattle.allruns.proofs.Rows.{Sim, Framed, fresh, again, savedOf, openersOf, framed-fresh, RowDone, Advanced}
+use Rattle.allruns.proofs.BarrierRow.{row-done}
+use Rattle.allruns.proofs.LockRun.{start-sim}
+use Rattle.masks.proofs.Words.{word-all}
+use Rattle.layout.specs.declared.State.{State}
+use Rattle.layout.specs.declared.Next.{Next}
+use Rattle.layout.specs.declared.Next.the-variants as next
+use Rattle.layout.proofs.Memory.{Regs}
+use Rattle.layout.proofs.LogBuffer.{empty-is}
+use Rattle.layout.proofs.Saving.{saves-back}
+use Rattle.layout.proofs.Represents.{Represents, After, Counted, Counts, RoomForWhile}
+use Rattle.layout.proofs.Running.{Ready, Runnable, Steps, RunIs, endedAs, shapeBy}
+use Rattle.run.proofs.Tables.{row-bytes, row-inside, rows-length}
+use Rattle.run.proofs.RowBytes.{row-asks}
+
+-- Between two rows: the code's state stands for some state of the lock-step run, which is simulated by the threads' machine, and from which the rest of the run is the whole run.
+pub record Going (table : List ℕ) (n limit : ℕ) (cells₀ : List ℕ) (s : State) (regs cells log saved openers : List ℕ) : Type 0 where
+  pub here : LockState
+  pub frames : List Frame
+  pub group : Group
+  pub sim : Sim (rowsOf table) (shapeBy n cells₀) here frames group
+  pub rep : Represents n here s regs cells log saved openers
+  pub same : runFrom (rowsOf table) (shapeBy n cells₀) (limit - s .rows) here ≡ lockstep (rowsOf table) n cells₀ limit
+  pub rows-most : s .rows ≤ limit
+  pub steps-few : s .steps ≤ 32 * s .rows
+  pub barriers-few : s .barriers ≤ s .rows
+
+start-regs : (n : ℕ) → n ≤ 32 → Regs n (replicate n (replicate 16 0)) (replicate 512 0)
+start-regs n l =
+    record {
+      size = length-replicate {A = ℕ} 512 0;
+      threads = length-replicate n (replicate 16 0);
+      sixteen = λ t h. ap length (getD-replicate n t (replicate 16 0) [] h) ∙ length-replicate {A = ℕ} 16 0;
+      at = λ t r h q. getD-replicate {A = ℕ} 512 (r * 32 + t) 0 0 (omega arith) ∙ sym (ap (λ x. getD x r 0) (getD-replicate n t (replicate 16 0) [] h) ∙ getD-replicate {A = ℕ} 16 r 0 0 q);
+    }
+
+pub go-start : (table ends : List ℕ) (n limit m : ℕ) (cells log : List ℕ) → Runnable table ends → n ≤ 32 → m ≡ 2 ^ n - 1 → length log ≡ 2 * length cells → (log′ : List ℕ) → log′ ≡ replicate (length log) 0
+    → Going table n limit cells (record { row = 0; mask = m; depth = 0; rows = 0; steps = 0; barriers = 0 }) (replicate 512 0) cells log′ (replicate 8 0) (replicate 8 0)
+unfolding initialState lockstep shapeOf
+go-start table ends n limit m cells log A l em el log′ ez =
+    record {
+      here = initialState n cells;
+      frames = [];
+      group = initialGroup (rowsOf table) (shapeOf n cells) cells;
+      sim = start-sim (rowsOf table) (well-formed (rowsOf table) (A .accepted)) n cells;
+      rep = record {
+        memory = record {
+          few = l;
+          regs-are = start-regs n l;
+          cells-are = refl;
+          log-is = empty-is n (length cells) log′ (ez ∙ ap (λ k. replicate k 0) el);
+        };
+        row-is = refl;
+        enabled-is = em ∙ sym (word-all n);
+        enabled-size = length-replicate n true;
+        depth-is = refl;
+        saves = tt;
+        saved-size = refl;
+        openers-size = refl;
+        rows-is = refl;
+        steps-is = refl;
+        barriers-is = refl;
+      };
+      same = ap (λ k. runFrom (rowsOf table) (shapeBy n cells) k (initialState n cells)) (let z : limit - 0 ≡ limit = omega arith in z);
+      rows-most = omega arith;
+      steps-few = omega arith;
+      barriers-few = omega arith;
+    }
+
+-- How deep a row of an accepted table is.
+saved-length : (fs : List Frame) → length (savedOf fs) ≡ length (openersOf fs)
+saved-length [] = refl
+saved-length (f ∷ fs) = ap suc (saved-length fs)
+
+some-open : (T : Table) (os : List ℕ) → (innermost T os ≡ UNKNOWN → ⊥) → 0 < length os
+unfolding innermost
+some-open T [] h = absurd (h refl)
+some-open T (o ∷ os) h = omega arith
+
+not-while : (o p : Op) → o ≡ p → isWhile p ≡ false → isWhile o ≡ false
+not-while o p e q = ap isWhile e ∙ q
+
+while-if : isWhile IF ≡ false
+unfolding isWhile
+while-if = refl
+
+while-else : isWhile ELSE ≡ false
+unfolding isWhile
+while-else = refl
+
+while-endif : isWhile ENDIF ≡ false
+unfolding isWhile
+while-endif = refl
+
+while-endwhile : isWhile ENDWHILE ≡ false
+unfolding isWhile
+while-endwhile = refl
+
+opens-more : (T : Table) (r : ℕ) → role (rowAt T r .op) ≡ opening → openBefore T (suc r) ≡ r ∷ openBefore T r
+unfolding openBefore openedBy
+opens-more T r e = ap (λ f. openedBy f r (openBefore T r)) e
+
+role-if : (o : Op) → o ≡ IF → role o ≡ opening
+unfolding role
+role-if o e = ap role e
+
+role-while : (o : Op) → o ≡ WHILE → role o ≡ opening
+unfolding role
+role-while o e = ap role e
+
+op-if : opOf 32 ≡ IF
+unfolding opOf opTable
+op-if = refl
+
+op-else : opOf 33 ≡ ELSE
+unfolding opOf opTable
+op-else = refl
+
+op-endif : opOf 34 ≡ ENDIF
+unfolding opOf opTable
+op-endif = refl
+
+op-while : opOf 35 ≡ WHILE
+unfolding opOf opTable
+op-while = refl
+
+op-endwhile : opOf 36 ≡ ENDWHILE
+unfolding opOf opTable
+op-endwhile = refl
+
+clash-if : UNKNOWN ≡ IF → ⊥
+clash-if e = let z : _≡_ {A = ℕ} 0 1 = cc in omega arith
+
+clash-else : UNKNOWN ≡ ELSE → ⊥
+clash-else e = let z : _≡_ {A = ℕ} 0 1 = cc in omega arith
+
+clash-while : UNKNOWN ≡ WHILE → ⊥
+clash-while e = let z : _≡_ {A = ℕ} 0 1 = cc in omega arith
+
+back-cons : (f : Saved) (w : List Saved) → topOpener (f ∷ w) ≡ f .opener
+unfolding topOpener
+back-cons f w = refl
+
+which : (k : ℕ) → 33 ≤ k → k ≤ 36 → (k ≡ 35 → ⊥) → (k ≡ 33) ⊎ ((k ≡ 34) ⊎ (k ≡ 36))
+which k h l n = by (ℕ-discrete k 33) (ℕ-discrete k 34)
+  where
+    by : Dec (k ≡ 33) → Dec (k ≡ 34) → (k ≡ 33) ⊎ ((k ≡ 34) ⊎ (k ≡ 36))
+    by (yes e) q = inl e
+    by (no f) (yes e) = inr (inl e)
+    by (no f) (no e) = inr (inr (omega arith))
+
+-- One row of the definition.
+run-row : (T : Table) (L : Shape) (k : ℕ) (z : LockState) → z .row < length T → runFrom T L (suc k) z ≡ resultOf (runRow T L (rowAt T (z .row)) z (rowAt T (z .row) .op)) (runFrom T L k)
+unfolding runFrom
+run-row T L k z h = rw (lt-leb (length T) (z .row) h, runFrom)
+
+run-end : (T : Table) (L : Shape) (k : ℕ) (z : LockState) → length T ≤ z .row → runFrom T L k z ≡ record { verdict = Passed; state = z }
+unfolding runFrom
+run-end T L zero z h = rw (le-leb (length T) (z .row) h)
+run-end T L (suc k) z h = rw (le-leb (length T) (z .row) h, runFrom)
+
+run-spent : (T : Table) (L : Shape) (z : LockState) → z .row < length T → runFrom T L 0 z ≡ record { verdict = Spent; state = z }
+unfolding runFrom
+run-spent T L z h = rw (lt-leb (length T) (z .row) h)
+
+ran-is : (n : ℕ) (o : LockResult) (v : Verdict) (z : LockState) (s : State) (r : Outcome) (regs cells log saved openers : List ℕ) → record { verdict = v; state = z } ≡ o → r ≡ endedAs v s
+    → Represents n z s regs cells log saved openers → RunIs o r cells log
+unfolding outcomeOf
+ran-is n o v z s r regs cells log saved openers eo er R =
+    subst (λ x. RunIs x r cells log) eo
+    (record {
+      outcome-is = er ∙ (λ i. record { verdict = v; row = R .row-is i; rows = R .rows-is i; steps = R .steps-is i; barriers = R .barriers-is i });
+      cells-are = R .memory .cells-are;
+      log-is = R .memory .log-is .words-are;
+    })
+
+module _ (table ends : List ℕ) (n limit : ℕ) (cells₀ : List ℕ) (s : State) (regs cells log saved openers : List ℕ) (G : Going table n limit cells₀ s regs cells log saved openers) (A : Runnable table ends) where
+  abbrev T : Table
+  T = rowsOf table
+
+  abbrev L : Shape
+  L = shapeBy n cells₀
+
+  -- the row number fits the answer's
+  pub go-row : s .row ≤ 256
+  go-row = omega (arith, G .rep .row-is, G .sim .within, A .few)
+
+  at-row : s .row < length T → G .here .row < length T
+  at-row h = subst (λ r. r < length T) (G .rep .row-is) h
+
+  pub go-passed : (r : Outcome) → length table / 4 ≤ s .row → r ≡ endedAs Passed s → RunIs (lockstep T n cells₀ limit) r cells log
+  go-passed r h e =
+      let l : length T ≤ G .here .row = omega (arith, rows-length table, G .rep .row-is) in
+      ran-is n (lockstep T n cells₀ limit) Passed (G .here) s r regs cells log saved openers (sym (run-end T L (limit - s .rows) (G .here) l) ∙ G .same) e (G .rep)
+
+  pub go-spent : (r : Outcome) → s .row < length table / 4 → s .rows ≡ limit → r ≡ endedAs Spent s → RunIs (lockstep T n cells₀ limit) r cells log
+  go-spent r h m e =
+      let l : s .row < length T = omega (arith, rows-length table) in
+      let k : limit - s .rows ≡ 0 = omega arith in
+      ran-is n (lockstep T n cells₀ limit) Spent (G .here) s r regs cells log saved openers
+      (sym (run-spent T L (G .here) (at-row l)) ∙ ap (λ j. runFrom T L j (G .here)) (sym k) ∙ G .same) e (G .rep)
+
+  module _ (h : s .row < length table / 4) (m : s .rows ≡ limit → ⊥) where
+    inside : s .row < length T
+    inside = omega (arith, rows-length table)
+
+    op-here : rowAt T (s .row) .op ≡ opOf (getD table (s .row * 4) 0)
+    op-here = ap (λ x. x .op) (row-bytes table (s .row) inside)
+
+    op-is : (k : ℕ) (o : Op) → opOf k ≡ o → getD table (s .row * 4) 0 ≡ k → rowAt T (G .here .row) .op ≡ o
+    op-is k o p e = ap (λ r. rowAt T r .op) (sym (G .rep .row-is)) ∙ op-here ∙ ap opOf e ∙ p
+
+    depth-frames : s .depth ≡ length (openersOf (G .frames))
+    depth-frames = G .rep .depth-is ∙ ap length (G .sim .saving) ∙ saved-length (G .frames)
+
+    -- at a row that is no WHILE
+    depth-opens : (o : Op) → rowAt T (G .here .row) .op ≡ o → isWhile o ≡ false → s .depth ≡ length (openBefore T (G .here .row))
+    depth-opens o e q = depth-frames ∙ ap length (framed-fresh T (G .here .row) (G .frames) (not-while _ o e q) (G .sim .framed))
+
+    deeper : role (rowAt T (G .here .row) .op) ≡ opening → suc (length (openBefore T (G .here .row))) ≤ 8
+    deeper e = subst (λ k. k ≤ 8) (ap length (opens-more T (G .here .row) e)) (depth-bounded T (A .accepted) (suc (G .here .row)) (at-row inside))
+
+    upto : length (openBefore T (G .here .row)) ≤ 8
+    upto = depth-bounded T (A .accepted) (G .here .row) (let l = at-row inside in omega arith)
+
+    fits : (o : Op) → rowAt T (G .here .row) .op ≡ o → Fits o (innermost T (openBefore T (G .here .row)))
+    fits o q = subst (λ y. Fits y (innermost T (openBefore T (G .here .row)))) q (well-formed T (A .accepted) .fitting (G .here .row) (at-row inside))
+
+    nonempty : (o : Op) → rowAt T (G .here .row) .op ≡ o → isWhile o ≡ false → (innermost T (openBefore T (G .here .row)) ≡ UNKNOWN → ⊥) → (0 < s .depth) × (s .depth ≤ 8)
+    nonempty o e q n =
+        let d = depth-opens o e q in
+        (omega (arith, some-open T (openBefore T (G .here .row)) n), omega (arith, upto))
+
+    closes : (getD table (s .row * 4) 0 ≡ 33) ⊎ ((getD table (s .row * 4) 0 ≡ 34) ⊎ (getD table (s .row * 4) 0 ≡ 36)) → (0 < s .depth) × (s .depth ≤ 8)
+    closes (inl e) =
+        let q = op-is 33 ELSE op-else e in
+        nonempty ELSE q while-else (λ u. clash-if (sym u ∙ fits ELSE q))
+    closes (inr (inl e)) =
+        let q = op-is 34 ENDIF op-endif e in
+        nonempty ENDIF q while-endif (λ u. ⊎-elim (λ f. clash-if (sym u ∙ f)) (λ f. clash-else (sym u ∙ f)) (fits ENDIF q))
+    closes (inr (inr e)) =
+        let q = op-is 36 ENDWHILE op-endwhile e in
+        nonempty ENDWHILE q while-endwhile (λ u. clash-while (sym u ∙ fits ENDWHILE q))
+
+    loops : getD table (s .row * 4) 0 ≡ 35 → RoomForWhile s openers
+    loops e = by (G .frames) (G .sim .framed) (G .sim .saving) depth-frames
+      where
+        l8 : suc (length (openBefore T (G .here .row))) ≤ 8
+        l8 = deeper (role-while _ (op-is 35 WHILE op-while e))
+
+        by : (fs : List Frame) → Framed T (G .here .row) fs → G .here .saved ≡ savedOf fs → s .depth ≡ length (openersOf fs) → RoomForWhile s openers
+        by fs (fresh q) sv d = inl (let y = ap length q in omega (arith, l8))
+        by (f ∷ fs) (again p w q) sv d =
+            let y = ap length q in
+            inr (
+              (let z : 0 < s .depth = omega arith in z),
+              (let z : s .depth ≤ 8 = omega (arith, l8) in z),
+              saves-back n (G .here .saved) saved openers (s .depth) (G .rep .depth-is) (omega arith) (G .rep .saves) ∙ ap topOpener sv ∙ back-cons _ _ ∙ p ∙ sym (G .rep .row-is),
+            )
+
+    pub go-ready : n ≤ 32 → limit ≤ 1000000 → length log ≡ 2 * length cells → length cells ≤ 1024 → Ready table n s cells log openers
+    go-ready l lim lg lc =
+        record {
+          few = l;
+          inside = row-inside table (s .row) inside;
+          room = record { row-few = omega (arith, A .few, inside); rows-few = omega (arith, G .rows-most); steps-few = G .steps-few; barriers-few = G .barriers-few };
+          asks = row-asks table (A .accepted) (s .row) inside;
+          depths = record {
+            opens-if = λ e. let q = op-is 32 IF op-if e in let d = depth-opens IF q while-if in omega (arith, deeper (role-if _ q));
+            inside = λ h k u. closes (which _ h k u);
+            opens-while = loops;
+          };
+          twice = lg;
+          cells-few = lc;
+        }
+
+    abbrev done : Step
+    done = runRow T L (rowAt T (G .here .row)) (G .here) (rowAt T (G .here .row) .op)
+
+    left : limit - s .rows ≡ suc (limit - (s .rows + 1))
+    left = omega (arith, G .rows-most)
+
+    came : resultOf done (runFrom T L (limit - (s .rows + 1))) ≡ lockstep T n cells₀ limit
+    came = sym (ap (λ j. runFrom T L j (G .here)) left ∙ run-row T L (limit - (s .rows + 1)) (G .here) (at-row inside)) ∙ G .same
+
+    sims : RowDone T L (G .here) (G .group) done
+    sims = row-done T (well-formed T (A .accepted)) L (G .here) (G .frames) (G .group) (G .sim) (at-row inside)
+
+    module _ (len : length cells ≡ length cells₀) (r : Next) (regs′ cells′ log′ saved′ openers′ : List ℕ) (S : Steps table ends n s regs cells log saved openers r regs′ cells′ log′ saved′ openers′) where
+      stepped : After n done r regs′ cells′ log′ saved′ openers′
+      stepped =
+          subst (λ k. After n (runRow T (record { threads = n; cells = k }) (rowAt T (G .here .row)) (G .here) (rowAt T (G .here .row) .op)) r regs′ cells′ log′ saved′ openers′) len
+          (S .1 (G .here) inside (A .ends-are (s .row) inside) (G .rep))
+
+      pub go-next : (s′ : State) → r ≡ next.Go s′ → Going table n limit cells₀ s′ regs′ cells′ log′ saved′ openers′
+      go-next s′ e = by done stepped sims came
+        where
+          counted : Counted s s′
+          counted = subst (Counts s) e (S .0)
+
+          by : (o : Step) → After n o r regs′ cells′ log′ saved′ openers′ → RowDone T L (G .here) (G .group) o → resultOf o (runFrom T L (limit - (s .rows + 1))) ≡ lockstep T n cells₀ limit
+              → Going table n limit cells₀ s′ regs′ cells′ log′ saved′ openers′
+          by (stops v z) (u, f, R) W q = let y : _≡_ {A = ℕ} 0 1 = cc in absurd (omega arith)
+          by (continues z) (u, f, R) W q =
+              let eu : u ≡ s′ = cc in
+              record {
+                here = z;
+                frames = W .frames;
+                group = after (machine T L) (G .group) (W .moves);
+                sim = W .sim;
+                rep = subst (λ x. Represents n z x regs′ cells′ log′ saved′ openers′) eu R;
+                same = ap (λ j. runFrom T L (limit - j) z) (counted .rows-one) ∙ (unfold resultOf in q);
+                rows-most = omega (arith, counted .rows-one, G .rows-most);
+                steps-few = omega (arith, counted .rows-one, counted .steps-some, G .steps-few);
+                barriers-few = omega (arith, counted .rows-one, counted .barriers-one, G .barriers-few);
+              }
+
+      pub go-stop : (v : Verdict) (s′ : State) (q : Outcome) → r ≡ next.Stop v s′ → q ≡ endedAs v s′ → RunIs (lockstep T n cells₀ limit) q cells′ log′
+      go-stop v s′ q e eq = by done stepped came
+        where
+          by : (o : Step) → After n o r regs′ cells′ log′ saved′ openers′ → resultOf o (runFrom T L (limit - (s .rows + 1))) ≡ lockstep T n cells₀ limit → RunIs (lockstep T n cells₀ limit) q cells′ log′
+          by (continues z) (u, f, R) c = let y : _≡_ {A = ℕ} 0 1 = cc in absurd (omega arith)
+          by (stops w z) (u, f, R) c =
+              let eu : u ≡ s′ = cc in
+              let ev : v ≡ w = cc in
+              let c′ : record { verdict = w; state = z } ≡ lockstep T n cells₀ limit = (unfold resultOf in c) in
+              ran-is n (lockstep T n cells₀ limit) w z s′ q regs′ cells′ log′ saved′ openers′ c′ (eq ∙ ap (λ y. endedAs y s′) ev) (subst (λ x. Represents n z x regs′ cells′ log′ saved′ openers′) eu R)
+
+      -- where the row stops, its number still fits
+      pub go-stop-row : (v : Verdict) (s′ : State) → r ≡ next.Stop v s′ → s′ .row ≤ 256
+      go-stop-row v s′ e = let q : s′ .row ≡ s .row = subst (Counts s) e (S .0) in omega (arith, go-row)

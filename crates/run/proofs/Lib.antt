@@ -1,0 +1,4 @@
+pub mod Tables
+pub mod RowBytes
+pub mod Plain
+pub mod Going

@@ -1,0 +1,47 @@
+-- `words::sar` gives the definition's SAR, below 32 places and from there on. Assumes nothing.
+use mathlib.Core.Path.{_≡_, ap, _∙_}
+use Prim.Native.Nat.{_^_}
+use borrow.Author.Needs.{needs}
+use borrow.Author.Tests.{lt-ltb, le-ltb}
+use lib.Signed.{shrZ}
+use Rattle.spec.specs.Word.{unsigned}
+use Rattle.words.proofs.Integers.{shifted}
+use Rattle.words.proofs.sar.Statement.{statement}
+use Rattle.words.proofs.sar.Tie as tie
+
+signed-requires : tie.Need-signed-requires
+signed-requires c κs = search needs
+
+cast-unsigned : tie.Need-cast-unsigned
+cast-unsigned c = search needs
+
+shr-unsigned : tie.Need-shr-unsigned
+shr-unsigned c = search needs
+
+unsigned-requires : tie.Need-unsigned-requires
+unsigned-requires c κs = search needs
+
+top-copies-requires : tie.Need-top-copies-requires
+top-copies-requires c κs = search needs
+
+returns : tie.Need-returns
+returns c =
+    let y = c .before .before .before .args .y in
+    let s = c .before .signed in
+    simp (lt-ltb _ _ (c .before .before .if1 .taken))
+    (c .unsigned .ensures ∙ ap unsigned (shifted (s .result) (2 ^ y) (record { sfits = s .ok }) ∙ ap (λ z. shrZ z (2 ^ y)) (s .ensures)))
+
+returns-2 : tie.Need-returns-2
+returns-2 c = simp (le-ltb _ _ (c .before .if1 .left)) (c .top-copies .ensures)
+
+pub sar-spec : {M : Type 1} → statement M
+sar-spec =
+    tie.close
+    (tie.spec
+    signed-requires
+    cast-unsigned
+    shr-unsigned
+    unsigned-requires
+    top-copies-requires
+    returns
+    returns-2)
