@@ -10,7 +10,7 @@ use lib.ListN.{length}
 use Rattle.spec.specs.declared.Refusal.{Refusal}
 use Rattle.spec.specs.declared.Refusal.the-variants.{FileTooLong}
 use Rattle.spec.specs.Limits.{maxFile}
-use Rattle.spec.specs.Answers.{orElse, first}
+use Rattle.spec.specs.Answers.{first}
 use Rattle.spec.specs.Table.{rowsOf}
 use Rattle.spec.specs.TableCheck.{tableRefusal}
 use Rattle.spec.specs.LaunchFile.{Launch, Checked, refused, accepted, Read, stop, read, unlessRefused, checkedTable, launchLines, fileLaunch}
@@ -20,15 +20,11 @@ use Rattle.structure.proofs.Refusals.{orElse-none}
 use Rattle.structure.proofs.Acceptance.{well-formed}
 use Rattle.allruns.proofs.Theorem.{demand3}
 
--- What follows the first test refuses nothing either.
-behind : (x y : Option Refusal) → orElse x y ≡ none → y ≡ none
-behind x y e = orElse-none x y .0 e .1
-
--- The table's test is the sixth of a bare launch.
+-- The rows are the second thing that a bare launch tests.
 pub bare-table : (table : List ℕ) (threads cells limit : ℕ) (lentCells lentLog : List ℕ) → bareRefusal table threads cells limit lentCells lentLog ≡ none
     → tableRefusal (rowsOf table) ≡ none
 unfolding bareRefusal first
-bare-table table threads cells limit lentCells lentLog e = orElse-none _ _ .0 (behind _ _ (behind _ _ (behind _ _ (behind _ _ (behind _ _ e))))) .0
+bare-table table threads cells limit lentCells lentLog e = orElse-none _ _ .0 (orElse-none _ _ .0 e .1) .0
 
 pub bare-demand3 : (table : List ℕ) (threads cells limit : ℕ) (lentCells lentLog : List ℕ) → BareDemand3 table threads cells limit lentCells lentLog
 bare-demand3 table threads cells limit lentCells lentLog e =

@@ -5,6 +5,7 @@ use mathlib.Core.Bool.{true, false, not}
 use Prim.Native.Nat.{ℕ, _+_, _-_, _^_, _≤_}
 use native.Mathlib.Omega.{arith}
 use lib.Bits.{bitAnd}
+use lib.Pow.{pow-mono}
 use lib.Count.{trailingZeros}
 use lib.ListN.{length, replicate, length-replicate}
 use Rattle.spec.specs.declared.Verdict.the-variants.{Diverged}
@@ -29,10 +30,12 @@ module _ (n : ℕ) (z : LockState) (s : State) (regs cells log saved openers : L
   some-on : (s .mask ≡ 0 → ⊥) → any (z .enabled) ≡ true
   some-on ne = any-some (z .enabled) (λ e. ne (R .enabled-is ∙ e))
 
-  pub barrier-passes : (q w a : ℕ) (log′ : List ℕ) → q ≡ s .row → w ≡ s .mask → (s .mask ≡ 0 → ⊥) → a ≡ 2 ^ n - 1 → s .mask ≡ a → log′ ≡ replicate (length log) 0
+  pub barrier-passes : 1 ≤ n → (q w a : ℕ) (log′ : List ℕ) → q ≡ s .row → w ≡ s .mask → a ≡ 2 ^ n - 1 → s .mask ≡ a → log′ ≡ replicate (length log) 0
       → After n (barrierRow z) (next.Go (record { row = q + 1; mask = w; depth = s .depth; rows = s .rows + 1; steps = s .steps; barriers = s .barriers + 1 })) regs cells log′ saved openers
   unfolding barrierRow passBarrier
-  barrier-passes q w a log′ eq ew ne ea em el =
+  barrier-passes o q w a log′ eq ew ea em el =
+      let two : 2 ^ 1 ≤ 2 ^ n = pow-mono {i = 1} {j = n} o in
+      let ne : s .mask ≡ 0 → ⊥ = (λ z. omega arith) in
       let yes-any = some-on ne in
       let all : full (z .enabled) ≡ true = full-is (z .enabled) (sym (R .enabled-is) ∙ em ∙ ea ∙ ap (λ k. 2 ^ k - 1) (sym (R .enabled-size))) in
       let M = R .memory in

@@ -172,13 +172,10 @@ pub fn moved(s: layout::State, k: u32) -> layout::State
 }
 
 pub fn barrier_row(log: &mut [u32], n: u32, s: layout::State) -> layout::Next
-    requires { ⌜ Room s × (n ≤ 32) ⌝ }
+    requires { ⌜ Room s × (1 ≤ n) × (n ≤ 32) ⌝ }
     ensures { λ r. ⌜ BarrierDone n s (now (log .entry)) r (now (log .exit)) ⌝ }
 {
     let mask = s.mask;
-    if mask == 0 {
-        return layout::Next::Go(moved(s, 0));
-    }
     let all = masks::all(n);
     if mask == all {
         memory::clear(log);
@@ -190,6 +187,9 @@ pub fn barrier_row(log: &mut [u32], n: u32, s: layout::State) -> layout::Next
             steps: s.steps,
             barriers: s.barriers + 1,
         });
+    }
+    if mask == 0 {
+        return layout::Next::Go(moved(s, 0));
     }
     layout::Next::Stop(
         spec::Verdict::Diverged(masks::lowest(mask), masks::lowest(masks::minus(all, mask))),

@@ -26,6 +26,7 @@ pub record RowAsks (op d a b : ℕ) : Type 0 where
   pub known : op ≤ 37
 
 pub record Ready (table : List ℕ) (n : ℕ) (s : State) (cells log openers : List ℕ) : Type 0 where
+  pub some : 1 ≤ n
   pub few : n ≤ 32
   pub inside : s .row * 4 + 3 < length table
   pub room : Room s

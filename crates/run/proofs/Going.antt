@@ -279,9 +279,10 @@ module _ (table ends : List ℕ) (n limit : ℕ) (cells₀ : List ℕ) (s : Stat
               saves-back n (G .here .saved) saved openers (s .depth) (G .rep .depth-is) (omega arith) (G .rep .saves) ∙ ap topOpener sv ∙ back-cons _ _ ∙ p ∙ sym (G .rep .row-is),
             )
 
-    pub go-ready : n ≤ 32 → limit ≤ 1000000 → length log ≡ 2 * length cells → length cells ≤ 1024 → Ready table n s cells log openers
-    go-ready l lim lg lc =
+    pub go-ready : 1 ≤ n → n ≤ 32 → limit ≤ 1000000 → length log ≡ 2 * length cells → length cells ≤ 1024 → Ready table n s cells log openers
+    go-ready o l lim lg lc =
         record {
+          some = o;
           few = l;
           inside = row-inside table (s .row) inside;
           room = record { row-few = omega (arith, A .few, inside); rows-few = omega (arith, G .rows-most); steps-few = G .steps-few; barriers-few = G .barriers-few };

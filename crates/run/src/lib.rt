@@ -125,7 +125,7 @@ pub fn run(
     cells: &mut [u32],
     log: &mut [u32],
 ) -> spec::Outcome
-    requires { ⌜ Runnable (now table) (now ends) × (n ≤ 32) × (limit ≤ 1000000) × (length (now log) ≡ 2 * length (now cells)) × (length (now cells) ≤ 1024) ⌝ }
+    requires { ⌜ Runnable (now table) (now ends) × (1 ≤ n) × (n ≤ 32) × (limit ≤ 1000000) × (length (now log) ≡ 2 * length (now cells)) × (length (now cells) ≤ 1024) ⌝ }
     ensures { λ r. ⌜ RunIs (lockstep (rowsOf (now (table .entry))) n (now (cells .entry)) limit) r (now (cells .exit)) (now (log .exit)) ⌝ }
 {
     let count = table.len() / 4;

@@ -24,19 +24,25 @@ over w buffer = w ++ drop (length w) buffer
 
 -- The bare launch: table bytes, the numbers of threads and cells, the limit, lent cells and lent log.
 
--- From the input: 1, 2, 8, 9, 10, then the rows. From the state: 20, 21. Nothing here stands on a line.
-unfoldable pub bareRefusal : (table : List ℕ) → (threads cells limit : ℕ) → (lentCells lentLog : List ℕ) → Option Refusal
-bareRefusal table threads cells limit lentCells lentLog =
+-- From the input, 1, 2, 8, 9, 10 by the table's length and the launch's numbers. None of them stands on a line.
+unfoldable pub bareNumbers : (bytes threads cells limit : ℕ) → Option Refusal
+bareNumbers bytes threads cells limit =
     first
-    (unless (eqb (length table % 4) 0) TableLength
-    ∷ unless (leb (length table / 4) maxRows) (TooManyRows 0)
+    (unless (eqb (bytes % 4) 0) TableLength
+    ∷ unless (leb (bytes / 4) maxRows) (TooManyRows 0)
     ∷ unless (leb 1 threads && leb threads maxThreads) (ThreadsOutOfRange 0)
     ∷ unless (leb 1 cells && leb cells maxCells) (CellsOutOfRange 0)
     ∷ unless (leb limit maxLimit) (LimitOutOfRange 0)
-    ∷ tableRefusal (rowsOf table)
-    ∷ unless (eqb (length lentCells) cells) CellsLength
-    ∷ unless (eqb (length lentLog) (2 * cells)) LogLength
     ∷ [])
+
+-- From the state, 20 and 21.
+unfoldable pub bareLent : (cells cellWords logWords : ℕ) → Option Refusal
+bareLent cells cellWords logWords = first (unless (eqb cellWords cells) CellsLength ∷ unless (eqb logWords (2 * cells)) LogLength ∷ [])
+
+-- The rows are checked between the two.
+unfoldable pub bareRefusal : (table : List ℕ) → (threads cells limit : ℕ) → (lentCells lentLog : List ℕ) → Option Refusal
+bareRefusal table threads cells limit lentCells lentLog =
+    first (bareNumbers (length table) threads cells limit ∷ tableRefusal (rowsOf table) ∷ bareLent cells (length lentCells) (length lentLog) ∷ [])
 
 -- The run that an accepted bare launch makes: the lent cells are the launch's.
 unfoldable pub bareRun : (table : List ℕ) → (threads limit : ℕ) → (lentCells : List ℕ) → LockResult

@@ -1,8 +1,7 @@
-use mathlib.Core.Path.{_≡_, refl, sym, ap, ap₂, _∙_, subst}
-use Prim.Native.Nat.{ℕ, _≤_, _<_, _-_, _+_, _*_}
+use mathlib.Core.Path.{_≡_, refl}
 use native.Mathlib.Omega.{arith}
-use Rattle.constructs.proofs.Barrier.{barrier-skips, barrier-passes, barrier-stops}
 use Rattle.layout.proofs.PlainRows.{counted-moved}
+use Rattle.constructs.proofs.Barrier.{barrier-skips, barrier-passes, barrier-stops}
 use borrow.Author.Needs.{needs}
 use Rattle.constructs.proofs.barrier_row.Statement.{statement}
 use Rattle.constructs.proofs.barrier_row.Tie as tie
@@ -14,67 +13,80 @@ use Rattle.masks.proofs.lowest.Reads as lowest-reads
 use Rattle.masks.proofs.minus.Reads as minus-reads
 use Rattle.memory.proofs.clear.Reads as clear-reads
 
-moved-requires : tie.Need-moved-requires
-moved-requires c κs = search needs
-
-returns : tie.Need-returns
-returns c =
-    let g = c .before .before .before .args in (
-      counted-moved (g .s) (c .moved .result) 0 (c .moved .ensures) (omega arith),
-      λ regs cells saved openers z R. barrier-skips (g .n) z (g .s) regs cells (g .log .now) saved openers R (c .moved .result) (c .before .if1 .taken) (c .moved .ensures),
-    )
-
+-- src/lib.rt:179:9
 all-requires : tie.Need-all-requires
 all-requires c κs = search needs
 
+-- src/lib.rt:181:9
 clear-requires : tie.Need-clear-requires
 clear-requires c κs = search needs
 
+-- src/lib.rt:183:18
+add-t10 : tie.Need-add-t10
+add-t10 c = search needs
+
+-- src/lib.rt:186:19
 add-t11 : tie.Need-add-t11
 add-t11 c = search needs
 
+-- src/lib.rt:188:23
 add-t12 : tie.Need-add-t12
 add-t12 c = search needs
 
-add-t13 : tie.Need-add-t13
-add-t13 c = search needs
-
+-- src/lib.rt:182:9
 same-length : tie.Need-same-length
 same-length c = search needs
 
-returns-2 : tie.Need-returns-2
-returns-2 c =
-    let g = c .before .before .before .before .before .before .before .before .before .before .before .args in (
+-- src/lib.rt:182:9
+returns : tie.Need-returns
+returns c =
+    let g = c .before .before .before .before .before .before .before .before .before .before .args in (
       record { rows-one = refl; steps-some = omega arith; barriers-one = omega arith },
-      λ regs cells saved openers z R. barrier-passes (g .n) z (g .s) regs cells (g .log .now) saved openers R (g .s .row) (g .s .mask) (c .before .before .before .before .before .before .before .before .all .result) (c .before .before .before .before .before .clear .last .0) refl refl (c .before .before .before .before .before .before .before .before .before .if1 .left) (c .before .before .before .before .before .before .before .before .all .ensures) (c .before .before .before .before .before .before .before .if2 .taken) (c .before .before .before .before .before .clear .ensures),
+      λ regs cells saved openers z R. barrier-passes (g .n) z (g .s) regs cells (g .log .now) saved openers R (c .before .before .before .before .before .before .before .before .before .before .pre .1) (g .s .row) (g .s .mask) (c .before .before .before .before .before .before .before .before .all .result) (c .before .before .before .before .before .clear .last .0) refl refl (c .before .before .before .before .before .before .before .before .all .ensures) (c .before .before .before .before .before .before .before .if1 .taken) (c .before .before .before .before .before .clear .ensures),
     )
 
+-- src/lib.rt:192:33
+moved-requires : tie.Need-moved-requires
+moved-requires c κs = search needs
+
+-- src/lib.rt:192:9
+returns-2 : tie.Need-returns-2
+returns-2 c =
+    let g = c .before .before .before .before .before .args in (
+      counted-moved (g .s) (c .moved .result) 0 (c .moved .ensures) (omega arith),
+      λ regs cells saved openers z R. barrier-skips (g .n) z (g .s) regs cells (g .log .now) saved openers R (c .moved .result) (c .before .if2 .taken) (c .moved .ensures),
+    )
+
+-- src/lib.rt:195:33
 lowest-requires : tie.Need-lowest-requires
 lowest-requires c κs = search needs
 
+-- src/lib.rt:195:68
 minus-requires : tie.Need-minus-requires
 minus-requires c κs = search needs
 
+-- src/lib.rt:195:54
 lowest-requires-2 : tie.Need-lowest-requires-2
 lowest-requires-2 c κs = search needs
 
+-- src/lib.rt:174:1
 returns-3 : tie.Need-returns-3
 returns-3 c =
     let g = c .before .before .before .before .before .before .before .args in
-    (refl, λ regs cells saved openers z R. barrier-stops (g .n) z (g .s) regs cells (g .log .now) saved openers R (c .before .before .before .before .all .result) (c .before .before .lowest .result) (c .before .minus .result) (c .lowest2 .result) (c .before .before .before .before .before .if1 .left) (c .before .before .before .before .all .ensures) (c .before .before .before .if2 .left) (c .before .before .lowest .ensures .0) (c .before .minus .ensures) (c .lowest2 .ensures .0))
+    (refl, λ regs cells saved openers z R. barrier-stops (g .n) z (g .s) regs cells (g .log .now) saved openers R (c .before .before .before .before .before .all .result) (c .before .before .lowest .result) (c .before .minus .result) (c .lowest2 .result) (c .before .before .before .if2 .left) (c .before .before .before .before .before .all .ensures) (c .before .before .before .before .if1 .left) (c .before .before .lowest .ensures .0) (c .before .minus .ensures) (c .lowest2 .ensures .0))
 
 pub barrier-row-spec : {M : Type 1} → statement M
 barrier-row-spec =
     tie.close
     (tie.spec
-    moved-requires
-    returns
     all-requires
     clear-requires
+    add-t10
     add-t11
     add-t12
-    add-t13
     same-length
+    returns
+    moved-requires
     returns-2
     lowest-requires
     minus-requires

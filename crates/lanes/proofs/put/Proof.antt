@@ -2,6 +2,7 @@
 use mathlib.Core.Path.{_∙_}
 use mathlib.Core.Logic.{⊎-elim}
 use Prim.Native.Nat.{_-_}
+use native.Mathlib.Omega.{arith}
 use Rattle.lanes.specs.Lanes.{Puts, chosen}
 use Rattle.lanes.proofs.Putting.{putting, puts-more, puts-old, chosen-in, chosen-off}
 use Rattle.lanes.proofs.put.Statement.{statement}
@@ -59,8 +60,8 @@ loop-again c =
     let F = chosen (g .t3) (g .mask) (g .d) (g .regs .now) in
     puts-more (g .d) F (g .regs .now) (l .regs) (l .t) (l .inv) (c .if1 .regs) (search putting) (search putting)
     (⊎-elim
-    (λ w. w .1 ∙ chosen-in (g .t3) (g .mask) (g .d) (g .regs .now) (l .t) (w .0 .taken))
-    (λ w. w .1 ∙ puts-old (g .d) F (g .regs .now) (l .regs) (l .t) (l .inv) ∙ chosen-off (g .t3) (g .mask) (g .d) (g .regs .now) (l .t) (w .0 .left))
+    (λ w. w .1 ∙ chosen-in (g .t3) (g .mask) (g .d) (g .regs .now) (l .t) (omega arith))
+    (λ w. w .1 ∙ puts-old (g .d) F (g .regs .now) (l .regs) (l .t) (l .inv) ∙ chosen-off (g .t3) (g .mask) (g .d) (g .regs .now) (l .t) (omega arith))
     (c .if1 .came))
 
 returns : tie.Need-returns Inv-loop μ-loop

@@ -6,13 +6,13 @@ use Rattle.lanes.proofs.value_lanes.Statement.{statement}
 use Rattle.lanes.proofs.value_lanes.Tie as tie
 
 returns : tie.Need-returns
-returns c = by-set (c .if2 .taken)
+returns c = by-set (omega arith)
 
 threads-requires : tie.Need-threads-requires
 threads-requires c κs = search needs
 
 returns-2 : tie.Need-returns-2
-returns-2 c = by-tid (c .before .if3 .taken) (c .threads .ensures)
+returns-2 c = by-tid (omega arith) (c .threads .ensures)
 
 returns-3 : tie.Need-returns-3
 returns-3 c = by-count (omega arith)

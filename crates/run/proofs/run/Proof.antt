@@ -27,14 +27,14 @@ clear-requires c κs = search needs
 
 -- src/lib.rt:129:15
 all-requires : tie.Need-all-requires Inv-loop μ-loop
-all-requires c κs = c .before .before .before .before .before .before .before .pre .1
+all-requires c κs = c .before .before .before .before .before .before .before .pre .2
 
 -- src/lib.rt:135:5
 loop-holds : tie.Need-loop-holds Inv-loop μ-loop
 loop-holds c =
     let g = c .before .before .before .before .before .before .before .before .args in
     let p = c .before .before .before .before .before .before .before .before .pre in
-    (refl, refl, go-start (g .table .now) (g .ends .now) (g .n) (g .limit) (c .all .result) (g .cells .now) (g .log .now) (p .0) (p .1) (c .all .ensures) (p .3) (c .before .before .before .clear .last .0) (c .before .before .before .clear .ensures))
+    (refl, refl, go-start (g .table .now) (g .ends .now) (g .n) (g .limit) (c .all .result) (g .cells .now) (g .log .now) (p .0) (p .2) (c .all .ensures) (p .4) (c .before .before .before .clear .last .0) (c .before .before .before .clear .ensures))
 
 -- src/lib.rt:137:13
 ended-requires : tie.Need-ended-requires Inv-loop μ-loop
@@ -64,8 +64,8 @@ step-requires c κs =
     let g = c .before .before .before .before .before .before .before .before .before .before .before .before .before .before .before .before .before .before .args in
     let l = c .before .before .before .before .before .before .before .before .before .loop in
     let p = c .before .before .before .before .before .before .before .before .before .before .before .before .before .before .before .before .before .before .pre in
-    go-ready (g .table .now) (g .ends .now) (g .n) (g .limit) (g .cells .now) (l .s) (l .regs) (l .cells) (l .log) (l .saved) (l .openers) (l .inv .2) (p .0) (c .before .before .before .before .before .before .before .if1 .taken) (c .before .before .before .before .before .if2 .left) (p .1) (p .2)
-    (omega (arith, l .inv .0, l .inv .1, c .before .before .before .before .before .before .before .before .before .before .before .before .before .clear .kept .0, p .3)) (omega (arith, l .inv .0, p .4))
+    go-ready (g .table .now) (g .ends .now) (g .n) (g .limit) (g .cells .now) (l .s) (l .regs) (l .cells) (l .log) (l .saved) (l .openers) (l .inv .2) (p .0) (c .before .before .before .before .before .before .before .if1 .taken) (c .before .before .before .before .before .if2 .left) (p .1) (p .2) (p .3)
+    (omega (arith, l .inv .0, l .inv .1, c .before .before .before .before .before .before .before .before .before .before .before .before .before .clear .kept .0, p .4)) (omega (arith, l .inv .0, p .5))
 
 -- src/lib.rt:140:30
 enum-known-z : tie.Need-enum-known-z Inv-loop μ-loop

@@ -1,0 +1,132 @@
+-- The bare launch: what its tests leave known, and its answer. Assumes nothing.
+use mathlib.Core.Path.{_≡_, refl, sym, _∙_, ap, ap₂}
+use mathlib.Core.List.{List, [], _∷_}
+use mathlib.Core.Bool.{Bool, true, false, _&&_}
+use mathlib.Core.Option.{Option, none, some}
+use Prim.Native.Nat.{ℕ, _*_, _/_, _%_, _<_, _≤_}
+use native.Mathlib.Omega.{arith}
+use borrow.Author.Tests.{eqb-true, leb-true}
+use lib.Dec.{eqb, leb}
+use lib.ListN.{length, getD}
+use Rattle.spec.specs.declared.Refusal.{Refusal}
+use Rattle.spec.specs.declared.Outcome.{Outcome}
+use Rattle.spec.specs.declared.Answer.{Answer}
+use Rattle.spec.specs.declared.Answer.the-variants as answer
+use Rattle.spec.specs.Answers.{first}
+use Rattle.spec.specs.Op.{WHILE}
+use Rattle.spec.specs.Table.{Table, rowsOf, rowAt, endOf}
+use Rattle.spec.specs.TableCheck.{tableRefusal}
+use Rattle.spec.specs.Log.{logWords}
+use Rattle.spec.specs.LockStep.{lockstep, outcomeOf}
+use Rattle.spec.specs.Entries.{bareNumbers, bareLent, bareRefusal, bareRun, answerOf, keptIf, bareAnswer, bareCells, bareLog}
+use Rattle.spec.specs.Demands.{BareDemand3}
+use Rattle.structure.proofs.Refusals.{unless-none, orElse-none}
+use Rattle.allruns.proofs.Bools.{and-left, and-right}
+use Rattle.allruns.proofs.Launches.{bare-demand3}
+use Rattle.layout.proofs.Running.{Runnable, RunIs}
+use Rattle.run.proofs.Tables.{rows-length}
+use Rattle.reader.specs.Answer.{ifLoop, ifAccepted, endAt}
+use Rattle.launch.proofs.Answers.{found, passed, ends}
+
+-- What the numbers are where none of them is refused.
+pub record Fine (bytes threads cells limit : ℕ) : Type 0 where
+  pub fours : bytes % 4 ≡ 0
+  pub rows : bytes / 4 ≤ 256
+  pub someThreads : 1 ≤ threads
+  pub fewThreads : threads ≤ 32
+  pub fewCells : cells ≤ 1024
+  pub fewRows : limit ≤ 1000000
+
+pub fine : (bytes threads cells limit : ℕ) → bareNumbers bytes threads cells limit ≡ none → Fine bytes threads cells limit
+unfolding bareNumbers first
+fine bytes threads cells limit e =
+    let a = orElse-none _ _ .0 e in
+    let b = orElse-none _ _ .0 (a .1) in
+    let c = orElse-none _ _ .0 (b .1) in
+    let d = orElse-none _ _ .0 (c .1) in
+    let f = orElse-none _ _ .0 (d .1) in
+    let t = unless-none _ _ .0 (c .0) in
+    let k = unless-none _ _ .0 (d .0) in
+    record {
+      fours = eqb-true _ _ (unless-none _ _ .0 (a .0));
+      rows = leb-true _ _ (unless-none _ _ .0 (b .0));
+      someThreads = leb-true _ _ (and-left (leb 1 threads) _ t);
+      fewThreads = leb-true _ _ (and-right (leb 1 threads) _ t);
+      fewCells = leb-true _ _ (and-right (leb 1 cells) _ k);
+      fewRows = leb-true _ _ (unless-none _ _ .0 (f .0));
+    }
+
+pub readable : (table : List ℕ) (threads cells limit : ℕ) → bareNumbers (length table) threads cells limit ≡ none → (length table % 4 ≡ 0) × (length table ≤ 4 * 256)
+readable table threads cells limit e = let f = fine (length table) threads cells limit e in (f .fours, omega (arith, f .fours, f .rows))
+
+pub lent-is : (cells held logged : ℕ) → bareLent cells held logged ≡ none → (held ≡ cells) × (logged ≡ 2 * cells)
+unfolding bareLent first
+lent-is cells held logged e =
+    let a = orElse-none _ _ .0 e in
+    let b = orElse-none _ _ .0 (a .1) in
+    (eqb-true _ _ (unless-none _ _ .0 (a .0)), eqb-true _ _ (unless-none _ _ .0 (b .0)))
+
+-- The reader's table of loop ends serves the run.
+pub runnable : (table loopEnds : List ℕ) (threads cells limit : ℕ) → bareNumbers (length table) threads cells limit ≡ none → tableRefusal (rowsOf table) ≡ none
+    → ((i : ℕ) → i < 256 → getD loopEnds i 0 ≡ endAt (rowsOf table) i) → Runnable table loopEnds
+unfolding endAt ifLoop ifAccepted
+runnable table loopEnds threads cells limit e q h =
+    let f = fine (length table) threads cells limit e in
+    let few : length (rowsOf table) ≤ 256 = omega (arith, f .rows, rows-length table) in
+    record {
+      few = few;
+      accepted = q;
+      ends-are = λ r l w. h r (omega arith) ∙ ap₂ (λ x o. ifAccepted x (ifLoop o (endOf (rowsOf table) r) 0)) q w;
+    }
+
+module _ (table : List ℕ) (threads count limit : ℕ) (cells log : List ℕ) where
+  abbrev refusal : Option Refusal
+  refusal = bareRefusal table threads count limit cells log
+
+  -- the answer and the buffers
+  abbrev pub Entry : Answer → (cells′ log′ : List ℕ) → Type 0
+  Entry r cells′ log′ =
+      (r ≡ bareAnswer table threads count limit cells log)
+      × ((cells′ ≡ bareCells table threads count limit cells log) × ((log′ ≡ bareLog table threads count limit cells log) × BareDemand3 table threads count limit cells log))
+
+  refused : (why : Refusal) → refusal ≡ some why → Entry (answer.Refused why) cells log
+  unfolding bareAnswer bareCells bareLog answerOf keptIf
+  refused why e = (
+    sym (ap (λ x. answerOf x (outcomeOf (bareRun table threads limit cells))) e),
+    (
+      sym (ap (λ x. keptIf x cells (bareRun table threads limit cells .state .cells)) e),
+      (sym (ap (λ x. keptIf x log (logWords (bareRun table threads limit cells .state .log))) e), bare-demand3 table threads count limit cells log),
+    ),
+  )
+
+  abbrev byNumbers : Option Refusal
+  byNumbers = bareNumbers (length table) threads count limit
+
+  abbrev byTable : Option Refusal
+  byTable = tableRefusal (rowsOf table)
+
+  abbrev byState : Option Refusal
+  byState = bareLent count (length cells) (length log)
+
+  pub numbers-refuse : (why : Refusal) → byNumbers ≡ some why → Entry (answer.Refused why) cells log
+  unfolding bareRefusal
+  numbers-refuse why e = refused why (found byNumbers why _ e)
+
+  pub table-refuses : (why : Refusal) → byNumbers ≡ none → byTable ≡ some why → Entry (answer.Refused why) cells log
+  unfolding bareRefusal
+  table-refuses why n e = refused why (passed byNumbers _ n ∙ found byTable why _ e)
+
+  pub state-refuses : (why : Refusal) → byNumbers ≡ none → byTable ≡ none → byState ≡ some why → Entry (answer.Refused why) cells log
+  unfolding bareRefusal
+  state-refuses why n t e = refused why (passed byNumbers _ n ∙ passed byTable _ t ∙ found byState why _ e)
+
+  pub ran : (o : Outcome) (cells′ log′ : List ℕ) → byNumbers ≡ none → byTable ≡ none → byState ≡ none → RunIs (lockstep (rowsOf table) threads cells limit) o cells′ log′ → Entry (answer.Ran o) cells′ log′
+  unfolding bareRefusal bareAnswer bareCells bareLog answerOf keptIf bareRun
+  ran o cells′ log′ n t s R =
+      let e : refusal ≡ none = passed byNumbers _ n ∙ passed byTable _ t ∙ passed byState _ s ∙ ends in (
+        ap answer.Ran (R .outcome-is) ∙ sym (ap (λ x. answerOf x (outcomeOf (bareRun table threads limit cells))) e),
+        (
+          R .cells-are ∙ sym (ap (λ x. keptIf x cells (bareRun table threads limit cells .state .cells)) e),
+          (R .log-is ∙ sym (ap (λ x. keptIf x log (logWords (bareRun table threads limit cells .state .log))) e), bare-demand3 table threads count limit cells log),
+        ),
+      )

@@ -1,0 +1,65 @@
+-- The launch's numbers and the lent buffers, test by test. Assumes nothing.
+use mathlib.Core.Path.{_≡_, refl, sym, _∙_}
+use mathlib.Core.Bool.{Bool, true, false, not, _&&_, true≢false, false≢true}
+use mathlib.Core.Option.{none, some}
+use Prim.Native.Nat.{ℕ, _*_, _/_, _%_, _<_, _≤_}
+use native.Mathlib.Omega.{arith}
+use borrow.Author.Tests.{eq-eqb, ne-eqb, le-leb, lt-leb}
+use lib.Dec.{leb}
+use Rattle.spec.specs.declared.Refusal.the-variants.{TableLength, TooManyRows, ThreadsOutOfRange, CellsOutOfRange, LimitOutOfRange, CellsLength, LogLength}
+use Rattle.spec.specs.Entries.{bareNumbers, bareLent}
+use Rattle.launch.proofs.Answers.{fails, holds, ends}
+
+-- A test's answer, by the code's branch on its opposite.
+yes-by : (w b : Bool) → w ≡ b → not w ≡ false → b ≡ true
+yes-by true b e q = sym e
+yes-by false b e q = absurd (true≢false q)
+
+no-by : (w b : Bool) → w ≡ b → not w ≡ true → b ≡ false
+no-by true b e q = absurd (false≢true q)
+no-by false b e q = sym e
+
+module _ (bytes threads cells limit : ℕ) where
+  pub odd-length : (bytes % 4 ≡ 0 → ⊥) → some TableLength ≡ bareNumbers bytes threads cells limit
+  unfolding bareNumbers
+  odd-length n = sym (fails _ _ _ (ne-eqb (bytes % 4) 0 n))
+
+  module _ (e : bytes % 4 ≡ 0) where
+    pub many-rows : 256 < bytes / 4 → some (TooManyRows 0) ≡ bareNumbers bytes threads cells limit
+    unfolding bareNumbers
+    many-rows h = sym (holds _ _ _ (eq-eqb (bytes % 4) 0 e) ∙ fails _ _ _ (lt-leb (bytes / 4) 256 h))
+
+    module _ (h : bytes / 4 ≤ 256) (w : Bool) (ew : w ≡ (leb 1 threads && leb threads 32)) where
+      pub bad-threads : not w ≡ true → some (ThreadsOutOfRange 0) ≡ bareNumbers bytes threads cells limit
+      unfolding bareNumbers
+      bad-threads q = sym (holds _ _ _ (eq-eqb (bytes % 4) 0 e) ∙ holds _ _ _ (le-leb (bytes / 4) 256 h) ∙ fails _ _ _ (no-by w _ ew q))
+
+      module _ (q : not w ≡ false) (v : Bool) (ev : v ≡ (leb 1 cells && leb cells 1024)) where
+        pub bad-cells : not v ≡ true → some (CellsOutOfRange 0) ≡ bareNumbers bytes threads cells limit
+        unfolding bareNumbers
+        bad-cells r = sym (holds _ _ _ (eq-eqb (bytes % 4) 0 e) ∙ holds _ _ _ (le-leb (bytes / 4) 256 h) ∙ holds _ _ _ (yes-by w _ ew q) ∙ fails _ _ _ (no-by v _ ev r))
+
+        module _ (r : not v ≡ false) where
+          pub bad-limit : 1000000 < limit → some (LimitOutOfRange 0) ≡ bareNumbers bytes threads cells limit
+          unfolding bareNumbers
+          bad-limit l =
+              sym (holds _ _ _ (eq-eqb (bytes % 4) 0 e) ∙ holds _ _ _ (le-leb (bytes / 4) 256 h) ∙ holds _ _ _ (yes-by w _ ew q) ∙ holds _ _ _ (yes-by v _ ev r) ∙ fails _ _ _ (lt-leb limit 1000000 l))
+
+          pub all-fine : limit ≤ 1000000 → none ≡ bareNumbers bytes threads cells limit
+          unfolding bareNumbers
+          all-fine l =
+              sym (holds _ _ _ (eq-eqb (bytes % 4) 0 e) ∙ holds _ _ _ (le-leb (bytes / 4) 256 h) ∙ holds _ _ _ (yes-by w _ ew q) ∙ holds _ _ _ (yes-by v _ ev r) ∙ holds _ _ _ (le-leb limit 1000000 l) ∙ ends)
+
+module _ (cells k held logged : ℕ) (ek : k ≡ cells) where
+  pub bad-held : (held ≡ k → ⊥) → some CellsLength ≡ bareLent cells held logged
+  unfolding bareLent
+  bad-held n = sym (fails _ _ _ (ne-eqb held cells (λ e. n (e ∙ sym ek))))
+
+  module _ (e : held ≡ k) where
+    pub bad-logged : (logged ≡ 2 * k → ⊥) → some LogLength ≡ bareLent cells held logged
+    unfolding bareLent
+    bad-logged n = sym (holds _ _ _ (eq-eqb held cells (e ∙ ek)) ∙ fails _ _ _ (ne-eqb logged (2 * cells) (λ q. n (omega (arith, q, ek)))))
+
+    pub lent-fine : logged ≡ 2 * k → none ≡ bareLent cells held logged
+    unfolding bareLent
+    lent-fine q = sym (holds _ _ _ (eq-eqb held cells (e ∙ ek)) ∙ holds _ _ _ (eq-eqb logged (2 * cells) (omega (arith, q, ek))) ∙ ends)

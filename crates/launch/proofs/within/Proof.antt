@@ -1,0 +1,19 @@
+use mathlib.Core.Path.{_≡_, refl, sym, ap, _∙_}
+use mathlib.Core.Bool.{_&&_}
+use borrow.Author.Tests.{le-leb, lt-leb}
+use lib.Dec.{leb}
+use Rattle.launch.proofs.within.Statement.{statement}
+use Rattle.launch.proofs.within.Tie as tie
+use Rattle.launch.proofs.within.Reads as reads
+use Rattle.launch.proofs.within.Lts as lts
+
+-- src/lib.rt:11:1
+returns : tie.Need-returns
+returns c = sym (ap (λ b. b && leb (c .before .args .x) (c .before .args .high)) (le-leb _ _ (c .if1 .taken)))
+
+-- src/lib.rt:11:1
+returns-2 : tie.Need-returns-2
+returns-2 c = lt-leb _ _ (c .if1 .left) ∙ sym (ap (λ b. b && leb (c .before .args .x) (c .before .args .high)) (lt-leb _ _ (c .if1 .left)))
+
+pub within-spec : {M : Type 1} → statement M
+within-spec = tie.close (tie.spec returns returns-2)

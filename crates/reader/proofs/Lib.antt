@@ -1,0 +1,6 @@
+pub mod RowBytes
+pub mod OpBytes
+pub mod Passing
+pub mod Noting
+pub mod Constructs
+pub mod Whole

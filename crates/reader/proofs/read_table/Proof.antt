@@ -1,0 +1,71 @@
+-- `reader::read_table` meets its contract: the table's body is read to the table's end, or something is refused. Assumes nothing.
+use mathlib.Core.Path.{sym, subst}
+use Prim.Native.Nat.{ℕ}
+use native.Mathlib.Omega.{arith}
+use lib.ListN.{replicate}
+use Rattle.spec.specs.declared.Refusal.the-variants.{Misplaced}
+use Rattle.reader.specs.Parts.{Body, BodyIs}
+use Rattle.reader.proofs.Whole.{refused-whole, stray, accepted, ends-are}
+use borrow.Author.Needs.{needs}
+use Rattle.reader.proofs.read_table.Statement.{statement}
+use Rattle.reader.proofs.read_table.Tie as tie
+
+body-requires : tie.Need-body-requires
+body-requires c κs = search needs
+
+enum-known-row : tie.Need-enum-known-row
+enum-known-row c = search needs
+
+-- The table's body.
+whole : (c : tie.After-known-told) → Body (c .before .before .before .before .before .before .args .table .now) 0 0 (c .before .row .given .0 .0) (replicate 256 0) (c .before .before .before .body .last .1 .1 .1 .0)
+whole c = subst (BodyIs (c .before .before .before .before .before .before .args .table .now) 0 0 (replicate 256 0) (c .before .before .before .body .last .1 .1 .1 .0)) (c .before .row .given .1) (c .before .before .before .body .ensures)
+
+mul-if1 : tie.Need-mul-if1
+mul-if1 c = omega (arith, (whole c) .span .within, c .before .before .before .before .before .before .pre)
+
+cast-t12 : tie.Need-cast-t12
+cast-t12 c = search needs
+
+refused-requires : tie.Need-refused-requires
+refused-requires c κs = search needs
+
+enum-known-why : tie.Need-enum-known-why
+enum-known-why c = search needs
+
+refused-requires-2 : tie.Need-refused-requires-2
+refused-requires-2 c κs = search needs
+
+returns : tie.Need-returns
+returns c =
+    let t = c .before .before .before .before .before .before .before .before .args .table .now in
+    let k = c .before .before .before .row .given .0 .0 in
+    refused-whole t (Misplaced k) (c .refused .result) (stray t (c .before .before .before .before .before .before .before .before .pre) k (c .before .before .before .before .before .body .last .1 .1 .1 .0) (whole (c .before .before)) (c .before .if1 .taken)) (c .refused .ensures)
+
+returns-2 : tie.Need-returns-2
+returns-2 c =
+    let t = c .before .before .before .before .before .before .before .args .table .now in
+    let y = c .before .before .before .before .body .last .1 .1 .1 .0 in
+    let k = c .before .before .row .given .0 .0 in
+    (sym (accepted t (c .before .before .before .before .before .before .before .pre) k y (whole (c .before)) (c .if1 .left)), ends-are t (c .before .before .before .before .before .before .before .pre) k y (whole (c .before)) (c .if1 .left))
+
+returns-3 : tie.Need-returns-3
+returns-3 c =
+    let t = c .before .before .before .before .before .before .before .args .table .now in
+    let why = c .before .before .why .given .0 .0 in
+    let f = subst (BodyIs t 0 0 (replicate 256 0) (c .before .before .before .before .body .last .1 .1 .1 .0)) (c .before .before .why .given .1) (c .before .before .before .before .body .ensures) in
+    refused-whole t why (c .refused2 .result) f (c .refused2 .ensures)
+
+pub read-table-spec : {M : Type 1} → statement M
+read-table-spec =
+    tie.close
+    (tie.spec
+    body-requires
+    enum-known-row
+    mul-if1
+    cast-t12
+    refused-requires
+    enum-known-why
+    refused-requires-2
+    returns
+    returns-2
+    returns-3)

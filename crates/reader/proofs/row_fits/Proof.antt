@@ -1,0 +1,126 @@
+-- `reader::row_fits` meets its contract: what it tests are the row's own refusals, 3 before 4. Assumes nothing.
+use mathlib.Core.Path.{_≡_, refl, sym, _∙_}
+use mathlib.Core.List.{List, [], _∷_}
+use mathlib.Core.Bool.{true}
+use Prim.Native.Nat.{ℕ, _+_, _*_, _<_}
+use native.Mathlib.Omega.{arith}
+use lib.ListN.{length, getD}
+use types.Run.{OneOf, miss}
+use denote.Enum.Declared.{tagOf}
+use Rattle.spec.specs.declared.Refusal.the-variants.{UnknownOp, BadOperand}
+use Rattle.spec.specs.Answers.{unless, orElse}
+use Rattle.spec.specs.Op.{Form, operandsFit, formOf}
+use Rattle.spec.specs.Table.{rowOf, rowsOf, rowAt}
+use Rattle.optable.specs.declared.Form.{Form as Declared}
+use Rattle.optable.specs.declared.Form.the-variants.{SetForm, DForm, DabForm, DaForm, AForm, NoForm, UnknownForm}
+use Rattle.optable.proofs.Form.{the-type}
+use Rattle.optable.specs.Forms.{meaning}
+use Rattle.reader.specs.Parts.{ownRefusal}
+use Rattle.reader.proofs.RowBytes.{rows-length, row-bytes}
+use Rattle.reader.proofs.OpBytes.{knownForm, known-byte}
+use borrow.Author.Needs.{needs}
+use Rattle.reader.proofs.row_fits.Statement.{statement}
+use Rattle.reader.proofs.row_fits.Tie as tie
+
+-- The arm of every other form.
+other : (f : Declared) → OneOf (0 ∷ 1 ∷ 2 ∷ 3 ∷ 4 ∷ 5 ∷ []) (tagOf the-type f) → knownForm (meaning f) ≡ true
+unfolding knownForm
+other SetForm k = refl
+other DForm k = refl
+other DabForm k = refl
+other DaForm k = refl
+other AForm k = refl
+other NoForm k = refl
+other UnknownForm k = absurd (miss (0 ∷ 1 ∷ 2 ∷ 3 ∷ 4 ∷ 5 ∷ []) 6 tt k)
+
+-- A row's own refusals, by the form of its op.
+own-is : (t : List ℕ) (r : ℕ) (f : Form) → r * 4 + 3 < length t → getD t (r * 4) 0 < 256 → f ≡ formOf (getD t (r * 4) 0)
+    → ownRefusal r (rowAt (rowsOf t) r)
+    ≡ orElse (unless (knownForm f) (UnknownOp r)) (unless (operandsFit f (getD t (r * 4 + 1) 0) (getD t (r * 4 + 2) 0) (getD t (r * 4 + 3) 0)) (BadOperand r))
+unfolding ownRefusal rowOf formOf
+own-is t r f l m e =
+    let b = known-byte (getD t (r * 4) 0) m in
+    rw (row-bytes t r (omega (arith, rows-length t)), b, e)
+
+mul-at : tie.Need-mul-at
+mul-at c = search needs
+
+shared-slice-read-form-of : tie.Need-shared-slice-read-form-of
+shared-slice-read-form-of c = search needs
+
+form-of-requires : tie.Need-form-of-requires
+form-of-requires c κs = search needs
+
+enum-told : tie.Need-enum-told
+enum-told c = search needs
+
+cast-t7 : tie.Need-cast-t7
+cast-t7 c = search needs
+
+returns : tie.Need-returns
+unfolding knownForm orElse unless
+returns c =
+    let a = c .before .before .before .before .before .args in
+    sym (own-is (a .table .now) (a .row) (meaning (c .before .before .form-of .result)) (search needs) (c .before .before .before .before .shared-slice-known .given (a .row * 4) .fits) (c .before .before .form-of .ensures)
+    ∙ rw (c .enum-told .given .1))
+
+add-operands-fit : tie.Need-add-operands-fit
+add-operands-fit c = search needs
+
+shared-slice-read-operands-fit : tie.Need-shared-slice-read-operands-fit
+shared-slice-read-operands-fit c = search needs
+
+add-operands-fit-2 : tie.Need-add-operands-fit-2
+add-operands-fit-2 c = search needs
+
+shared-slice-read-operands-fit-2 : tie.Need-shared-slice-read-operands-fit-2
+shared-slice-read-operands-fit-2 c = search needs
+
+add-operands-fit-3 : tie.Need-add-operands-fit-3
+add-operands-fit-3 c = search needs
+
+shared-slice-read-operands-fit-3 : tie.Need-shared-slice-read-operands-fit-3
+shared-slice-read-operands-fit-3 c = search needs
+
+operands-fit-requires : tie.Need-operands-fit-requires
+operands-fit-requires c κs = search needs
+
+cast-t19 : tie.Need-cast-t19
+cast-t19 c = search needs
+
+returns-2 : tie.Need-returns-2
+unfolding orElse unless
+returns-2 c =
+    let a = c .before .before .before .before .before .before .before .before .before .args in
+    let f = c .before .before .before .before .before .before .form-of .result in
+    sym (own-is (a .table .now) (a .row) (meaning f) (search needs) (c .before .before .before .before .before .before .before .before .shared-slice-known .given (a .row * 4) .fits) (c .before .before .before .before .before .before .form-of .ensures)
+    ∙ rw (other f (c .before .before .before .before .before .match .keys2), ← (c .before .operands-fit .ensures), c .if1 .taken))
+
+returns-3 : tie.Need-returns-3
+unfolding orElse unless
+returns-3 c =
+    let a = c .before .before .before .before .before .before .before .before .before .args in
+    let f = c .before .before .before .before .before .before .form-of .result in
+    sym (own-is (a .table .now) (a .row) (meaning f) (search needs) (c .before .before .before .before .before .before .before .before .shared-slice-known .given (a .row * 4) .fits) (c .before .before .before .before .before .before .form-of .ensures)
+    ∙ rw (other f (c .before .before .before .before .before .match .keys2), ← (c .before .operands-fit .ensures), c .if1 .left))
+
+pub row-fits-spec : {M : Type 1} → statement M
+row-fits-spec =
+    tie.close
+    (tie.spec
+    mul-at
+    shared-slice-read-form-of
+    form-of-requires
+    enum-told
+    cast-t7
+    returns
+    add-operands-fit
+    shared-slice-read-operands-fit
+    add-operands-fit-2
+    shared-slice-read-operands-fit-2
+    add-operands-fit-3
+    shared-slice-read-operands-fit-3
+    operands-fit-requires
+    cast-t19
+    returns-2
+    returns-3)
