@@ -1,7 +1,7 @@
 -- What the body reader and the construct reader learn from the parts that they read, row by row. Assumes nothing.
-use mathlib.Core.Path.{_≡_, refl, sym, _∙_, ap, subst}
+use mathlib.Core.Path.{_≡_, refl, _∙_, ap, subst}
 use mathlib.Core.Logic.{inl, inr}
-use mathlib.Core.List.{List, [], _∷_}
+use mathlib.Core.List.{List, _∷_}
 use mathlib.Core.Bool.{Bool, true, false, _&&_, false≢true}
 use mathlib.Core.Option.{none, some}
 use Prim.Native.Nat.{ℕ, suc, _+_, _-_, _*_, _<_, _≤_}
@@ -10,14 +10,13 @@ use native.Mathlib.Omega.{arith}
 use borrow.Author.Tests.{ltb-true, lt-ltb, eqb-true, eqb-false}
 use lib.Dec.{eqb, ltb}
 use lib.ListN.{length, getD, set}
-use Rattle.spec.specs.Limits.{maxNesting}
 use Rattle.spec.specs.declared.Refusal.{Refusal}
-use Rattle.spec.specs.declared.Refusal.the-variants.{Misplaced, TooDeep, LeftOpen}
-use Rattle.spec.specs.Op.{Op, IF, ELSE, ENDIF, WHILE, ENDWHILE, opOf}
-use Rattle.spec.specs.Table.{Table, rowOf, rowsOf, rowAt, role, endOf}
+use Rattle.spec.specs.declared.Refusal.the-variants.{TooDeep, LeftOpen}
+use Rattle.spec.specs.Op.{Op, opOf}
+use Rattle.spec.specs.Table.{Table, rowOf, rowsOf, rowAt}
 use Rattle.spec.specs.TableCheck.{Open, inThen, inElse, inLoop, opener, elseFits, endifFits, endwhileFits, fits}
 use Rattle.structure.proofs.Ops.{Plain}
-use Rattle.structure.proofs.Nesting.{Starts, startsIf, startsLoop, endOp}
+use Rattle.structure.proofs.Nesting.{startsIf, startsLoop, endOp}
 use Rattle.reader.specs.declared.Reach.{Reach}
 use Rattle.reader.specs.declared.Reach.the-variants.{To, Refused}
 use Rattle.reader.specs.Answer.{ifLoop}
@@ -108,7 +107,7 @@ module _ (t : List ℕ) (w : IsTable t) where
     ninth (inl e) = too-deep T a (in-table a l) own (op-of a 32 l e byte-if) startsIf
     ninth (inr e) = too-deep T a (in-table a l) own (op-of a 35 l e byte-while) startsLoop
 
-    pub first-fails : {why : Refusal} → Opens (getD t (a * 4) 0) → d < 8 → Fails T (d + 1) (a + 1) why → Fails T d a why
+    first-fails : {why : Refusal} → Opens (getD t (a * 4) 0) → d < 8 → Fails T (d + 1) (a + 1) why → Fails T d a why
     first-fails (inl e) m f = reach-fail (reach-open (in-table a l) own (op-of a 32 l e byte-if) startsIf m) (rw (add-one d, add-one a) at f)
     first-fails (inr e) m f = reach-fail (reach-open (in-table a l) own (op-of a 35 l e byte-while) startsLoop m) (rw (add-one d, add-one a) at f)
 

@@ -1,9 +1,9 @@
 -- How rows that are read one after the other are refused, passed, and left by the scan for an end. Assumes nothing.
-use mathlib.Core.Path.{_≡_, refl, sym, _∙_, ap}
+use mathlib.Core.Path.{_≡_, refl, _∙_, ap}
 use mathlib.Core.List.{List, [], _∷_}
-use mathlib.Core.Bool.{Bool, true, false}
+use mathlib.Core.Bool.{true, false}
 use mathlib.Core.Option.{Option, none, some}
-use Prim.Native.Nat.{ℕ, zero, suc, _+_, _<_, _≤_}
+use Prim.Native.Nat.{ℕ, suc, _<_}
 use native.Mathlib.Omega.{arith}
 use borrow.Author.Tests.{le-ltb}
 use lib.ListN.{length, drop}
@@ -12,11 +12,11 @@ use Rattle.spec.specs.Limits.{maxNesting}
 use Rattle.spec.specs.declared.Refusal.{Refusal}
 use Rattle.spec.specs.declared.Refusal.the-variants.{Misplaced, TooDeep, LeftOpen}
 use Rattle.spec.specs.Answers.{unless, orElse, first}
-use Rattle.spec.specs.Op.{Op, IF, ELSE, ENDIF, WHILE, ENDWHILE}
-use Rattle.spec.specs.Table.{Row, Table, noRow, rowAt, Role, plain, opening, dividing, closing, role, scanRow, scan, endOf}
+use Rattle.spec.specs.Op.{Op, ELSE, ENDWHILE}
+use Rattle.spec.specs.Table.{Row, Table, noRow, rowAt, closing, role, scanRow, scan, endOf}
 use Rattle.spec.specs.TableCheck.{Open, inThen, inElse, inLoop, opener, fits, shallow, openAfter, rowRefusal, leftOpen, rowsRefusal}
 use Rattle.structure.proofs.Ops.{Plain}
-use Rattle.structure.proofs.Nesting.{Starts, startsIf, startsLoop, Step, stays, opens, divides, closes, endOp, Placed, placed}
+use Rattle.structure.proofs.Nesting.{Starts, startsIf, startsLoop, Step, stays, opens, divides, closes, endOp, placed}
 use Rattle.reader.specs.Parts.{ownRefusal, refusalFrom, endFrom, Passes, Fails}
 
 -- A row's refusals by itself come first, then those of its place.

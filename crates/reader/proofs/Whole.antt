@@ -9,13 +9,13 @@ use native.Mathlib.Omega.{arith}
 use lib.ListN.{length, getD, replicate, List·getD-eq-default}
 use Rattle.spec.specs.declared.Refusal.{Refusal}
 use Rattle.spec.specs.declared.Refusal.the-variants.{Misplaced}
-use Rattle.spec.specs.Op.{opOf}
+use Rattle.spec.specs.Op.{WHILE, opOf}
 use Rattle.spec.specs.Table.{Table, noRow, rowsOf, rowAt, endOf}
 use Rattle.spec.specs.TableCheck.{Open, elseFits, endifFits, endwhileFits, fits, tableRefusal}
 use Rattle.reader.specs.declared.Read.{Read}
 use Rattle.reader.specs.declared.Reading.the-variants.{Refused}
 use Rattle.reader.specs.Answer.{readingOf, ifLoop, ifAccepted, endAt}
-use Rattle.reader.specs.Parts.{IsTable, Ends, Fails, Notes, Body}
+use Rattle.reader.specs.Parts.{IsTable, Ends, Fails, Body}
 use Rattle.reader.proofs.OpBytes.{byte-else, byte-endif, byte-endwhile}
 use Rattle.reader.proofs.Passing.{fail-on, misplaced, pass-all}
 use Rattle.reader.proofs.Noting.{lt-or-le}
@@ -68,3 +68,8 @@ module _ (t : List ℕ) (w : IsTable t) (k : ℕ) (y : List ℕ) (b : Body t 0 0
       by : (i < k) ⊎ (k ≤ i) → getD y i 0 ≡ ifLoop (rowAt (rowsOf t) i .op) (endOf (rowsOf t) i) 0
       by (inl h) = b .span .notes .inside i (omega arith) h ∙ ap (ifLoop (rowAt (rowsOf t) i .op) (endOf (rowsOf t) i)) (zeros 256 i)
       by (inr h) = b .span .notes .below i h ∙ zeros 256 i ∙ sym (past (rowsOf t) i (endOf (rowsOf t) i) (omega (arith, at-end t w k (omega (arith, b .span .within)))))
+
+-- For who goes by the noted ends: at a WHILE of an accepted table stands the row of its ENDWHILE.
+pub end-at-loop : (T : Table) (i : ℕ) → tableRefusal T ≡ none → rowAt T i .op ≡ WHILE → endAt T i ≡ endOf T i
+unfolding endAt ifAccepted ifLoop
+end-at-loop T i e w = rw (e, w)

@@ -4,7 +4,7 @@ use mathlib.Core.Logic.{_⊎_}
 use mathlib.Core.List.{List}
 use mathlib.Core.Bool.{false}
 use mathlib.Core.Option.{Option, none, some}
-use Prim.Native.Nat.{ℕ, suc, _+_, _*_, _%_, _<_, _≤_}
+use Prim.Native.Nat.{ℕ, _+_, _*_, _%_, _<_, _≤_}
 use lib.ListN.{length, getD, drop}
 use Rattle.spec.specs.declared.Refusal.{Refusal}
 use Rattle.spec.specs.declared.Refusal.the-variants.{UnknownOp, BadOperand, Misplaced, LeftOpen}
@@ -47,7 +47,7 @@ pub record Passes (T : Table) (d a b : ℕ) : Type 0 where
 abbrev pub Fails : Table → ℕ → ℕ → Refusal → Type 0
 Fails T d a why = (os : List Open) → length os ≡ d → refusalFrom T a os ≡ some why
 
--- The ends of the loops among the rows from a up to b are noted, and nothing else.
+-- The ends of the loops among the rows from a up to b are noted, and all other entries are kept.
 pub record Notes (T : Table) (a b : ℕ) (before after : List ℕ) : Type 0 where
   pub size : length after ≡ length before
   pub inside : (i : ℕ) → a ≤ i → i < b → getD after i 0 ≡ ifLoop (rowAt T i .op) (endOf T i) (getD before i 0)
@@ -61,19 +61,22 @@ pub record Span (t : List ℕ) (d a b : ℕ) (before after : List ℕ) : Type 0 
   pub passes : Passes (rowsOf t) d a b
   pub notes : Notes (rowsOf t) a b before after
 
--- Row b ends a body.
+-- Row b ends a body, and has no refusal of its own.
 pub record Stops (t : List ℕ) (b : ℕ) : Type 0 where
   pub byte : Ends (getD t (b * 4) 0)
   pub own : ownRefusal b (rowAt (rowsOf t) b) ≡ none
 
+-- The rows from a up to b are a body, which ends at row b or at the table's end.
 pub record Body (t : List ℕ) (d a b : ℕ) (before after : List ℕ) : Type 0 where
   pub span : Span t d a b before after
   pub stops : b * 4 < length t → Stops t b
 
+-- The rows from a up to b are a construct.
 pub record Construct (t : List ℕ) (d a b : ℕ) (before after : List ℕ) : Type 0 where
   pub span : Span t d a b before after
   pub onward : a < b
 
+-- What the two readers answer, from row a on.
 abbrev pub BodyIs : List ℕ → (d a : ℕ) → (before after : List ℕ) → Reach → Type 0
 BodyIs t d a before after (To b) = Body t d a b before after
 BodyIs t d a before after (Refused why) = Fails (rowsOf t) d a why
@@ -82,7 +85,7 @@ abbrev pub ConstructIs : List ℕ → (d a : ℕ) → (before after : List ℕ) 
 ConstructIs t d a before after (To b) = Construct t d a b before after
 ConstructIs t d a before after (Refused why) = Fails (rowsOf t) d a why
 
--- At row k, in the construct that row o opens and the op `end` closes.
+-- What is answered at row k, where the construct that row o opens wants the op `end`.
 abbrev pub ClosesIs : List ℕ → (o k end : ℕ) → Reach → Type 0
 ClosesIs t o k end (To b) = (b ≡ k + 1) × (k * 4 < length t) × (getD t (k * 4) 0 ≡ end)
 ClosesIs t o k end (Refused why) = ((why ≡ LeftOpen o) × (k * 4 ≡ length t)) ⊎ ((why ≡ Misplaced k) × (k * 4 < length t) × (getD t (k * 4) 0 ≡ end → ⊥))

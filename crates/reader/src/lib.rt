@@ -4,7 +4,7 @@ use spec::Refusal;
 ghost use mathlib.Core.Path.{_≡_};
 ghost use mathlib.Core.Bool.{_&&_};
 ghost use mathlib.Core.Option.{none};
-ghost use Prim.Native.Nat.{ℕ, _+_, _*_, _%_, _<_, _≤_};
+ghost use Prim.Native.Nat.{ℕ, _*_, _%_, _<_, _≤_};
 ghost use lib.Dec.{eqb, ltb};
 ghost use lib.ListN.{length, getD, replicate};
 ghost use Rattle.spec.specs.Table.{rowsOf, rowAt};
@@ -28,7 +28,7 @@ pub enum Reading {
     Refused(Refusal),
 }
 
-// ends holds the row of its ENDWHILE for each WHILE of an accepted table, and 0 else.
+// ends holds, at each WHILE of an accepted table, the row of its ENDWHILE, and 0 everywhere else.
 pub struct Read {
     pub answer: Reading,
     pub ends: [u8; 256],
@@ -57,6 +57,7 @@ fn row_fits(table: &[u8], row: usize) -> Reading
     }
 }
 
+// False also behind the last row, where no ELSE can stand.
 fn is_else(table: &[u8], row: usize) -> bool
     requires { ⌜ (IsTable (now table)) × (row * 4 ≤ length (now table)) ⌝ }
     ensures { λ r. ⌜ r ≡ (ltb (row * 4) (length (now (table .entry))) && eqb (getD (now (table .entry)) (row * 4) 0) 33) ⌝ }
@@ -64,7 +65,7 @@ fn is_else(table: &[u8], row: usize) -> bool
     row * 4 < table.len() && table[row * 4] == ELSE
 }
 
-// The construct that row `opener` opens ends at `row` where that row's op is `end`.
+// `row` closes the construct that `opener` opens if its op is `end`. A construct that is left open is refused at `opener`.
 fn closes(table: &[u8], opener: usize, row: usize, end: u8) -> Reach
     requires { ⌜ (IsTable (now table)) × (opener < row) × (row * 4 ≤ length (now table)) ⌝ }
     ensures { λ r. ⌜ ClosesIs (now (table .entry)) opener row end r ⌝ }
@@ -79,7 +80,7 @@ fn closes(table: &[u8], opener: usize, row: usize, end: u8) -> Reach
     }
 }
 
-// A body ends at the table's end or at an ELSE or an end that is of no construct in it.
+// A body ends where the table does, or at an ELSE, ENDIF or ENDWHILE that is of no construct in it. A loop, so that only nesting takes stack.
 fn body(table: &[u8], from: usize, depth: usize, ends: &mut [u8; 256]) -> Reach
     requires { ⌜ (IsTable (now table)) × (from * 4 ≤ length (now table)) × (depth ≤ 8) × (length (now ends) ≡ 256) ⌝ }
     ensures { λ r. ⌜ BodyIs (now (table .entry)) depth from (now (ends .entry)) (now (ends .exit)) r ⌝ }
@@ -92,6 +93,7 @@ fn body(table: &[u8], from: usize, depth: usize, ends: &mut [u8; 256]) -> Reach
             Reading::Accepted => {}
         }
         let op = table[row * 4];
+        // ENDIF has an arm of its own: beside ELSE it would make the arm a range of numbers.
         match op {
             IF | WHILE => match construct(table, row, depth, ends) {
                 Reach::To(next) => row = next,
@@ -105,7 +107,7 @@ fn body(table: &[u8], from: usize, depth: usize, ends: &mut [u8; 256]) -> Reach
     Reach::To(row)
 }
 
-// A ninth construct is refused before its body is read, so the readers go at most nine bodies deep.
+// A ninth construct is refused before its body is read: at most nine bodies are being read at once.
 fn construct(table: &[u8], row: usize, depth: usize, ends: &mut [u8; 256]) -> Reach
     requires { ⌜ (IsTable (now table)) × (row * 4 < length (now table)) × (depth ≤ 8) × (Opens (getD (now table) (row * 4) 0))
         × (ownRefusal row (rowAt (rowsOf (now table)) row) ≡ none) × (length (now ends) ≡ 256) ⌝ }
@@ -135,6 +137,7 @@ fn construct(table: &[u8], row: usize, depth: usize, ends: &mut [u8; 256]) -> Re
     closes(table, row, last, ENDIF)
 }
 
+// The ends that were noted before the refusal are dropped.
 fn refused(why: Refusal) -> Read
     ensures { λ r. ⌜ (r .answer ≡ Reading.Refused why) × (r .ends ≡ replicate 256 0) ⌝ }
 {
@@ -144,6 +147,7 @@ fn refused(why: Refusal) -> Read
     }
 }
 
+// The caller has tested the length.
 pub fn read_table(table: &[u8]) -> Read
     requires { ⌜ (length (now table) % 4 ≡ 0) × (length (now table) ≤ 4 * 256) ⌝ }
     ensures answer { λ r. ⌜ readingOf (r .answer) ≡ tableRefusal (rowsOf (now (table .entry))) ⌝ }

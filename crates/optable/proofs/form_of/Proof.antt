@@ -1,6 +1,6 @@
 -- `optable::form_of` meets its contract: the table's rule is computed once, for all 256 bytes. Assumes nothing.
 use mathlib.Core.Path.{_≡_, refl, sym, ap, _∙_}
-use mathlib.Core.List.{List, [], _∷_, _++_}
+use mathlib.Core.List.{List, _∷_, _++_}
 use mathlib.Core.Bool.{Bool, true, cond}
 use Prim.Native.Nat.{ℕ, _<_}
 use borrow.Author.Needs.{needs}

@@ -72,7 +72,7 @@ module _ (t : ℕ) where
 
   body-returns : body-lts.Need-returns (body-calls t) (body-at t) body.Post body-Inv-loop body-μ-loop
   body-returns c =
-      let s = (c .before .before .before .before .before .before .before) in
+      let s = c .before .before .before .before .before .before .before in
       span-refused (s .args .table .now) (s .pre .1 .0) (c .before .before .before .before .before .loop .inv) (omega arith) (sym (c .before .before .before .row-fits .ensures) ∙ ap readingOf (c .before .why .given .1))
 
   body-enum-told : body-lts.Need-enum-told (body-calls t) (body-at t) body.Post body-Inv-loop body-μ-loop
@@ -140,7 +140,7 @@ module _ (t : ℕ) where
 
   body-loop-again-2 : body-lts.Need-loop-again-2 (body-calls t) (body-at t) body.Post body-Inv-loop body-μ-loop
   body-loop-again-2 c =
-      let s = (c .before .before .before .before .before .before .before .before) in
+      let s = c .before .before .before .before .before .before .before .before in
       let t = s .args .table .now in
       let r = c .before .before .before .before .before .before .loop .row in
       let n = c .match2 .rest in
@@ -212,7 +212,7 @@ module _ (t : ℕ) where
   ended c = let a = c .before .before .before .before .before .before .before .before .before .before .before .before .before .args in subst (ClosesIs (a .table .now) (a .row) (c .before .before .before .before .before .before .before .first .given .0 .0) 36) (c .before .closed .given .1) (c .before .before .before .closes .ensures)
 
   construct-sub-ends : construct-lts.Need-sub-ends (construct-calls t) (construct-at t) construct.Post
-  construct-sub-ends c = omega (arith, (ended c) .0)
+  construct-sub-ends c = omega (arith, (ended c) .0, (first (c .before .before .before .before .before .before)) .span .on)
 
   construct-cast-ends : construct-lts.Need-cast-ends (construct-calls t) (construct-at t) construct.Post
   construct-cast-ends c = omega (arith, (ended c) .0, (ended c) .1, c .before .before .before .before .before .before .before .before .before .before .before .before .before .pre .1)

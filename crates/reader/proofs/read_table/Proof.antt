@@ -1,6 +1,5 @@
 -- `reader::read_table` meets its contract: the table's body is read to the table's end, or something is refused. Assumes nothing.
 use mathlib.Core.Path.{sym, subst}
-use Prim.Native.Nat.{ℕ}
 use native.Mathlib.Omega.{arith}
 use lib.ListN.{replicate}
 use Rattle.spec.specs.declared.Refusal.the-variants.{Misplaced}
