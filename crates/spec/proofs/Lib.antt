@@ -4,3 +4,4 @@ pub mod WordTable
 pub mod ConflictTable
 pub mod Worked
 pub mod MachineRuns
+pub mod RefusedLaunches
