@@ -1,4 +1,4 @@
-pub mod Filling
-pub mod Putting
-pub mod Ops
-pub mod Turns
+mod Filling
+mod Putting
+mod Ops
+mod Turns

@@ -14,12 +14,11 @@ use Rattle.spec.specs.Mask.{maskWord, members}
 use Rattle.spec.specs.Op.{Calc, CALC, opOf, value}
 use Rattle.spec.specs.Table.{Row}
 use Rattle.spec.specs.LockStep.{LockState, Step, inTurn, computeTurn, setReg, update, reg}
-use Rattle.layout.specs.declared.Access.{Access}
 use Rattle.layout.specs.declared.Access.the-variants.{Done}
 use Rattle.layout.proofs.Memory.{Regs, Memory, Did, OneTurn, ComputeAsks, ComputeAll}
 use Rattle.layout.proofs.Buffers.{regs-set}
 use Rattle.layout.proofs.Turning.{Turning, turn-start, turn-in, turn-out, turn-whole}
-use Rattle.lanes.specs.Lanes.{Puts, lane, chosen, ByRow}
+use Rattle.lanes.specs.Lanes.{Puts, lane, chosen, RowLanes}
 use Rattle.lanes.proofs.Putting.{puts-none, puts-old, puts-more, puts-agree, chosen-in, chosen-off}
 
 -- Buffers that are the same where registers stand are those of the same state.
@@ -61,7 +60,7 @@ module _ (c : Calc) (n : ℕ) (x : Row) where
         kept = record { row-same = refl; enabled-same = refl; saved-same = refl; rows-same = refl; barriers-same = refl; steps-more = omega arith };
       }
 
-module _ {op n d a b k : ℕ} {regs v : List ℕ} (mask : ℕ) (A : ComputeAsks op d a b) (B : ByRow op n a b k regs v) where
+module _ {op n d a b k : ℕ} {regs v : List ℕ} (mask : ℕ) (A : ComputeAsks op d a b) (B : RowLanes op n a b k regs v) where
   -- Lane t of register d after the row.
   abbrev new : ℕ → ℕ
   new = chosen v mask d regs

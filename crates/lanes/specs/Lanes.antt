@@ -21,11 +21,11 @@ abbrev pub zip : (ℕ → ℕ → ℕ) → (p q : List ℕ) → ℕ → ℕ
 zip f p q t = f (getD p t 0) (getD q t 0)
 
 -- The lanes of an op that reads two registers.
-pub record ByOp (op : ℕ) (p q v : List ℕ) : Type 0 where
+pub record OpLanes (op : ℕ) (p q v : List ℕ) : Type 0 where
   pub at : (c : Calc) → opOf op ≡ CALC c → (n a b t : ℕ) → t < 32 → getD v t 0 ≡ value c n t a b (getD p t 0) (getD q t 0)
 
 -- The lanes of a computing row. p and q are thread t's two registers, which ops 1 to 3 do not read.
-pub record ByRow (op n a b k : ℕ) (regs v : List ℕ) : Type 0 where
+pub record RowLanes (op n a b k : ℕ) (regs v : List ℕ) : Type 0 where
   pub at : (c : Calc) → opOf op ≡ CALC c → k ≡ a + 256 * b → (t p q : ℕ) → t < 32 → (4 ≤ op → p ≡ lane a regs t) → (4 ≤ op → q ≡ lane b regs t) → getD v t 0 ≡ value c n t a b p q
 
 -- Of register d the first t lanes hold F, and all else is as it was.

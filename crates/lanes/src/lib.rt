@@ -4,7 +4,7 @@ ghost use lib.Bits.{bitAnd, bitOr, bitXor};
 ghost use lib.ListN.{getD};
 ghost use Rattle.spec.specs.Word.{add, sub, mul, shr, sar, equal, less, signedLess};
 ghost use Rattle.layout.proofs.Memory.{ComputeAsks, ComputeAll};
-ghost use Rattle.lanes.specs.Lanes.{Filled, Puts, lane, zip, chosen, ByOp, ByRow};
+ghost use Rattle.lanes.specs.Lanes.{Filled, Puts, lane, zip, chosen, OpLanes, RowLanes};
 
 // Register r of all threads.
 fn lanes_of(regs: &[u32; 512], r: usize) -> [u32; 32]
@@ -20,6 +20,7 @@ fn lanes_of(regs: &[u32; 512], r: usize) -> [u32; 32]
     v
 }
 
+// Lane t holds t.
 fn threads() -> [u32; 32]
     ensures { λ v. ⌜ Filled (λ t. t) v 32 ⌝ }
 {
@@ -46,6 +47,7 @@ fn put(regs: &mut [u32; 512], d: usize, v: [u32; 32], mask: u32)
     }
 }
 
+// Where all 32 threads are enabled: without the test.
 fn put_all(regs: &mut [u32; 512], d: usize, v: [u32; 32])
     requires { ⌜ d < 16 ⌝ }
     ensures { λ _. ⌜ Puts d (λ t. getD v t 0) (now (regs .entry)) (now (regs .exit)) 32 ⌝ }
@@ -58,7 +60,7 @@ fn put_all(regs: &mut [u32; 512], d: usize, v: [u32; 32])
 }
 
 fn add_lanes(p: [u32; 32], q: [u32; 32]) -> [u32; 32]
-    ensures { λ v. ⌜ Filled (zip (λ x y. add x y) p q) v 32 ⌝ }
+    ensures { λ v. ⌜ Filled (zip add p q) v 32 ⌝ }
 {
     let mut v: [u32; 32] = [0; 32];
     let mut t = 0;
@@ -72,7 +74,7 @@ fn add_lanes(p: [u32; 32], q: [u32; 32]) -> [u32; 32]
 }
 
 fn sub_lanes(p: [u32; 32], q: [u32; 32]) -> [u32; 32]
-    ensures { λ v. ⌜ Filled (zip (λ x y. sub x y) p q) v 32 ⌝ }
+    ensures { λ v. ⌜ Filled (zip sub p q) v 32 ⌝ }
 {
     let mut v: [u32; 32] = [0; 32];
     let mut t = 0;
@@ -86,7 +88,7 @@ fn sub_lanes(p: [u32; 32], q: [u32; 32]) -> [u32; 32]
 }
 
 fn mul_lanes(p: [u32; 32], q: [u32; 32]) -> [u32; 32]
-    ensures { λ v. ⌜ Filled (zip (λ x y. mul x y) p q) v 32 ⌝ }
+    ensures { λ v. ⌜ Filled (zip mul p q) v 32 ⌝ }
 {
     let mut v: [u32; 32] = [0; 32];
     let mut t = 0;
@@ -100,7 +102,7 @@ fn mul_lanes(p: [u32; 32], q: [u32; 32]) -> [u32; 32]
 }
 
 fn and_lanes(p: [u32; 32], q: [u32; 32]) -> [u32; 32]
-    ensures { λ v. ⌜ Filled (zip (λ x y. bitAnd x y) p q) v 32 ⌝ }
+    ensures { λ v. ⌜ Filled (zip bitAnd p q) v 32 ⌝ }
 {
     let mut v: [u32; 32] = [0; 32];
     let mut t = 0;
@@ -114,7 +116,7 @@ fn and_lanes(p: [u32; 32], q: [u32; 32]) -> [u32; 32]
 }
 
 fn or_lanes(p: [u32; 32], q: [u32; 32]) -> [u32; 32]
-    ensures { λ v. ⌜ Filled (zip (λ x y. bitOr x y) p q) v 32 ⌝ }
+    ensures { λ v. ⌜ Filled (zip bitOr p q) v 32 ⌝ }
 {
     let mut v: [u32; 32] = [0; 32];
     let mut t = 0;
@@ -128,7 +130,7 @@ fn or_lanes(p: [u32; 32], q: [u32; 32]) -> [u32; 32]
 }
 
 fn xor_lanes(p: [u32; 32], q: [u32; 32]) -> [u32; 32]
-    ensures { λ v. ⌜ Filled (zip (λ x y. bitXor x y) p q) v 32 ⌝ }
+    ensures { λ v. ⌜ Filled (zip bitXor p q) v 32 ⌝ }
 {
     let mut v: [u32; 32] = [0; 32];
     let mut t = 0;
@@ -142,7 +144,7 @@ fn xor_lanes(p: [u32; 32], q: [u32; 32]) -> [u32; 32]
 }
 
 fn shr_lanes(p: [u32; 32], q: [u32; 32]) -> [u32; 32]
-    ensures { λ v. ⌜ Filled (zip (λ x y. shr x y) p q) v 32 ⌝ }
+    ensures { λ v. ⌜ Filled (zip shr p q) v 32 ⌝ }
 {
     let mut v: [u32; 32] = [0; 32];
     let mut t = 0;
@@ -156,7 +158,7 @@ fn shr_lanes(p: [u32; 32], q: [u32; 32]) -> [u32; 32]
 }
 
 fn sar_lanes(p: [u32; 32], q: [u32; 32]) -> [u32; 32]
-    ensures { λ v. ⌜ Filled (zip (λ x y. sar x y) p q) v 32 ⌝ }
+    ensures { λ v. ⌜ Filled (zip sar p q) v 32 ⌝ }
 {
     let mut v: [u32; 32] = [0; 32];
     let mut t = 0;
@@ -170,7 +172,7 @@ fn sar_lanes(p: [u32; 32], q: [u32; 32]) -> [u32; 32]
 }
 
 fn eq_lanes(p: [u32; 32], q: [u32; 32]) -> [u32; 32]
-    ensures { λ v. ⌜ Filled (zip (λ x y. equal x y) p q) v 32 ⌝ }
+    ensures { λ v. ⌜ Filled (zip equal p q) v 32 ⌝ }
 {
     let mut v: [u32; 32] = [0; 32];
     let mut t = 0;
@@ -184,7 +186,7 @@ fn eq_lanes(p: [u32; 32], q: [u32; 32]) -> [u32; 32]
 }
 
 fn lt_lanes(p: [u32; 32], q: [u32; 32]) -> [u32; 32]
-    ensures { λ v. ⌜ Filled (zip (λ x y. less x y) p q) v 32 ⌝ }
+    ensures { λ v. ⌜ Filled (zip less p q) v 32 ⌝ }
 {
     let mut v: [u32; 32] = [0; 32];
     let mut t = 0;
@@ -198,7 +200,7 @@ fn lt_lanes(p: [u32; 32], q: [u32; 32]) -> [u32; 32]
 }
 
 fn slt_lanes(p: [u32; 32], q: [u32; 32]) -> [u32; 32]
-    ensures { λ v. ⌜ Filled (zip (λ x y. signedLess x y) p q) v 32 ⌝ }
+    ensures { λ v. ⌜ Filled (zip signedLess p q) v 32 ⌝ }
 {
     let mut v: [u32; 32] = [0; 32];
     let mut t = 0;
@@ -213,7 +215,7 @@ fn slt_lanes(p: [u32; 32], q: [u32; 32]) -> [u32; 32]
 
 fn alu_lanes(op: u8, x: [u32; 32], y: [u32; 32]) -> [u32; 32]
     requires { ⌜ (4 ≤ op) × (op ≤ 14) ⌝ }
-    ensures { λ v. ⌜ ByOp op x y v ⌝ }
+    ensures { λ v. ⌜ OpLanes op x y v ⌝ }
 {
     match op {
         4 => add_lanes(x, y),
@@ -233,7 +235,7 @@ fn alu_lanes(op: u8, x: [u32; 32], y: [u32; 32]) -> [u32; 32]
 // SET, TID and COUNT read no register.
 fn value_lanes(regs: &[u32; 512], n: u32, op: u8, a: usize, b: usize, k: u32) -> [u32; 32]
     requires { ⌜ ComputeAsks op 0 a b ⌝ }
-    ensures { λ v. ⌜ ByRow op n a b k (now (regs .entry)) v ⌝ }
+    ensures { λ v. ⌜ RowLanes op n a b k (now (regs .entry)) v ⌝ }
 {
     if op < 4 {
         if op == 1 {

@@ -1,1 +1,1 @@
-pub mod Integers
+mod Integers

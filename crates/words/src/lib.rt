@@ -2,6 +2,7 @@
 ghost use mathlib.Core.Path.{_≡_};
 ghost use Rattle.spec.specs.Word.{add, sub, mul, shr, sar, equal, less, signedLess, signed, unsigned, topCopies};
 
+// Sums, differences and products are taken in 64 bits, where none wraps.
 pub fn add(x: u32, y: u32) -> u32
     ensures { λ r. ⌜ r ≡ add x y ⌝ }
 {

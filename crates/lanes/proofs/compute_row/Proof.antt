@@ -1,5 +1,6 @@
 -- `lanes::compute_row` does what the turns of the row's enabled threads do, one after the other. Assumes nothing.
 use mathlib.Core.Path.{refl}
+use native.Mathlib.Omega.{arith}
 use borrow.Author.Needs.{needs}
 use Rattle.lanes.proofs.Putting.{chosen-all}
 use Rattle.lanes.proofs.Turns.{row-done}
@@ -20,7 +21,7 @@ returns c =
     let s = c .before .before .before .before .before in
     let g = s .args in
     let v = c .before .before .before .value-lanes in
-    row-done (g .mask) (s .pre .1) (v .ensures) (c .put-all .ensures) (λ t. chosen-all (v .result) (g .mask) (g .d) (g .regs .now) t (c .before .before .if1 .taken))
+    row-done (g .mask) (s .pre .1) (v .ensures) (c .put-all .ensures) (λ t. chosen-all (v .result) (g .mask) (g .d) (g .regs .now) t (omega arith))
 
 returns-2 : tie.Need-returns-2
 returns-2 c =

@@ -1,5 +1,5 @@
 -- `words::unsigned` gives the word of a signed value. Assumes nothing.
-use mathlib.Core.Path.{_≡_, ap, _∙_}
+use mathlib.Core.Path.{ap, _∙_}
 use native.Mathlib.Omega.{arith}
 use lib.IntN.{natAbs}
 use Rattle.words.proofs.Integers.{Negative, Positive, negative, positive, casts}
