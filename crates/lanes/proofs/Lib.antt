@@ -1,4 +1,2 @@
-mod Filling
-mod Putting
-mod Ops
-mod Turns
+pub mod Filling
+pub mod Ops

@@ -1,13 +1,13 @@
 -- The lanes of each op hold the op's values. Assumes nothing.
-use mathlib.Core.Path.{_≡_, refl, sym, _∙_, ap, ap₂}
+use mathlib.Core.Path.{_≡_, refl, sym, _∙_, ap}
 use mathlib.Core.List.{List}
 use Prim.Native.Nat.{ℕ, _+_, _≤_}
 use native.Mathlib.Omega.{arith}
 use lib.Bits.{bitAnd, bitOr, bitXor}
-use lib.ListN.{getD, replicate, getD-replicate}
+use lib.ListN.{getD}
 use Rattle.spec.specs.Word.{add, sub, mul, shr, sar, equal, less, signedLess}
-use Rattle.spec.specs.Op.{Calc, SET, TID, COUNT, ADD, SUB, MUL, AND, OR, XOR, SHR, SAR, EQ, LT, SLT, CALC, value, opTable, opOf}
-use Rattle.lanes.specs.Lanes.{Filled, lane, zip, OpLanes, RowLanes}
+use Rattle.spec.specs.Op.{Calc, ADD, SUB, MUL, AND, OR, XOR, SHR, SAR, EQ, LT, SLT, CALC, value, opTable, opOf}
+use Rattle.lanes.specs.Lanes.{Filled, zip, OpLanes}
 
 -- Op number k is d, which gives f of its two registers.
 pub record OpIs (k : ℕ) (d : Calc) (f : ℕ → ℕ → ℕ) : Type 0 where
@@ -23,7 +23,7 @@ ops-are =
     (entry refl refl, entry refl refl, entry refl refl, entry refl refl, entry refl refl, entry refl refl, entry refl refl, entry refl refl, entry refl refl, entry refl refl, entry refl refl)
 
 -- The op of a number is one.
-same-op : (op k : ℕ) (c d : Calc) → op ≡ k → opOf k ≡ CALC d → opOf op ≡ CALC c → d ≡ c
+pub same-op : (op k : ℕ) (c d : Calc) → op ≡ k → opOf k ≡ CALC d → opOf op ≡ CALC c → d ≡ c
 same-op op k c d e p q = cc
 
 pub by-op : {op k : ℕ} {p q v : List ℕ} {d : Calc} {f : ℕ → ℕ → ℕ} → op ≡ k → OpIs k d f → Filled (zip f p q) v 32 → OpLanes op p q v
@@ -38,21 +38,3 @@ past-five k op h n₀ n₁ n₂ n₃ n₄ = omega arith
 
 pub last-op : (op : ℕ) → 4 ≤ op → op ≤ 14 → (op ≡ 4 → ⊥) → (op ≡ 5 → ⊥) → (op ≡ 6 → ⊥) → (op ≡ 7 → ⊥) → (op ≡ 8 → ⊥) → (op ≡ 9 → ⊥) → (op ≡ 10 → ⊥) → (op ≡ 11 → ⊥) → (op ≡ 12 → ⊥) → (op ≡ 13 → ⊥) → op ≡ 14
 last-op op h l n₄ n₅ n₆ n₇ n₈ n₉ n₁₀ n₁₁ n₁₂ n₁₃ = let k : 14 ≤ op = past-five 9 op (past-five 4 op h n₄ n₅ n₆ n₇ n₈) n₉ n₁₀ n₁₁ n₁₂ n₁₃ in omega (arith, l, k)
-
--- SET, TID and COUNT, and the ops that read two registers.
-module _ {op n a b k : ℕ} {regs : List ℕ} where
-  pub by-set : op ≡ 1 → RowLanes op n a b k regs (replicate 32 k)
-  unfolding opOf opTable value
-  by-set e = record { at = λ c o ek t p q h l r. getD-replicate 32 t k 0 h ∙ ek ∙ ap (λ z. value z n t a b p q) (same-op op 1 c SET e refl o) }
-
-  pub by-tid : {v : List ℕ} → op ≡ 2 → Filled (λ t. t) v 32 → RowLanes op n a b k regs v
-  unfolding opOf opTable value
-  by-tid e L = record { at = λ c o ek t p q h l r. L .below t h ∙ ap (λ z. value z n t a b p q) (same-op op 2 c TID e refl o) }
-
-  pub by-count : op ≡ 3 → RowLanes op n a b k regs (replicate 32 n)
-  unfolding opOf opTable value
-  by-count e = record { at = λ c o ek t p q h l r. getD-replicate 32 t n 0 h ∙ ap (λ z. value z n t a b p q) (same-op op 3 c COUNT e refl o) }
-
-  pub by-registers : {x y v : List ℕ} → 4 ≤ op → OpLanes op x y v → Filled (lane a regs) x 32 → Filled (lane b regs) y 32 → RowLanes op n a b k regs v
-  by-registers m O X Y =
-      record { at = λ c o ek t p q h l r. O .at c o n a b t h ∙ ap₂ (value c n t a b) (X .below t h ∙ sym (l m)) (Y .below t h ∙ sym (r m)) }

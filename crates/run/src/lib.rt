@@ -82,7 +82,7 @@ fn step(
     let a = index(table[row * 4 + 2]);
     let b = index(table[row * 4 + 3]);
     if op < 16 {
-        lanes::compute_row(regs, n, s.mask, op, d, a, b, constant(a, b));
+        compute::compute_row(regs, n, s.mask, op, d, a, b, constant(a, b));
         return layout::Next::Go(constructs::moved(s, masks::count(s.mask)));
     }
     if op < 32 {

@@ -16,7 +16,7 @@ use Rattle.run.proofs.step.Lts as lts
 use Rattle.constructs.proofs.barrier_row.Reads as barrier-row-reads
 use Rattle.constructs.proofs.construct_row.Reads as construct-row-reads
 use Rattle.constructs.proofs.moved.Reads as moved-reads
-use Rattle.lanes.proofs.compute_row.Reads as compute-row-reads
+use Rattle.compute.proofs.compute_row.Reads as compute-row-reads
 use Rattle.masks.proofs.count.Reads as count-reads
 use Rattle.run.proofs.access_row.Reads as access-row-reads
 use Rattle.run.proofs.constant.Reads as constant-reads

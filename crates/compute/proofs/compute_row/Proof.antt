@@ -1,11 +1,11 @@
--- `lanes::compute_row` does what the turns of the row's enabled threads do, one after the other. Assumes nothing.
+-- `compute::compute_row` does what the turns of the row's enabled threads do, one after the other. Assumes nothing.
 use mathlib.Core.Path.{refl}
 use native.Mathlib.Omega.{arith}
 use borrow.Author.Needs.{needs}
-use Rattle.lanes.proofs.Putting.{chosen-all}
-use Rattle.lanes.proofs.Turns.{row-done}
-use Rattle.lanes.proofs.compute_row.Statement.{statement}
-use Rattle.lanes.proofs.compute_row.Tie as tie
+use Rattle.compute.proofs.Putting.{chosen-all}
+use Rattle.compute.proofs.Turns.{row-done}
+use Rattle.compute.proofs.compute_row.Statement.{statement}
+use Rattle.compute.proofs.compute_row.Tie as tie
 
 value-lanes-requires : tie.Need-value-lanes-requires
 value-lanes-requires c κs = search needs

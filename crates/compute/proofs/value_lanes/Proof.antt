@@ -1,9 +1,9 @@
--- `lanes::value_lanes` gives what a computing row gives each thread. Assumes nothing.
+-- `compute::value_lanes` gives what a computing row gives each thread. Assumes nothing.
 use native.Mathlib.Omega.{arith}
 use borrow.Author.Needs.{needs}
-use Rattle.lanes.proofs.Ops.{by-set, by-tid, by-count, by-registers}
-use Rattle.lanes.proofs.value_lanes.Statement.{statement}
-use Rattle.lanes.proofs.value_lanes.Tie as tie
+use Rattle.compute.proofs.Values.{by-set, by-tid, by-count, by-registers}
+use Rattle.compute.proofs.value_lanes.Statement.{statement}
+use Rattle.compute.proofs.value_lanes.Tie as tie
 
 returns : tie.Need-returns
 returns c = by-set (omega arith)

@@ -1,10 +1,10 @@
--- `lanes::put_all` stores every lane. Assumes nothing.
+-- `compute::put_all` stores every lane. Assumes nothing.
 use Prim.Native.Nat.{_-_}
 use lib.ListN.{getD}
-use Rattle.lanes.specs.Lanes.{Puts}
-use Rattle.lanes.proofs.Putting.{putting}
-use Rattle.lanes.proofs.put_all.Statement.{statement}
-use Rattle.lanes.proofs.put_all.Tie as tie
+use Rattle.compute.specs.RowLanes.{Puts}
+use Rattle.compute.proofs.Putting.{putting}
+use Rattle.compute.proofs.put_all.Statement.{statement}
+use Rattle.compute.proofs.put_all.Tie as tie
 
 abbrev Inv-loop : tie.InvT-loop
 Inv-loop regs₀ d v t₀ regs t = Puts d (λ j. getD v j 0) regs₀ regs t

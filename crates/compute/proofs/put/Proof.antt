@@ -1,12 +1,12 @@
--- `lanes::put` stores the lanes of the mask. Assumes nothing.
+-- `compute::put` stores the lanes of the mask. Assumes nothing.
 use mathlib.Core.Path.{_∙_}
 use mathlib.Core.Logic.{⊎-elim}
 use Prim.Native.Nat.{_-_}
 use native.Mathlib.Omega.{arith}
-use Rattle.lanes.specs.Lanes.{Puts, chosen}
-use Rattle.lanes.proofs.Putting.{putting, puts-more, puts-old, chosen-in, chosen-off}
-use Rattle.lanes.proofs.put.Statement.{statement}
-use Rattle.lanes.proofs.put.Tie as tie
+use Rattle.compute.specs.RowLanes.{Puts, chosen}
+use Rattle.compute.proofs.Putting.{putting, puts-more, puts-old, chosen-in, chosen-off}
+use Rattle.compute.proofs.put.Statement.{statement}
+use Rattle.compute.proofs.put.Tie as tie
 
 abbrev Inv-loop : tie.InvT-loop
 Inv-loop regs₀ d mask v t₀ regs t = Puts d (chosen v mask d regs₀) regs₀ regs t

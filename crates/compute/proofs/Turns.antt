@@ -18,8 +18,8 @@ use Rattle.layout.specs.declared.Access.the-variants.{Done}
 use Rattle.layout.proofs.Memory.{Regs, Memory, Did, OneTurn, ComputeAsks, ComputeAll}
 use Rattle.layout.proofs.Buffers.{regs-set}
 use Rattle.layout.proofs.Turning.{Turning, turn-start, turn-in, turn-out, turn-whole}
-use Rattle.lanes.specs.Lanes.{Puts, lane, chosen, RowLanes}
-use Rattle.lanes.proofs.Putting.{puts-none, puts-old, puts-more, puts-agree, chosen-in, chosen-off}
+use Rattle.compute.specs.RowLanes.{Puts, lane, chosen, RowLanes}
+use Rattle.compute.proofs.Putting.{puts-none, puts-old, puts-more, puts-agree, chosen-in, chosen-off}
 
 -- Buffers that are the same where registers stand are those of the same state.
 did-alike : (n k : ℕ) (s : LockState) (o : Step) (regs regs′ cells log : List ℕ) → length regs′ ≡ 512 → ((t r : ℕ) → t < n → lane r regs′ t ≡ lane r regs t)

@@ -1,9 +1,10 @@
--- `lanes::lanes_of` gives the lanes of a register. Assumes nothing.
+-- `compute::lanes_of` gives the lanes of a register. Assumes nothing.
 use Prim.Native.Nat.{_-_}
-use Rattle.lanes.specs.Lanes.{Filled, lane}
+use Rattle.lanes.specs.Lanes.{Filled}
+use Rattle.compute.specs.RowLanes.{lane}
 use Rattle.lanes.proofs.Filling.{filling}
-use Rattle.lanes.proofs.lanes_of.Statement.{statement}
-use Rattle.lanes.proofs.lanes_of.Tie as tie
+use Rattle.compute.proofs.lanes_of.Statement.{statement}
+use Rattle.compute.proofs.lanes_of.Tie as tie
 
 abbrev Inv-loop : tie.InvT-loop
 Inv-loop regs r v₀ t₀ v t = Filled (lane r regs) v t

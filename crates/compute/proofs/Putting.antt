@@ -10,7 +10,7 @@ use borrow.Author.Tests.{eq-eqb, ne-eqb}
 use lib.Pow.{pow-pos, ones-split, ones-lt, high}
 use lib.ListN.{length, getD, set, length-set}
 use lib.Seq.{getD-set-same, getD-set-other}
-use Rattle.lanes.specs.Lanes.{Puts, lane, chosen}
+use Rattle.compute.specs.RowLanes.{Puts, lane, chosen}
 
 module _ (d : ℕ) (F : ℕ → ℕ) (regs : List ℕ) where
   pub puts-none : Puts d F regs regs 0

@@ -1,9 +1,9 @@
--- `lanes::threads` gives each lane its own number. Assumes nothing.
+-- `compute::threads` gives each lane its own number. Assumes nothing.
 use Prim.Native.Nat.{_-_}
 use Rattle.lanes.specs.Lanes.{Filled}
 use Rattle.lanes.proofs.Filling.{filling}
-use Rattle.lanes.proofs.threads.Statement.{statement}
-use Rattle.lanes.proofs.threads.Tie as tie
+use Rattle.compute.proofs.threads.Statement.{statement}
+use Rattle.compute.proofs.threads.Tie as tie
 
 abbrev Inv-loop : tie.InvT-loop
 Inv-loop v₀ t₀ v t = Filled (λ j. j) v t
