@@ -31,7 +31,7 @@ use Rattle.layout.proofs.LogBuffer.{empty-is}
 use Rattle.layout.proofs.Saving.{saves-back}
 use Rattle.layout.proofs.Represents.{Represents, After, Counted, Counts, RoomForWhile}
 use Rattle.layout.proofs.Running.{Ready, Runnable, Steps, RunIs, endedAs, shapeBy}
-use Rattle.run.proofs.Tables.{row-bytes, row-inside, rows-length}
+use Rattle.step.proofs.Tables.{row-bytes, row-inside, rows-length}
 use Rattle.run.proofs.RowBytes.{row-asks}
 
 -- Between two rows: the code's state stands for some state of the lock-step run, which is simulated by the threads' machine, and from which the rest of the run is the whole run.

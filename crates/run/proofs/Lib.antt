@@ -1,4 +1,2 @@
-pub mod Tables
-pub mod RowBytes
-pub mod Plain
-pub mod Going
+mod RowBytes
+mod Going

@@ -17,7 +17,7 @@ use Rattle.structure.proofs.Acceptance.{operands-fit, accepted-if}
 use Rattle.allruns.proofs.Bools.{and-left, and-right}
 use Rattle.layout.proofs.Memory.{ComputeAsks}
 use Rattle.layout.proofs.Running.{RowAsks}
-use Rattle.run.proofs.Tables.{row-bytes}
+use Rattle.step.proofs.Tables.{row-bytes}
 
 -- Which bytes of a form are registers.
 usesD : Form → Bool

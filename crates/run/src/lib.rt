@@ -1,107 +1,10 @@
 // The lock-step run: one row after the other, until the table's end, the limit, or a stop.
 ghost use mathlib.Core.Path.{_≡_};
-ghost use Prim.Native.Nat.{ℕ, _+_, _*_, _<_, _≤_};
+ghost use Prim.Native.Nat.{ℕ, _*_, _≤_};
 ghost use lib.ListN.{length};
 ghost use Rattle.spec.specs.Table.{rowsOf};
 ghost use Rattle.spec.specs.LockStep.{lockstep};
-ghost use Rattle.layout.proofs.Memory.{AccessAsks};
-ghost use Rattle.layout.proofs.Represents.{Room, accessed};
-ghost use Rattle.layout.proofs.Running.{AccessDone, Ready, Runnable, Steps, RunIs, endedAs};
-
-fn index(x: u8) -> usize
-    ensures { λ r. ⌜ (r ≡ x) × (r < 256) ⌝ }
-{
-    x as usize
-}
-
-// The constant of a SET row.
-fn constant(a: usize, b: usize) -> u32
-    requires { ⌜ (a < 256) × (b < 256) ⌝ }
-    ensures { λ r. ⌜ r ≡ a + 256 * b ⌝ }
-{
-    (a + 256 * b) as u32
-}
-
-// The state after a row's accesses: on to the next row, or stopped at this one.
-fn after_access(r: layout::Turns, s: layout::State) -> layout::Next
-    requires { ⌜ Room s × (r .steps ≤ 32) ⌝ }
-    ensures { λ q. ⌜ q ≡ accessed s (r .access) (r .steps) ⌝ }
-{
-    let k = r.steps;
-    let c = r.access;
-    match c {
-        layout::Access::Done => layout::Next::Go(constructs::moved(s, k)),
-        layout::Access::Stop(v) => layout::Next::Stop(
-            v,
-            layout::State {
-                row: s.row,
-                mask: s.mask,
-                depth: s.depth,
-                rows: s.rows,
-                steps: s.steps + k,
-                barriers: s.barriers,
-            },
-        ),
-    }
-}
-
-fn access_row(
-    regs: &mut [u32; 512],
-    cells: &mut [u32],
-    log: &mut [u32],
-    n: u32,
-    op: u8,
-    d: usize,
-    a: usize,
-    s: layout::State,
-) -> layout::Next
-    requires { ⌜ Room s × (n ≤ 32) × AccessAsks op d a (now cells) (now log) ⌝ }
-    ensures { λ r. ⌜ AccessDone op n d a s (now (regs .entry)) (now (cells .entry)) (now (log .entry)) r (now (regs .exit)) (now (cells .exit)) (now (log .exit)) ⌝ }
-{
-    after_access(memory::access_row(regs, cells, log, n, s.mask, op, d, a), s)
-}
-
-// One row. The op is told apart once, outside the loops over the threads.
-fn step(
-    table: &[u8],
-    ends: &[u8; 256],
-    n: u32,
-    regs: &mut [u32; 512],
-    cells: &mut [u32],
-    log: &mut [u32],
-    saved: &mut [u32; 8],
-    openers: &mut [usize; 8],
-    s: layout::State,
-) -> layout::Next
-    requires { ⌜ Ready (now table) n s (now cells) (now log) (now openers) ⌝ }
-    ensures { λ r. ⌜ Steps (now (table .entry)) (now (ends .entry)) n s (now (regs .entry)) (now (cells .entry)) (now (log .entry)) (now (saved .entry)) (now (openers .entry)) r (now (regs .exit)) (now (cells .exit)) (now (log .exit)) (now (saved .exit)) (now (openers .exit)) ⌝ }
-{
-    let row = s.row;
-    let op = table[row * 4];
-    let d = index(table[row * 4 + 1]);
-    let a = index(table[row * 4 + 2]);
-    let b = index(table[row * 4 + 3]);
-    if op < 16 {
-        compute::compute_row(regs, n, s.mask, op, d, a, b, constant(a, b));
-        return layout::Next::Go(constructs::moved(s, masks::count(s.mask)));
-    }
-    if op < 32 {
-        return access_row(regs, cells, log, n, op, d, a, s);
-    }
-    if op < 37 {
-        return layout::Next::Go(constructs::construct_row(
-            regs,
-            saved,
-            openers,
-            n,
-            op,
-            a,
-            index(ends[row]),
-            s,
-        ));
-    }
-    constructs::barrier_row(log, n, s)
-}
+ghost use Rattle.layout.proofs.Running.{Runnable, RunIs, endedAs};
 
 fn ended(v: spec::Verdict, s: layout::State) -> spec::Outcome
     requires { ⌜ s .row ≤ 256 ⌝ }
@@ -145,7 +48,7 @@ pub fn run(
         if s.rows == limit {
             return ended(spec::Verdict::Spent, s);
         }
-        match step(
+        match step::step(
             table,
             ends,
             n,

@@ -12,7 +12,7 @@ use Rattle.run.proofs.run.Lts as lts
 use Rattle.masks.proofs.all.Reads as all-reads
 use Rattle.memory.proofs.clear.Reads as clear-reads
 use Rattle.run.proofs.ended.Reads as ended-reads
-use Rattle.run.proofs.step.Reads as step-reads
+use Rattle.step.proofs.step.Reads as step-reads
 
 abbrev Inv-loop : tie.InvT-loop
 Inv-loop table ends n limit cells₀ log₀ count regs₀ saved₀ openers₀ s₀ cells log regs saved openers s =

@@ -6,21 +6,21 @@ use Rattle.spec.specs.Table.{rowsOf, rowAt, endOf}
 use Rattle.layout.proofs.PlainRows.{counted-moved}
 use Rattle.layout.proofs.Running.{shapeBy}
 use Rattle.constructs.proofs.Arms.{barrier-arm}
-use Rattle.run.proofs.Tables.{compute-op, compute-asks, row-here}
-use Rattle.run.proofs.Plain.{compute-after}
+use Rattle.step.proofs.Tables.{compute-op, compute-asks, row-here}
+use Rattle.step.proofs.Plain.{compute-after}
 use borrow.Author.Needs.{needs}
-use Rattle.run.proofs.step.Statement.{statement}
-use Rattle.run.proofs.step.Tie as tie
-use Rattle.run.proofs.step.Reads as reads
-use Rattle.run.proofs.step.Lts as lts
+use Rattle.step.proofs.step.Statement.{statement}
+use Rattle.step.proofs.step.Tie as tie
+use Rattle.step.proofs.step.Reads as reads
+use Rattle.step.proofs.step.Lts as lts
 use Rattle.constructs.proofs.barrier_row.Reads as barrier-row-reads
 use Rattle.constructs.proofs.construct_row.Reads as construct-row-reads
 use Rattle.constructs.proofs.moved.Reads as moved-reads
 use Rattle.compute.proofs.compute_row.Reads as compute-row-reads
 use Rattle.masks.proofs.count.Reads as count-reads
-use Rattle.run.proofs.access_row.Reads as access-row-reads
-use Rattle.run.proofs.constant.Reads as constant-reads
-use Rattle.run.proofs.index.Reads as index-reads
+use Rattle.step.proofs.access_row.Reads as access-row-reads
+use Rattle.step.proofs.constant.Reads as constant-reads
+use Rattle.step.proofs.index.Reads as index-reads
 
 -- src/lib.rt:80:20
 mul-op : tie.Need-mul-op
