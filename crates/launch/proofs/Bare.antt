@@ -24,7 +24,7 @@ use Rattle.structure.proofs.Refusals.{unless-none, orElse-none}
 use Rattle.allruns.proofs.Bools.{and-left, and-right}
 use Rattle.allruns.proofs.Launches.{bare-demand3}
 use Rattle.layout.proofs.Running.{Runnable, RunIs}
-use Rattle.run.proofs.Tables.{rows-length}
+use Rattle.step.proofs.Tables.{rows-length}
 use Rattle.reader.specs.Answer.{ifLoop, ifAccepted, endAt}
 use Rattle.launch.proofs.Answers.{found, passed, ends}
 

@@ -27,7 +27,7 @@ use Rattle.layout.proofs.Memory.{Regs, LogIs, Memory, Kept, Did, stepsOf, Trans
 use Rattle.layout.proofs.Buffers.{regs-set}
 use Rattle.layout.proofs.LogBuffer.{ConflictIs, KindIs, LoggedIs, conflict-size}
 use Rattle.layout.proofs.Turning.{kept-none}
-use Rattle.memory.proofs.LogTests.{mem-load, mem-store}
+use Rattle.accesslog.proofs.LogTests.{mem-load, mem-store}
 
 -- The two ops: a LOAD with its register, a STORE with its own.
 pub which : (op d a b : ℕ) (m : Mem) → 16 ≤ op → op ≤ 17 → opOf op ≡ MEM m → CellRegister op d a b

@@ -1,2 +1,1 @@
-pub mod LogTests
-pub mod Accesses
+mod Accesses

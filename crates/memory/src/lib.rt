@@ -1,52 +1,13 @@
-// LOAD (16) and STORE (17): one path for both. The log holds all reader masks, then all writer masks.
+// LOAD (16) and STORE (17): one path for both.
 ghost use mathlib.Core.Path.{_≡_};
 ghost use Prim.Native.Nat.{ℕ, _+_, _*_, _<_, _≤_};
-ghost use lib.ListN.{length, replicate};
-ghost use Rattle.layout.proofs.LogBuffer.{LogAsks, ConflictIs, KindIs, LoggedIs};
-ghost use Rattle.layout.proofs.Memory.{AccessAsks, AccessOne, AccessAll, HoldingIs, Transferred, CellRegister};
+ghost use lib.ListN.{length};
+ghost use Rattle.layout.proofs.Memory.{AccessAsks, AccessOne, AccessAll, Transferred, CellRegister};
 
 fn index(x: u32) -> usize
     ensures { λ r. ⌜ r ≡ x ⌝ }
 {
     x as usize
-}
-
-// The access test: the threads but t whose logged accesses of cell i conflict with an access by op.
-fn conflict(log: &[u32], cells: usize, i: usize, t: u32, op: u8) -> u32
-    requires { ⌜ (t < 32) × LogAsks op cells i (now log) ⌝ }
-    ensures { λ r. ⌜ ConflictIs op cells i t (now (log .entry)) r ⌝ }
-{
-    let w = log[cells + i];
-    if op == 16 {
-        return masks::without_thread(w, t);
-    }
-    masks::without_thread(w | log[i], t)
-}
-
-// The kind of a race with the thread `other` at cell i.
-fn race_kind(log: &[u32], cells: usize, i: usize, other: u32, op: u8) -> spec::AccessKind
-    requires { ⌜ (other < 32) × LogAsks op cells i (now log) ⌝ }
-    ensures { λ r. ⌜ KindIs op cells i other (now (log .entry)) r ⌝ }
-{
-    if op == 16 {
-        return spec::AccessKind::WriteRead;
-    }
-    if masks::bit(log[cells + i], other) == 0 {
-        return spec::AccessKind::ReadWrite;
-    }
-    spec::AccessKind::WriteWrite
-}
-
-// Thread t enters the mask of cell i.
-fn enter(log: &mut [u32], cells: usize, i: usize, t: u32, op: u8)
-    requires { ⌜ (t < 32) × LogAsks op cells i (now log) ⌝ }
-    ensures { λ _. ⌜ LoggedIs op cells i t (now (log .entry)) (now (log .exit)) ⌝ }
-{
-    if op == 16 {
-        log[i] = masks::with_thread(log[i], t);
-    } else {
-        log[cells + i] = masks::with_thread(log[cells + i], t);
-    }
 }
 
 // The access itself: what a LOAD puts in its register, what a STORE puts in its cell.
@@ -98,14 +59,14 @@ fn access_one(
     if n <= i {
         return layout::Access::Stop(spec::Verdict::Outside(t, x));
     }
-    let others = conflict(log, n, i, t, op);
+    let others = accesslog::conflict(log, n, i, t, op);
     if others == 0 {
-        enter(log, n, i, t, op);
+        accesslog::enter(log, n, i, t, op);
         transfer(regs, cells, j, i, op, d, a);
         return layout::Access::Done;
     }
     let other = masks::lowest(others);
-    let kind = race_kind(log, n, i, other, op);
+    let kind = accesslog::race_kind(log, n, i, other, op);
     layout::Access::Stop(spec::Verdict::Race(t, other, kind, x))
 }
 
@@ -145,37 +106,5 @@ pub fn access_row(
     layout::Turns {
         access: layout::Access::Done,
         steps: masks::count(mask),
-    }
-}
-
-// Those of the mask whose register a is nonzero.
-pub fn holding(regs: &[u32; 512], n: u32, mask: u32, a: usize) -> u32
-    requires { ⌜ (n ≤ 32) × (a < 16) ⌝ }
-    ensures { λ r. ⌜ HoldingIs n mask a (now (regs .entry)) r ⌝ }
-{
-    let mut m = mask;
-    let mut t: u32 = 0;
-    let mut h: u32 = 0;
-    while t < n {
-        if m % 2 == 1 {
-            let j = index(t);
-            if regs[a * 32 + j] != 0 {
-                h = masks::with_thread(h, t);
-            }
-        }
-        m = m / 2;
-        t += 1;
-    }
-    h
-}
-
-// The log put to zero.
-pub fn clear(log: &mut [u32])
-    ensures { λ _. ⌜ now (log .exit) ≡ replicate (length (now (log .entry))) 0 ⌝ }
-{
-    let mut i = 0;
-    while i < log.len() {
-        log[i] = 0;
-        i += 1;
     }
 }

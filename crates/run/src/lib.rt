@@ -35,7 +35,7 @@ pub fn run(
     let mut regs: [u32; 512] = [0; 512];
     let mut saved: [u32; 8] = [0; 8];
     let mut openers: [usize; 8] = [0; 8];
-    memory::clear(log);
+    accesslog::clear(log);
     let mut s = layout::State {
         row: 0,
         mask: masks::all(n),

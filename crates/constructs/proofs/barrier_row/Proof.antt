@@ -11,7 +11,7 @@ use Rattle.constructs.proofs.moved.Reads as moved-reads
 use Rattle.masks.proofs.all.Reads as all-reads
 use Rattle.masks.proofs.lowest.Reads as lowest-reads
 use Rattle.masks.proofs.minus.Reads as minus-reads
-use Rattle.memory.proofs.clear.Reads as clear-reads
+use Rattle.accesslog.proofs.clear.Reads as clear-reads
 
 -- src/lib.rt:179:9
 all-requires : tie.Need-all-requires

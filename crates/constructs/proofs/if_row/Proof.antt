@@ -8,7 +8,7 @@ use Rattle.constructs.proofs.if_row.Tie as tie
 use Rattle.constructs.proofs.if_row.Reads as reads
 use Rattle.constructs.proofs.if_row.Lts as lts
 use Rattle.masks.proofs.count.Reads as count-reads
-use Rattle.memory.proofs.holding.Reads as holding-reads
+use Rattle.constructs.proofs.holding.Reads as holding-reads
 
 mul-saved : tie.Need-mul-saved
 mul-saved c = search needs

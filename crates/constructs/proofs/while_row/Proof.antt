@@ -9,7 +9,7 @@ use Rattle.constructs.proofs.while_row.Reads as reads
 use Rattle.constructs.proofs.while_row.Lts as lts
 use Rattle.constructs.proofs.enter_while.Reads as enter-while-reads
 use Rattle.masks.proofs.count.Reads as count-reads
-use Rattle.memory.proofs.holding.Reads as holding-reads
+use Rattle.constructs.proofs.holding.Reads as holding-reads
 
 enter-while-requires : tie.Need-enter-while-requires
 enter-while-requires c κs = search needs

@@ -8,10 +8,10 @@ use Rattle.memory.proofs.access_one.Reads as reads
 use Rattle.memory.proofs.access_one.Lts as lts
 use Rattle.masks.proofs.lowest.Reads as lowest-reads
 use Rattle.memory.proofs.cell_register.Reads as cell-register-reads
-use Rattle.memory.proofs.conflict.Reads as conflict-reads
-use Rattle.memory.proofs.enter.Reads as enter-reads
+use Rattle.accesslog.proofs.conflict.Reads as conflict-reads
+use Rattle.accesslog.proofs.enter.Reads as enter-reads
 use Rattle.memory.proofs.index.Reads as index-reads
-use Rattle.memory.proofs.race_kind.Reads as race-kind-reads
+use Rattle.accesslog.proofs.race_kind.Reads as race-kind-reads
 use Rattle.memory.proofs.transfer.Reads as transfer-reads
 
 -- src/lib.rt:93:9

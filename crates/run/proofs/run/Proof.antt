@@ -10,7 +10,7 @@ use Rattle.run.proofs.run.Tie as tie
 use Rattle.run.proofs.run.Reads as reads
 use Rattle.run.proofs.run.Lts as lts
 use Rattle.masks.proofs.all.Reads as all-reads
-use Rattle.memory.proofs.clear.Reads as clear-reads
+use Rattle.accesslog.proofs.clear.Reads as clear-reads
 use Rattle.run.proofs.ended.Reads as ended-reads
 use Rattle.step.proofs.step.Reads as step-reads
 

@@ -1,12 +1,12 @@
 use mathlib.Core.Path.{_≡_, refl}
 use Prim.Native.Nat.{ℕ}
 use native.Mathlib.Omega.{arith}
-use Rattle.memory.proofs.LogTests.{kind-by-load, kind-by-reader, kind-by-writer}
+use Rattle.accesslog.proofs.LogTests.{kind-by-load, kind-by-reader, kind-by-writer}
 use borrow.Author.Needs.{needs}
-use Rattle.memory.proofs.race_kind.Statement.{statement}
-use Rattle.memory.proofs.race_kind.Tie as tie
-use Rattle.memory.proofs.race_kind.Reads as reads
-use Rattle.memory.proofs.race_kind.Lts as lts
+use Rattle.accesslog.proofs.race_kind.Statement.{statement}
+use Rattle.accesslog.proofs.race_kind.Tie as tie
+use Rattle.accesslog.proofs.race_kind.Reads as reads
+use Rattle.accesslog.proofs.race_kind.Lts as lts
 use Rattle.masks.proofs.bit.Reads as bit-reads
 
 -- src/lib.rt:34:9

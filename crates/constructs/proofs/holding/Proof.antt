@@ -8,12 +8,12 @@ use lib.ListN.{length}
 use Rattle.spec.specs.Mask.{Mask, maskWord}
 use Rattle.layout.proofs.Memory.{Regs}
 use Rattle.layout.proofs.Holding.{Sorted, sort-start, sort-done, sort-out, sort-none, sort-in}
-use Rattle.memory.proofs.holding.Statement.{statement}
-use Rattle.memory.proofs.holding.Tie as tie
-use Rattle.memory.proofs.holding.Reads as reads
-use Rattle.memory.proofs.holding.Lts as lts
+use Rattle.constructs.proofs.holding.Statement.{statement}
+use Rattle.constructs.proofs.holding.Tie as tie
+use Rattle.constructs.proofs.holding.Reads as reads
+use Rattle.constructs.proofs.holding.Lts as lts
 use Rattle.masks.proofs.with_thread.Reads as with-thread-reads
-use Rattle.memory.proofs.index.Reads as index-reads
+use Rattle.constructs.proofs.index.Reads as index-reads
 
 abbrev Inv-loop : tie.InvT-loop
 Inv-loop regs n mask a m₀ t₀ h₀ m t h =

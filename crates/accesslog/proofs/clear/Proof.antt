@@ -5,10 +5,10 @@ use native.Mathlib.Nat.{not-suc-le-zero}
 use native.Mathlib.Omega.{arith}
 use lib.ListN.{length, getD, length-set}
 use Rattle.layout.proofs.LogBuffer.{cleared-more, cleared-all}
-use Rattle.memory.proofs.clear.Statement.{statement}
-use Rattle.memory.proofs.clear.Tie as tie
-use Rattle.memory.proofs.clear.Reads as reads
-use Rattle.memory.proofs.clear.Lts as lts
+use Rattle.accesslog.proofs.clear.Statement.{statement}
+use Rattle.accesslog.proofs.clear.Tie as tie
+use Rattle.accesslog.proofs.clear.Reads as reads
+use Rattle.accesslog.proofs.clear.Lts as lts
 
 abbrev Inv-loop : tie.InvT-loop
 Inv-loop log₀ i₀ log i = (i ≤ length log₀) × (length log ≡ length log₀) × ((j : ℕ) → j < i → getD log j 0 ≡ 0)

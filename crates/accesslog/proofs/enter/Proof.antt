@@ -1,12 +1,12 @@
 use mathlib.Core.Path.{_≡_, refl}
 use Prim.Native.Nat.{ℕ}
 use native.Mathlib.Omega.{arith}
-use Rattle.memory.proofs.LogTests.{logged-by-load, logged-by-store}
+use Rattle.accesslog.proofs.LogTests.{logged-by-load, logged-by-store}
 use borrow.Author.Needs.{needs}
-use Rattle.memory.proofs.enter.Statement.{statement}
-use Rattle.memory.proofs.enter.Tie as tie
-use Rattle.memory.proofs.enter.Reads as reads
-use Rattle.memory.proofs.enter.Lts as lts
+use Rattle.accesslog.proofs.enter.Statement.{statement}
+use Rattle.accesslog.proofs.enter.Tie as tie
+use Rattle.accesslog.proofs.enter.Reads as reads
+use Rattle.accesslog.proofs.enter.Lts as lts
 use Rattle.masks.proofs.with_thread.Reads as with-thread-reads
 
 -- src/lib.rt:48:37

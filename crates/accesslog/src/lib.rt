@@ -1,0 +1,54 @@
+// The access log: all reader masks, then all writer masks. The access test, and the log's reading and writing.
+ghost use mathlib.Core.Path.{_≡_};
+ghost use Prim.Native.Nat.{ℕ, _<_};
+ghost use lib.ListN.{length, replicate};
+ghost use Rattle.layout.proofs.LogBuffer.{LogAsks, ConflictIs, KindIs, LoggedIs};
+
+// The access test: the threads but t whose logged accesses of cell i conflict with an access by op.
+pub fn conflict(log: &[u32], cells: usize, i: usize, t: u32, op: u8) -> u32
+    requires { ⌜ (t < 32) × LogAsks op cells i (now log) ⌝ }
+    ensures { λ r. ⌜ ConflictIs op cells i t (now (log .entry)) r ⌝ }
+{
+    let w = log[cells + i];
+    if op == 16 {
+        return masks::without_thread(w, t);
+    }
+    masks::without_thread(w | log[i], t)
+}
+
+// The kind of a race with the thread `other` at cell i.
+pub fn race_kind(log: &[u32], cells: usize, i: usize, other: u32, op: u8) -> spec::AccessKind
+    requires { ⌜ (other < 32) × LogAsks op cells i (now log) ⌝ }
+    ensures { λ r. ⌜ KindIs op cells i other (now (log .entry)) r ⌝ }
+{
+    if op == 16 {
+        return spec::AccessKind::WriteRead;
+    }
+    if masks::bit(log[cells + i], other) == 0 {
+        return spec::AccessKind::ReadWrite;
+    }
+    spec::AccessKind::WriteWrite
+}
+
+// Thread t enters the mask of cell i.
+pub fn enter(log: &mut [u32], cells: usize, i: usize, t: u32, op: u8)
+    requires { ⌜ (t < 32) × LogAsks op cells i (now log) ⌝ }
+    ensures { λ _. ⌜ LoggedIs op cells i t (now (log .entry)) (now (log .exit)) ⌝ }
+{
+    if op == 16 {
+        log[i] = masks::with_thread(log[i], t);
+    } else {
+        log[cells + i] = masks::with_thread(log[cells + i], t);
+    }
+}
+
+// The log put to zero.
+pub fn clear(log: &mut [u32])
+    ensures { λ _. ⌜ now (log .exit) ≡ replicate (length (now (log .entry))) 0 ⌝ }
+{
+    let mut i = 0;
+    while i < log.len() {
+        log[i] = 0;
+        i += 1;
+    }
+}
