@@ -127,837 +127,212 @@ fn show(answer: spec::Answer, cells: &[u32], log: &[u32]) {
     put(b"\n");
 }
 
-// P1: thread 1 stores a cell that thread 0 has read
-fn p1() {
-    let table: [u8; 28] = [
-        2,
-        0,
-        0,
-        0,
-        1,
-        1,
-        1,
-        0,
-        4,
-        2,
-        0,
-        1,
-        16,
-        3,
-        2,
-        0,
-        16,
-        4,
-        0,
-        0,
-        4,
-        3,
-        3,
-        4,
-        17,
-        0,
-        3,
-        0,
-    ];
-    let mut cells: [u32; 3] = [1, 1, 1];
+// The entry's answer for a table, and what it leaves of what was lent.
+fn bare(table: &[u8], threads: u32, count: u32, limit: u32, cells: &mut [u32], log: &mut [u32]) {
+    let answer = launch::bare_launch(table, threads, count, limit, cells, log);
+    show(answer, cells, log);
+}
+
+// The same with one cell lent, whatever the count.
+fn counted(table: &[u8], threads: u32, count: u32, limit: u32, cell: u32) {
+    let mut cells: [u32; 1] = [cell];
+    let mut log: [u32; 2] = [99; 2];
+    bare(table, threads, count, limit, &mut cells, &mut log);
+}
+
+// The same with buffers of the right lengths: one cell, two cells, three cells.
+fn one(table: &[u8], threads: u32, limit: u32, cell: u32) {
+    counted(table, threads, 1, limit, cell);
+}
+
+fn two(table: &[u8], threads: u32, limit: u32, first: u32, second: u32) {
+    let mut cells: [u32; 2] = [first, second];
+    let mut log: [u32; 4] = [99; 4];
+    bare(table, threads, 2, limit, &mut cells, &mut log);
+}
+
+fn three(table: &[u8], threads: u32, limit: u32, cell: u32) {
+    let mut cells: [u32; 3] = [cell; 3];
     let mut log: [u32; 6] = [99; 6];
-    let answer = launch::bare_launch(&table, 2, 3, 100, &mut cells, &mut log);
-    show(answer, &cells, &log);
+    bare(table, threads, 3, limit, &mut cells, &mut log);
 }
 
-// P2: the same with a BARRIER between rows 3 and 4
-fn p2() {
-    let table: [u8; 32] = [
+fn paper() {
+    // P1: thread 1 stores a cell that thread 0 has read.
+    three(
+        b"\x02\x00\x00\x00\x01\x01\x01\x00\x04\x02\x00\x01\x10\x03\x02\x00\x10\x04\x00\x00\x04\x03\x03\x04\x11\x00\x03\x00",
         2,
-        0,
-        0,
-        0,
+        100,
         1,
+    );
+    // P2: the same with a BARRIER between rows 3 and 4.
+    three(
+        b"\x02\x00\x00\x00\x01\x01\x01\x00\x04\x02\x00\x01\x10\x03\x02\x00\x25\x00\x00\x00\x10\x04\x00\x00\x04\x03\x03\x04\x11\x00\x03\x00",
+        2,
+        100,
         1,
-        1,
+    );
+    // P3: an empty table under limit 0.
+    one(b"", 1, 0, 7);
+    // P4: one TID, under limit 0 and under limit 1.
+    one(b"\x02\x00\x00\x00", 3, 0, 7);
+    one(b"\x02\x00\x00\x00", 3, 1, 7);
+    // P5: a BARRIER in each part of an IF.
+    one(
+        b"\x02\x00\x00\x00\x20\x00\x00\x00\x25\x00\x00\x00\x21\x00\x00\x00\x25\x00\x00\x00\x22\x00\x00\x00",
+        2,
+        100,
         0,
+    );
+    // P6: a BARRIER that nobody comes to.
+    one(
+        b"\x20\x00\x00\x00\x25\x00\x00\x00\x22\x00\x00\x00",
+        1,
+        100,
+        0,
+    );
+    // P7: a loop without end.
+    one(
+        b"\x01\x00\x01\x00\x23\x00\x00\x00\x24\x00\x00\x00",
+        1,
+        10,
+        0,
+    );
+    // P8: SLT of 2 ^ 31 and 0, into cell 0, and LT of the same, into cell 1.
+    two(
+        b"\x01\x01\x00\x80\x01\x02\x00\x01\x06\x02\x02\x02\x06\x01\x01\x02\x0e\x03\x01\x00\x0d\x04\x01\x00\x11\x00\x03\x00\x01\x05\x01\x00\x11\x05\x04\x00",
+        1,
+        100,
+        9,
+        9,
+    );
+}
+
+fn edges() {
+    // Nesting 8, and the ninth IF of nesting 9.
+    one(
+        b"\x20\x00\x00\x00\x20\x00\x00\x00\x20\x00\x00\x00\x20\x00\x00\x00\x20\x00\x00\x00\x20\x00\x00\x00\x20\x00\x00\x00\x20\x00\x00\x00\x22\x00\x00\x00\x22\x00\x00\x00\x22\x00\x00\x00\x22\x00\x00\x00\x22\x00\x00\x00\x22\x00\x00\x00\x22\x00\x00\x00\x22\x00\x00\x00",
+        1,
+        100,
+        0,
+    );
+    one(
+        b"\x20\x00\x00\x00\x20\x00\x00\x00\x20\x00\x00\x00\x20\x00\x00\x00\x20\x00\x00\x00\x20\x00\x00\x00\x20\x00\x00\x00\x20\x00\x00\x00\x20\x00\x00\x00",
+        1,
+        100,
+        0,
+    );
+    // Address cells - 1, and address cells.
+    two(b"\x01\x01\x01\x00\x10\x02\x01\x00", 1, 100, 5, 6);
+    two(b"\x01\x01\x02\x00\x10\x02\x01\x00", 1, 100, 5, 6);
+    // The two-loop barrier of source document 001: each thread comes to it four times, with other loop counts.
+    one(
+        b"\x02\x00\x00\x00\x01\x06\x01\x00\x01\x07\x04\x00\x20\x00\x00\x00\x04\x01\x06\x0f\x04\x02\x07\x0f\x21\x00\x00\x00\x04\x01\x07\x0f\x04\x02\x06\x0f\x22\x00\x00\x00\x0d\x05\x03\x01\x23\x00\x05\x00\x01\x04\x00\x00\x0d\x08\x04\x02\x23\x00\x08\x00\x25\x00\x00\x00\x04\x04\x04\x06\x0d\x08\x04\x02\x24\x00\x00\x00\x04\x03\x03\x06\x0d\x05\x03\x01\x24\x00\x00\x00",
+        2,
+        100,
+        0,
+    );
+}
+
+fn readings() {
+    // Equal stores by two threads.
+    one(b"\x01\x01\x05\x00\x11\x00\x01\x00", 2, 100, 0);
+    // A BARRIER that nobody comes to, between all threads' loads and a store.
+    one(
+        b"\x02\x00\x00\x00\x10\x01\x02\x00\x20\x00\x02\x00\x25\x00\x00\x00\x22\x00\x00\x00\x11\x02\x00\x00",
+        2,
+        100,
         4,
+    );
+    // ELSE goes by what its IF enabled, though thread 1 has changed R0 since.
+    two(
+        b"\x02\x00\x00\x00\x02\x02\x00\x00\x20\x00\x00\x00\x01\x00\x00\x00\x21\x00\x00\x00\x01\x01\x07\x00\x22\x00\x00\x00\x11\x02\x01\x00",
         2,
-        0,
-        1,
-        16,
-        3,
+        100,
+        9,
+        9,
+    );
+    // Thread 1 stores, then thread 0 loads in the ELSE part.
+    one(
+        b"\x02\x00\x00\x00\x20\x00\x00\x00\x11\x01\x00\x00\x01\x00\x00\x00\x21\x00\x00\x00\x10\x02\x01\x00\x22\x00\x00\x00",
         2,
-        0,
-        37,
-        0,
-        0,
-        0,
-        16,
+        100,
         4,
-        0,
-        0,
+    );
+    // Of three readers the lowest other one is named.
+    one(b"\x10\x01\x00\x00\x11\x00\x01\x00", 3, 100, 4);
+    // A thread that has both read and written is met as a writer.
+    one(
+        b"\x02\x00\x00\x00\x01\x01\x02\x00\x0c\x02\x00\x01\x20\x00\x02\x00\x10\x03\x04\x00\x11\x04\x00\x00\x22\x00\x00\x00\x11\x04\x00\x00",
+        3,
+        100,
         4,
+    );
+    // A loop that threads leave at different times, and the STORE behind it by all.
+    three(
+        b"\x02\x00\x00\x00\x01\x01\x01\x00\x04\x02\x00\x0f\x23\x00\x02\x00\x05\x02\x02\x01\x24\x00\x00\x00\x11\x00\x02\x00",
         3,
-        3,
-        4,
-        17,
-        0,
-        3,
-        0,
-    ];
-    let mut cells: [u32; 3] = [1, 1, 1];
-    let mut log: [u32; 6] = [99; 6];
-    let answer = launch::bare_launch(&table, 2, 3, 100, &mut cells, &mut log);
-    show(answer, &cells, &log);
-}
-
-// P3: an empty table under limit 0
-fn p3() {
-    let table: [u8; 0] = [];
-    let mut cells: [u32; 1] = [7];
-    let mut log: [u32; 2] = [99; 2];
-    let answer = launch::bare_launch(&table, 1, 1, 0, &mut cells, &mut log);
-    show(answer, &cells, &log);
-}
-
-// P4: one TID, under limit 0 and under limit 1
-fn p4_spent() {
-    let table: [u8; 4] = [2, 0, 0, 0];
-    let mut cells: [u32; 1] = [7];
-    let mut log: [u32; 2] = [99; 2];
-    let answer = launch::bare_launch(&table, 3, 1, 0, &mut cells, &mut log);
-    show(answer, &cells, &log);
-}
-
-// p4 passed
-fn p4_passed() {
-    let table: [u8; 4] = [2, 0, 0, 0];
-    let mut cells: [u32; 1] = [7];
-    let mut log: [u32; 2] = [99; 2];
-    let answer = launch::bare_launch(&table, 3, 1, 1, &mut cells, &mut log);
-    show(answer, &cells, &log);
-}
-
-// P5: a BARRIER in each part of an IF
-fn p5() {
-    let table: [u8; 24] = [
-        2,
-        0,
-        0,
-        0,
-        32,
-        0,
-        0,
-        0,
-        37,
-        0,
-        0,
-        0,
-        33,
-        0,
-        0,
-        0,
-        37,
-        0,
-        0,
-        0,
-        34,
-        0,
-        0,
-        0,
-    ];
-    let mut cells: [u32; 1] = [0];
-    let mut log: [u32; 2] = [99; 2];
-    let answer = launch::bare_launch(&table, 2, 1, 100, &mut cells, &mut log);
-    show(answer, &cells, &log);
-}
-
-// P6: a BARRIER that nobody comes to
-fn p6() {
-    let table: [u8; 12] = [32, 0, 0, 0, 37, 0, 0, 0, 34, 0, 0, 0];
-    let mut cells: [u32; 1] = [0];
-    let mut log: [u32; 2] = [99; 2];
-    let answer = launch::bare_launch(&table, 1, 1, 100, &mut cells, &mut log);
-    show(answer, &cells, &log);
-}
-
-// P7: a loop without end
-fn p7() {
-    let table: [u8; 12] = [1, 0, 1, 0, 35, 0, 0, 0, 36, 0, 0, 0];
-    let mut cells: [u32; 1] = [0];
-    let mut log: [u32; 2] = [99; 2];
-    let answer = launch::bare_launch(&table, 1, 1, 10, &mut cells, &mut log);
-    show(answer, &cells, &log);
-}
-
-// P8: SLT of 2 ^ 31 and 0, into cell 0, and LT of the same, into cell 1
-fn p8() {
-    let table: [u8; 36] = [
-        1,
-        1,
-        0,
-        128,
-        1,
-        2,
-        0,
-        1,
-        6,
-        2,
-        2,
-        2,
-        6,
-        1,
-        1,
-        2,
-        14,
-        3,
-        1,
-        0,
-        13,
-        4,
-        1,
-        0,
-        17,
-        0,
-        3,
-        0,
-        1,
-        5,
-        1,
-        0,
-        17,
-        5,
-        4,
-        0,
-    ];
-    let mut cells: [u32; 2] = [9, 9];
-    let mut log: [u32; 4] = [99; 4];
-    let answer = launch::bare_launch(&table, 1, 2, 100, &mut cells, &mut log);
-    show(answer, &cells, &log);
-}
-
-// nesting 8, and the ninth IF of nesting 9
-fn nesting_8() {
-    let table: [u8; 64] = [
-        32,
-        0,
-        0,
-        0,
-        32,
-        0,
-        0,
-        0,
-        32,
-        0,
-        0,
-        0,
-        32,
-        0,
-        0,
-        0,
-        32,
-        0,
-        0,
-        0,
-        32,
-        0,
-        0,
-        0,
-        32,
-        0,
-        0,
-        0,
-        32,
-        0,
-        0,
-        0,
-        34,
-        0,
-        0,
-        0,
-        34,
-        0,
-        0,
-        0,
-        34,
-        0,
-        0,
-        0,
-        34,
-        0,
-        0,
-        0,
-        34,
-        0,
-        0,
-        0,
-        34,
-        0,
-        0,
-        0,
-        34,
-        0,
-        0,
-        0,
-        34,
-        0,
-        0,
-        0,
-    ];
-    let mut cells: [u32; 1] = [0];
-    let mut log: [u32; 2] = [99; 2];
-    let answer = launch::bare_launch(&table, 1, 1, 100, &mut cells, &mut log);
-    show(answer, &cells, &log);
-}
-
-// nesting 9
-fn nesting_9() {
-    let table: [u8; 36] = [
-        32,
-        0,
-        0,
-        0,
-        32,
-        0,
-        0,
-        0,
-        32,
-        0,
-        0,
-        0,
-        32,
-        0,
-        0,
-        0,
-        32,
-        0,
-        0,
-        0,
-        32,
-        0,
-        0,
-        0,
-        32,
-        0,
-        0,
-        0,
-        32,
-        0,
-        0,
-        0,
-        32,
-        0,
-        0,
-        0,
-    ];
-    let mut cells: [u32; 1] = [0];
-    let mut log: [u32; 2] = [99; 2];
-    let answer = launch::bare_launch(&table, 1, 1, 100, &mut cells, &mut log);
-    show(answer, &cells, &log);
-}
-
-// address cells - 1, and address cells
-fn last_cell() {
-    let table: [u8; 8] = [1, 1, 1, 0, 16, 2, 1, 0];
-    let mut cells: [u32; 2] = [5, 6];
-    let mut log: [u32; 4] = [99; 4];
-    let answer = launch::bare_launch(&table, 1, 2, 100, &mut cells, &mut log);
-    show(answer, &cells, &log);
-}
-
-// past last cell
-fn past_last_cell() {
-    let table: [u8; 8] = [1, 1, 2, 0, 16, 2, 1, 0];
-    let mut cells: [u32; 2] = [5, 6];
-    let mut log: [u32; 4] = [99; 4];
-    let answer = launch::bare_launch(&table, 1, 2, 100, &mut cells, &mut log);
-    show(answer, &cells, &log);
-}
-
-// the two-loop barrier of source document 001: each thread comes to it four times, with other loop counts
-fn two_loops() {
-    let table: [u8; 88] = [
-        2,
-        0,
-        0,
-        0,
-        1,
-        6,
-        1,
-        0,
-        1,
+        100,
         7,
-        4,
-        0,
-        32,
-        0,
-        0,
-        0,
-        4,
-        1,
-        6,
-        15,
-        4,
-        2,
-        7,
-        15,
-        33,
-        0,
-        0,
-        0,
-        4,
-        1,
-        7,
-        15,
-        4,
-        2,
-        6,
-        15,
-        34,
-        0,
-        0,
-        0,
-        13,
-        5,
-        3,
-        1,
-        35,
-        0,
-        5,
-        0,
-        1,
-        4,
-        0,
-        0,
-        13,
-        8,
-        4,
-        2,
-        35,
-        0,
-        8,
-        0,
-        37,
-        0,
-        0,
-        0,
-        4,
-        4,
-        4,
-        6,
-        13,
-        8,
-        4,
-        2,
-        36,
-        0,
-        0,
-        0,
-        4,
-        3,
-        3,
-        6,
-        13,
-        5,
-        3,
-        1,
-        36,
-        0,
-        0,
-        0,
-    ];
-    let mut cells: [u32; 1] = [0];
-    let mut log: [u32; 2] = [99; 2];
-    let answer = launch::bare_launch(&table, 2, 1, 100, &mut cells, &mut log);
-    show(answer, &cells, &log);
+    );
 }
 
-// equal stores by two threads
-fn equal_stores() {
-    let table: [u8; 8] = [1, 1, 5, 0, 17, 0, 1, 0];
-    let mut cells: [u32; 1] = [0];
-    let mut log: [u32; 2] = [99; 2];
-    let answer = launch::bare_launch(&table, 2, 1, 100, &mut cells, &mut log);
-    show(answer, &cells, &log);
+fn rows() {
+    // Refused rows: an unknown op, register 16, an unused byte, a second ELSE, two constructs left open.
+    one(b"\x00\x10\x00\x00", 1, 1, 0);
+    one(b"\x02\x10\x00\x00", 1, 1, 0);
+    one(b"\x25\x00\x00\x01", 1, 1, 0);
+    one(b"\x20\x00\x00\x00\x21\x00\x00\x00\x21\x00\x00\x00", 1, 1, 0);
+    one(b"\x23\x00\x00\x00\x20\x00\x00\x00\x21\x00\x00\x00", 1, 1, 0);
 }
 
-// a BARRIER that nobody comes to, between all threads' loads and a store
-fn skipped_barrier() {
-    let table: [u8; 24] = [
-        2,
-        0,
-        0,
-        0,
-        16,
-        1,
-        2,
-        0,
-        32,
-        0,
-        2,
-        0,
-        37,
-        0,
-        0,
-        0,
-        34,
-        0,
-        0,
-        0,
-        17,
-        2,
-        0,
-        0,
-    ];
-    let mut cells: [u32; 1] = [4];
-    let mut log: [u32; 2] = [99; 2];
-    let answer = launch::bare_launch(&table, 2, 1, 100, &mut cells, &mut log);
-    show(answer, &cells, &log);
+fn numbers() {
+    // 1 before everything else: three bytes, no threads.
+    one(b"\x02\x00\x00", 0, 1, 5);
+    // 8 before 9.
+    counted(b"\x02\x00\x00\x00", 0, 0, 1, 5);
+    // 33 threads.
+    one(b"\x02\x00\x00\x00", 33, 1, 5);
+    // 1,025 cells, before 10.
+    counted(b"\x02\x00\x00\x00", 1, 1025, 1000001, 5);
+    // A limit of 1,000,001, before the rows.
+    one(b"\x00\x00\x00\x00", 1, 1000001, 5);
 }
 
-// ELSE goes by what its IF enabled, though thread 1 has changed R0 since
-fn else_by_if() {
-    let table: [u8; 32] = [
-        2,
-        0,
-        0,
-        0,
-        2,
-        2,
-        0,
-        0,
-        32,
-        0,
-        0,
-        0,
-        1,
-        0,
-        0,
-        0,
-        33,
-        0,
-        0,
-        0,
-        1,
-        1,
-        7,
-        0,
-        34,
-        0,
-        0,
-        0,
-        17,
-        2,
-        1,
-        0,
-    ];
-    let mut cells: [u32; 2] = [9, 9];
-    let mut log: [u32; 4] = [99; 4];
-    let answer = launch::bare_launch(&table, 2, 2, 100, &mut cells, &mut log);
-    show(answer, &cells, &log);
-}
-
-// thread 1 stores, then thread 0 loads in the ELSE part
-fn write_then_read() {
-    let table: [u8; 28] = [
-        2,
-        0,
-        0,
-        0,
-        32,
-        0,
-        0,
-        0,
-        17,
-        1,
-        0,
-        0,
-        1,
-        0,
-        0,
-        0,
-        33,
-        0,
-        0,
-        0,
-        16,
-        2,
-        1,
-        0,
-        34,
-        0,
-        0,
-        0,
-    ];
-    let mut cells: [u32; 1] = [4];
-    let mut log: [u32; 2] = [99; 2];
-    let answer = launch::bare_launch(&table, 2, 1, 100, &mut cells, &mut log);
-    show(answer, &cells, &log);
-}
-
-// of three readers the lowest other one is named
-fn lowest_reader() {
-    let table: [u8; 8] = [16, 1, 0, 0, 17, 0, 1, 0];
-    let mut cells: [u32; 1] = [4];
-    let mut log: [u32; 2] = [99; 2];
-    let answer = launch::bare_launch(&table, 3, 1, 100, &mut cells, &mut log);
-    show(answer, &cells, &log);
-}
-
-// a thread that has both read and written is met as a writer
-fn reader_and_writer() {
-    let table: [u8; 32] = [
-        2,
-        0,
-        0,
-        0,
-        1,
-        1,
-        2,
-        0,
-        12,
-        2,
-        0,
-        1,
-        32,
-        0,
-        2,
-        0,
-        16,
-        3,
-        4,
-        0,
-        17,
-        4,
-        0,
-        0,
-        34,
-        0,
-        0,
-        0,
-        17,
-        4,
-        0,
-        0,
-    ];
-    let mut cells: [u32; 1] = [4];
-    let mut log: [u32; 2] = [99; 2];
-    let answer = launch::bare_launch(&table, 3, 1, 100, &mut cells, &mut log);
-    show(answer, &cells, &log);
-}
-
-// a loop that threads leave at different times, and the ADD behind it by all
-fn uneven_loop() {
-    let table: [u8; 28] = [
-        2,
-        0,
-        0,
-        0,
-        1,
-        1,
-        1,
-        0,
-        4,
-        2,
-        0,
-        15,
-        35,
-        0,
-        2,
-        0,
-        5,
-        2,
-        2,
-        1,
-        36,
-        0,
-        0,
-        0,
-        17,
-        0,
-        2,
-        0,
-    ];
-    let mut cells: [u32; 3] = [7, 7, 7];
-    let mut log: [u32; 6] = [99; 6];
-    let answer = launch::bare_launch(&table, 3, 3, 100, &mut cells, &mut log);
-    show(answer, &cells, &log);
-}
-
-// unknown op
-fn unknown_op() {
-    let table: [u8; 4] = [0, 16, 0, 0];
-    let mut cells: [u32; 1] = [0];
-    let mut log: [u32; 2] = [99; 2];
-    let answer = launch::bare_launch(&table, 1, 1, 1, &mut cells, &mut log);
-    show(answer, &cells, &log);
-}
-
-// register 16
-fn register_16() {
-    let table: [u8; 4] = [2, 16, 0, 0];
-    let mut cells: [u32; 1] = [0];
-    let mut log: [u32; 2] = [99; 2];
-    let answer = launch::bare_launch(&table, 1, 1, 1, &mut cells, &mut log);
-    show(answer, &cells, &log);
-}
-
-// unused byte
-fn unused_byte() {
-    let table: [u8; 4] = [37, 0, 0, 1];
-    let mut cells: [u32; 1] = [0];
-    let mut log: [u32; 2] = [99; 2];
-    let answer = launch::bare_launch(&table, 1, 1, 1, &mut cells, &mut log);
-    show(answer, &cells, &log);
-}
-
-// second else
-fn second_else() {
-    let table: [u8; 12] = [32, 0, 0, 0, 33, 0, 0, 0, 33, 0, 0, 0];
-    let mut cells: [u32; 1] = [0];
-    let mut log: [u32; 2] = [99; 2];
-    let answer = launch::bare_launch(&table, 1, 1, 1, &mut cells, &mut log);
-    show(answer, &cells, &log);
-}
-
-// left open
-fn left_open() {
-    let table: [u8; 12] = [35, 0, 0, 0, 32, 0, 0, 0, 33, 0, 0, 0];
-    let mut cells: [u32; 1] = [0];
-    let mut log: [u32; 2] = [99; 2];
-    let answer = launch::bare_launch(&table, 1, 1, 1, &mut cells, &mut log);
-    show(answer, &cells, &log);
-}
-
-// 1 before everything else: three bytes, no threads.
-fn odd_length() {
-    let table: [u8; 3] = [2, 0, 0];
-    let mut cells: [u32; 1] = [5];
-    let mut log: [u32; 2] = [99; 2];
-    let answer = launch::bare_launch(&table, 0, 1, 1, &mut cells, &mut log);
-    show(answer, &cells, &log);
-}
-
-// 8 before 9.
-fn no_threads() {
-    let table: [u8; 4] = [2, 0, 0, 0];
-    let mut cells: [u32; 1] = [5];
-    let mut log: [u32; 2] = [99; 2];
-    let answer = launch::bare_launch(&table, 0, 0, 1, &mut cells, &mut log);
-    show(answer, &cells, &log);
-}
-
-// 33 threads.
-fn many_threads() {
-    let table: [u8; 4] = [2, 0, 0, 0];
-    let mut cells: [u32; 1] = [5];
-    let mut log: [u32; 2] = [99; 2];
-    let answer = launch::bare_launch(&table, 33, 1, 1, &mut cells, &mut log);
-    show(answer, &cells, &log);
-}
-
-// 1,025 cells, before 10.
-fn many_cells() {
-    let table: [u8; 4] = [2, 0, 0, 0];
-    let mut cells: [u32; 1] = [5];
-    let mut log: [u32; 2] = [99; 2];
-    let answer = launch::bare_launch(&table, 1, 1025, 1000001, &mut cells, &mut log);
-    show(answer, &cells, &log);
-}
-
-// A limit of 1,000,001, before the rows.
-fn high_limit() {
-    let table: [u8; 4] = [0, 0, 0, 0];
-    let mut cells: [u32; 1] = [5];
-    let mut log: [u32; 2] = [99; 2];
-    let answer = launch::bare_launch(&table, 1, 1, 1000001, &mut cells, &mut log);
-    show(answer, &cells, &log);
-}
-
-// 3 before 20.
-fn rows_before_state() {
-    let table: [u8; 4] = [0, 0, 0, 0];
+// Two cells lent for one.
+fn two_for_one(table: &[u8], log: &mut [u32]) {
     let mut cells: [u32; 2] = [5, 6];
-    let mut log: [u32; 2] = [99; 2];
-    let answer = launch::bare_launch(&table, 1, 1, 1, &mut cells, &mut log);
-    show(answer, &cells, &log);
+    bare(table, 1, 1, 1, &mut cells, log);
 }
 
-// 20 before 21: two cells lent for one.
-fn cells_lent() {
-    let table: [u8; 4] = [2, 0, 0, 0];
-    let mut cells: [u32; 2] = [5, 6];
-    let mut log: [u32; 3] = [99; 3];
-    let answer = launch::bare_launch(&table, 1, 1, 1, &mut cells, &mut log);
-    show(answer, &cells, &log);
-}
-
-// 21: three words of log for one cell.
-fn log_lent() {
-    let table: [u8; 4] = [2, 0, 0, 0];
-    let mut cells: [u32; 1] = [5];
-    let mut log: [u32; 3] = [99; 3];
-    let answer = launch::bare_launch(&table, 1, 1, 1, &mut cells, &mut log);
-    show(answer, &cells, &log);
-}
-
-// No buffers at all.
-fn nothing_lent() {
-    let table: [u8; 4] = [2, 0, 0, 0];
-    let mut cells: [u32; 0] = [];
-    let mut log: [u32; 0] = [99; 0];
-    let answer = launch::bare_launch(&table, 1, 1, 1, &mut cells, &mut log);
-    show(answer, &cells, &log);
+fn lent() {
+    // 3 before 20.
+    let mut right: [u32; 2] = [99; 2];
+    two_for_one(b"\x00\x00\x00\x00", &mut right);
+    // 20 before 21.
+    let mut wrong: [u32; 3] = [99; 3];
+    two_for_one(b"\x02\x00\x00\x00", &mut wrong);
+    // 21: three words of log for one cell.
+    let mut cell: [u32; 1] = [5];
+    bare(b"\x02\x00\x00\x00", 1, 1, 1, &mut cell, &mut wrong);
+    // No buffers at all.
+    let mut none: [u32; 0] = [];
+    let mut nothing: [u32; 0] = [];
+    bare(b"\x02\x00\x00\x00", 1, 1, 1, &mut none, &mut nothing);
 }
 
 // 2: 257 rows.
-fn many_rows() {
+fn long() {
     let table: [u8; 1028] = [0; 1028];
-    let mut cells: [u32; 1] = [5];
-    let mut log: [u32; 2] = [99; 2];
-    let answer = launch::bare_launch(&table, 1, 1, 1, &mut cells, &mut log);
-    show(answer, &cells, &log);
-}
-
-fn worked() {
-    p1();
-    p2();
-    p3();
-    p4_spent();
-    p4_passed();
-    p5();
-    p6();
-    p7();
-    p8();
-    nesting_8();
-    nesting_9();
-    last_cell();
-    past_last_cell();
-    two_loops();
-    equal_stores();
-    skipped_barrier();
-    else_by_if();
-    write_then_read();
-    lowest_reader();
-    reader_and_writer();
-    uneven_loop();
-    unknown_op();
-    register_16();
-    unused_byte();
-    second_else();
-    left_open();
-}
-
-fn refused() {
-    odd_length();
-    no_threads();
-    many_threads();
-    many_cells();
-    high_limit();
-    rows_before_state();
-    cells_lent();
-    log_lent();
-    nothing_lent();
-    many_rows();
+    one(&table, 1, 1, 5);
 }
 
 fn main() {
-    worked();
-    refused();
+    paper();
+    edges();
+    readings();
+    rows();
+    numbers();
+    lent();
+    long();
 }
