@@ -1,9 +1,9 @@
 -- The code's functions on the log, by the op that accesses. Assumes nothing.
-use mathlib.Core.Path.{_≡_, refl, sym, _∙_, ap, subst}
+use mathlib.Core.Path.{_≡_, sym, _∙_, ap, subst}
 use mathlib.Core.List.{List}
 use Prim.Native.Nat.{ℕ, _+_, _-_, _^_, _<_}
 use lib.Bits.{bitAnd, bitOr}
-use lib.ListN.{length, getD, set}
+use lib.ListN.{getD, set}
 use Rattle.spec.specs.declared.AccessKind.the-variants.{ReadWrite, WriteRead, WriteWrite}
 use Rattle.spec.specs.Access.{load, store}
 use Rattle.spec.specs.Op.{Mem, MEM, LOAD, STORE, opOf, opTable}

@@ -1,6 +1,6 @@
 // The access log: all reader masks, then all writer masks. The access test, and the log's reading and writing.
 ghost use mathlib.Core.Path.{_≡_};
-ghost use Prim.Native.Nat.{ℕ, _<_};
+ghost use Prim.Native.Nat.{_<_};
 ghost use lib.ListN.{length, replicate};
 ghost use Rattle.layout.proofs.LogBuffer.{LogAsks, ConflictIs, KindIs, LoggedIs};
 

@@ -13,9 +13,8 @@ use Rattle.spec.specs.Mask.{Mask, has}
 use Rattle.spec.specs.Op.{BARRIER, CALC, ELSE, ENDIF, ENDWHILE, IF, MEM, Op, UNKNOWN, WHILE}
 use Rattle.spec.specs.Table.{Role, Table, WellFormed, closing, dividing, elseOf, endOf, openBefore, opening, plain, role, rowAt, scan}
 use Rattle.spec.specs.Threads.{Thread}
-use Rattle.allruns.proofs.Nesting.{Opened, AllOpened, scan-ge, scan-deeper, scan-strict, leave}
+use Rattle.allruns.proofs.Nesting.{isWhile, Opened, AllOpened, scan-ge, scan-deeper, scan-strict, leave}
 use Rattle.allruns.proofs.Progress.{Later, isLoop, mark, phase-loop, tri-in, tri-past, either, on-later, pastElse-ge}
-use Rattle.allruns.proofs.Progress as later
 use Rattle.allruns.proofs.Simulation.{Pos, Frame, loopsOf, exit, place, Nested, place-in, place-out, body}
 use Rattle.allruns.proofs.Rows.{openersOf, exit-if, exit-else, exit-while, loops-plain, loops-while, loop-if, loop-else}
 
@@ -82,7 +81,7 @@ module _ (T : Table) (w : WellFormed T) (n r u : ℕ) (rin : r < length T) (nolo
       record { far = λ j i. h .far j (omega arith); beyond = h .beyond; past = by (either (h .past .at) o) }
     where
       loop : isLoop T o ≡ true
-      loop = unfold isLoop later.isWhile in (ap later.isWhile q)
+      loop = unfold isLoop isWhile in (ap isWhile q)
 
       same : (i : ℕ) → ¬ (i ≡ o) → mark T i (At (set l o c)) ≡ mark T i (At l)
       same i d = unfold mark in (ap (λ z. cond (isLoop T i) (2 * z + cond (eqb r i) 1 0) 0) (getD-set-other l o i c 0 d))

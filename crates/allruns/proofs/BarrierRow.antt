@@ -10,8 +10,8 @@ use borrow.Author.Tests.{eq-eqb}
 use lib.ListN.{length, getD, length-map}
 use Rattle.spec.specs.AllRuns.{isRelease}
 use Rattle.spec.specs.Lists.{equalList, every}
-use Rattle.spec.specs.LockStep.{elseRow, endifRow, endwhileRow, LockState, accessTurn, advance, barrierRow, computeTurn, continues, countSteps, countedAt, passBarrier, pop, runRow, stops, topMask, topOpener}
-use Rattle.spec.specs.Mask.{Mask, any, full, has, lowest, minus}
+use Rattle.spec.specs.LockStep.{elseRow, endifRow, endwhileRow, LockState, accessTurn, advance, barrierRow, computeTurn, continues, countedAt, passBarrier, runRow, stops}
+use Rattle.spec.specs.Mask.{Mask, any, full, has, lowest}
 use Rattle.spec.specs.Op.{BARRIER, CALC, ELSE, ENDIF, ENDWHILE, IF, MEM, Op, UNKNOWN, WHILE, value}
 use Rattle.spec.specs.Runs.{shownTo}
 use Rattle.spec.specs.Shape.{Shape}
@@ -25,12 +25,12 @@ use Rattle.allruns.proofs.LogRecord.{log-cleared}
 use Rattle.allruns.proofs.Bools.{and-left, and-right, and-make}
 use Rattle.allruns.proofs.Turns.{One, touch-one, calc-one}
 use Rattle.allruns.proofs.Blocked.{Blocked}
-use Rattle.allruns.proofs.Nesting.{AllOpened, all-opened}
+use Rattle.allruns.proofs.Nesting.{isWhile, AllOpened, all-opened}
 use Rattle.allruns.proofs.Rows.{openersOf, fresh, Sim, Advanced, RowDone, match-at, match-onward, top-of, Top, top, framed-fresh, loops-size, any-has, if-row, else-row, endif-row, while-row, endwhile-row, plain-row, keeps-touch, keeps-calc}
 use Rattle.allruns.proofs.Aside.{parked, Past}
 use Rattle.allruns.proofs.Progress as later
 use Rattle.allruns.proofs.Classes.{isRow}
-use Rattle.allruns.proofs.Simulation.{isWhile, Pos, Frame, loopsOf, exit, place, place-in, place-any, body, Match}
+use Rattle.allruns.proofs.Simulation.{Pos, Frame, loopsOf, exit, place, place-in, place-any, body, Match}
 
 full-has : (m : Mask) (t : ℕ) → full m ≡ true → t < length m → has m t ≡ true
 unfolding full has
@@ -87,8 +87,8 @@ module _ (T : Table) (w : WellFormed T) (L : Shape) (s : LockState) (fs : List F
   no-while = ap isWhile q
 
   no-loop : later.isLoop T (s .row) ≡ false
-  unfolding later.isLoop later.isWhile
-  no-loop = ap later.isWhile q
+  unfolding later.isLoop isWhile
+  no-loop = ap isWhile q
 
   is-barrier : isBarrier (rowAt T (s .row) .op) ≡ true
   unfolding isBarrier

@@ -14,7 +14,7 @@ use Rattle.spec.specs.Lists.{anyOf, equalList}
 use Rattle.spec.specs.Runs.{Run, RunsAlwaysEnd, after}
 use Rattle.spec.specs.Shape.{Shape, bound}
 use Rattle.spec.specs.Table.{Table, WellFormed, noRow, rowAt}
-use Rattle.spec.specs.Threads.{Group, Move, Thread, accessesOf, atEnd, atOneBarrier, effectAt, endsBadly, isBarrier, isOutside, isWaiting, machine, markBad, next, noThread, performed, possible, races, release, row, threadAfter, threadCount, waits}
+use Rattle.spec.specs.Threads.{Group, Move, Thread, accessesOf, atEnd, atOneBarrier, effectAt, endsBadly, isBarrier, isOutside, isWaiting, machine, markBad, next, noThread, performed, possible, races, release, row, threadAfter, threadCount}
 use Rattle.allruns.proofs.Descent.{all-after, finish}
 use Rattle.allruns.proofs.Bools.{and-left, and-right, not-is}
 use Rattle.allruns.proofs.Diamond.{or-left-false, laws, every-at, act-waits}

@@ -1,33 +1,31 @@
 -- The lock-step run is one of the machine's runs: it comes to its end, or it fails. Assumes nothing.
 use mathlib.Core.Path.{_≡_, refl, sym, _∙_, ap, ap₂, subst}
-use mathlib.Core.Logic.{_⊎_, ⊎-elim}
+use mathlib.Core.Logic.{_⊎_}
 use mathlib.Core.List.{List, [], _∷_, _++_, cons≢nil}
 use mathlib.Core.Bool.{Bool, true, false, cond, not}
 use Prim.Native.Nat.{ℕ, zero, suc, _+_, _<_, _≤_}
 use native.Mathlib.Omega.{arith}
 use lib.Dec.{leb}
 use borrow.Author.Tests.{leb-true, leb-false, le-leb}
-use lib.ListN.{getD-replicate, length, getD, replicate, length-replicate, List·getD-eq-default, List·getD-append}
+use lib.ListN.{getD-replicate, length, getD, replicate, length-replicate, List·getD-eq-default}
 use Rattle.spec.specs.AllRuns.{isRelease}
-use Rattle.spec.specs.LockStep.{LockResult, LockState, Step, continues, countedAfter, countedAt, countedBarriers, countedFrom, initialState, lockstep, resultOf, runFrom, runRow, stops}
+use Rattle.spec.specs.LockStep.{LockResult, LockState, Step, continues, countedAfter, countedAt, countedFrom, initialState, resultOf, runFrom, runRow, stops}
 use Rattle.spec.specs.Mask.{has}
-use Rattle.spec.specs.Runs.{Run, RunsAlwaysEnd, Stuck, after, many, shownTo}
-use Rattle.spec.specs.Shape.{Shape, address, shapeOf, total}
+use Rattle.spec.specs.Runs.{Run, after, many, shownTo}
+use Rattle.spec.specs.Shape.{Shape, shapeOf, total}
 use Rattle.spec.specs.Table.{Table, WellFormed, noRow, openBefore, rowAt}
-use Rattle.spec.specs.Threads.{Group, Move, atEnd, initialGroup, machine, next, noThread, release, released, row}
+use Rattle.spec.specs.Threads.{Group, Move, atEnd, initialGroup, machine, noThread, released, row}
 use Rattle.spec.specs.declared.Verdict.{Verdict}
 use Rattle.spec.specs.declared.Verdict.the-variants.{Diverged, Outside, Passed, Race, Spent}
-use Rattle.spec.specs.Threads as own
-use Rattle.allruns.proofs.Descent.{many-append, descent, carry, run-append, after-append, seen-append}
+use Rattle.allruns.proofs.Descent.{many-append, run-append, after-append, seen-append}
 use Rattle.allruns.proofs.LogRecord.{log-empty}
 use Rattle.allruns.proofs.Bools.{and-make}
-use Rattle.allruns.proofs.Diamond.{laws}
-use Rattle.allruns.proofs.Blocked.{Blocked, bad-not-all, blocked-not-all}
+use Rattle.allruns.proofs.Blocked.{Blocked}
 use Rattle.allruns.proofs.BarrierRow.{row-done, every-make}
 use Rattle.allruns.proofs.Classes.{isRow}
 use Rattle.allruns.proofs.Rows.{openersOf, fresh, Sim, Advanced, Failed, RowDone, framed-fresh}
-use Rattle.allruns.proofs.Progress as later
-use Rattle.allruns.proofs.Simulation.{isWhile, Frame, loopsOf, place, body}
+use Rattle.allruns.proofs.Nesting.{isWhile}
+use Rattle.allruns.proofs.Simulation.{Frame, loopsOf, place, body}
 
 -- A whole run of the machine that the lock-step run from s simulates of.
 pub record Completes (T : Table) (L : Shape) (s : LockState) (g : Group) (o : LockResult) (bs : List (List ℕ)) : Type 0 where

@@ -13,8 +13,8 @@ use Rattle.spec.specs.Op.{BARRIER, CALC, ELSE, ENDIF, ENDWHILE, IF, MEM, Op, UN
 use Rattle.spec.specs.Shape.{Shape, shapeOf}
 use Rattle.spec.specs.Table.{Fits, Role, Table, WellFormed, closing, dividing, elseOf, endOf, innermost, openBefore, openedBy, opening, pastElse, plain, role, rowAt, scan, scanRow, startOf}
 use Rattle.spec.specs.Threads.{Move, Thread, effectOf, goto, noThread, onIf, onWhile, pastBarrier, put, reg, threadAfter}
-use Rattle.allruns.proofs.Nesting.{innermost-at, outer, scan-step}
-use Rattle.allruns.proofs.Progress.{back, isLoop, isWhile}
+use Rattle.allruns.proofs.Nesting.{isWhile, innermost-at, outer, scan-step}
+use Rattle.allruns.proofs.Progress.{back, isLoop}
 use Rattle.allruns.proofs.Invariants.{Keeps, in-every-run, reach-cases, replicate-keeps}
 
 -- Row i is a WHILE, and is row r itself or a construct that is open before row r.

@@ -7,8 +7,19 @@ use Prim.Native.Nat.{ℕ, zero, suc, _+_, _-_, _<_, _≤_}
 use native.Mathlib.Omega.{arith}
 use lib.ListN.{length, drop}
 use lib.Seq.{drop-cons}
-use Rattle.spec.specs.Op.{ELSE, ENDIF, IF}
+use Rattle.spec.specs.Op.{Op, CALC, MEM, IF, ELSE, ENDIF, WHILE, ENDWHILE, BARRIER, UNKNOWN}
 use Rattle.spec.specs.Table.{Fits, Role, Row, Table, WellFormed, closing, dividing, elseOf, endOf, innermost, noRow, openBefore, openedBy, opening, pastElse, plain, role, rowAt, scan, scanRow}
+
+unfoldable pub isWhile : Op → Bool
+isWhile (CALC c) = false
+isWhile (MEM m) = false
+isWhile IF = false
+isWhile ELSE = false
+isWhile ENDIF = false
+isWhile WHILE = true
+isWhile ENDWHILE = false
+isWhile BARRIER = false
+isWhile UNKNOWN = false
 
 -- A scan never goes back.
 pub scan-ge : (half : Bool) (xs : List Row) (k at : ℕ) → at ≤ scan half xs k at

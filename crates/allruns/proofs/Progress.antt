@@ -12,20 +12,9 @@ use lib.Seq.{getD-set-other, getD-set-same}
 use Rattle.spec.specs.Access.{Kind}
 use Rattle.spec.specs.Op.{BARRIER, CALC, ELSE, ENDIF, ENDWHILE, IF, MEM, Op, UNKNOWN, WHILE}
 use Rattle.spec.specs.Shape.{Shape, address, bound}
-use Rattle.spec.specs.Table.{Fits, Row, Table, WellFormed, cellByte, closing, elseOf, endOf, innermost, kindOf, noRow, openBefore, opening, pastElse, role, rowAt, scan, startOf}
+use Rattle.spec.specs.Table.{Fits, Table, WellFormed, cellByte, closing, elseOf, endOf, innermost, kindOf, noRow, openBefore, opening, pastElse, role, rowAt, scan, startOf}
 use Rattle.spec.specs.Threads.{Effect, Thread, accesses, effect, effectOf, goto, isOutside, isWaiting, onIf, onWhile, put, reach, reg, strays, threadAfter, waits}
-use Rattle.allruns.proofs.Nesting.{scan-ge, innermost-at, end-here, end-nested}
-
-unfoldable pub isWhile : Op → Bool
-isWhile (CALC c) = false
-isWhile (MEM m) = false
-isWhile IF = false
-isWhile ELSE = false
-isWhile ENDIF = false
-isWhile WHILE = true
-isWhile ENDWHILE = false
-isWhile BARRIER = false
-isWhile UNKNOWN = false
+use Rattle.allruns.proofs.Nesting.{isWhile, scan-ge, innermost-at, end-here, end-nested}
 
 unfoldable pub isLoop : Table → ℕ → Bool
 isLoop T i = isWhile (rowAt T i .op)

@@ -14,20 +14,20 @@ use Rattle.spec.specs.AllRuns.{isRelease}
 use Rattle.spec.specs.LockStep.{ifRow, elseRow, endifRow, whileRow, endwhileRow, LockState, Saved, Step, accessTurn, advance, andThen, computeTurn, continues, countSteps, countedAt, forEnabled, inTurn, leaveOrStay, madeAccess, pop, reg, savedAtWhile, setReg, stops, topMask, topOpener, tryAccess}
 use Rattle.spec.specs.Log.{conflictMask, raceKind}
 use Rattle.spec.specs.Mask.{Mask, any, has, holding, lowest, members, membersFrom, minus, nonzero}
-use Rattle.spec.specs.Op.{CALC, ELSE, ENDIF, ENDWHILE, IF, Mem, Op, WHILE}
+use Rattle.spec.specs.Op.{ELSE, ENDIF, ENDWHILE, IF, Mem, Op, WHILE}
 use Rattle.spec.specs.Runs.{Run, after, many, shownTo}
 use Rattle.spec.specs.Shape.{Shape, address, bound}
-use Rattle.spec.specs.Table.{Fits, Row, Table, WellFormed, cellByte, closing, elseOf, endOf, innermost, kindOf, openBefore, openedBy, plain, role, rowAt, startOf}
-use Rattle.spec.specs.Threads.{Group, Move, effect, effectOf, isOutside, machine, next, release, row}
+use Rattle.spec.specs.Table.{Fits, Row, Table, WellFormed, cellByte, closing, elseOf, endOf, innermost, kindOf, openBefore, openedBy, role, rowAt, startOf}
+use Rattle.spec.specs.Threads.{Group, Move, effect, effectOf, isOutside, machine, next, row}
 use Rattle.spec.specs.declared.Verdict.{Verdict}
 use Rattle.spec.specs.declared.Verdict.the-variants.{Diverged, Outside, Passed, Race, Spent}
 use Rattle.spec.specs.Threads as own
 use Rattle.allruns.proofs.Bools.{and-left}
 use Rattle.allruns.proofs.Turns.{One, Turned, turn-all, quiet-all, act-is}
 use Rattle.allruns.proofs.Blocked.{Blocked}
-use Rattle.allruns.proofs.Nesting.{outer, Opened, AllOpened, all-opened, else-of-else, else-of-endif, end-here, Left, after-end, innermost-at}
+use Rattle.allruns.proofs.Nesting.{isWhile, outer, Opened, AllOpened, all-opened, else-of-else, else-of-endif, end-here, Left, after-end, innermost-at}
 use Rattle.allruns.proofs.Classes.{isRow}
-use Rattle.allruns.proofs.Simulation.{isWhile, exitBy, Pos, Frame, loopsOf, exit, place, Nested, place-in, place-out, place-any, body, Match, movedAll, allMoved}
+use Rattle.allruns.proofs.Simulation.{exitBy, Pos, Frame, loopsOf, exit, place, Nested, place-in, place-out, place-any, body, Match, movedAll, allMoved}
 
 abbrev pub savedOf : List Frame → List Saved
 savedOf [] = []

@@ -1,7 +1,7 @@
 -- The lock-step run as a run of the threads' machine: where each thread stands. Assumes nothing.
 use mathlib.Core.Path.{_≡_, refl, sym, _∙_, ap, subst}
 use mathlib.Core.List.{List, [], _∷_}
-use mathlib.Core.Bool.{Bool, true, false, cond, true≢false}
+use mathlib.Core.Bool.{true, false, cond, true≢false}
 use Prim.Native.Nat.{ℕ, zero, suc, _+_, _<_}
 use native.Mathlib.Omega.{arith}
 use lib.Dec.{eqb}
@@ -12,9 +12,9 @@ use Rattle.spec.specs.Mask.{Mask, has}
 use Rattle.spec.specs.Op.{BARRIER, CALC, ELSE, ENDIF, ENDWHILE, IF, MEM, Op, UNKNOWN, WHILE}
 use Rattle.spec.specs.Shape.{Shape, total}
 use Rattle.spec.specs.Table.{Table, elseOf, endOf, rowAt}
-use Rattle.spec.specs.Threads.{Group, Thread, machine, noThread, row}
-use Rattle.spec.specs.Threads as own
+use Rattle.spec.specs.Threads.{Group, Thread, noThread, row}
 use Rattle.allruns.proofs.LogRecord.{LogMatches}
+use Rattle.allruns.proofs.Nesting.{isWhile}
 
 pub record Pos : Type 0 where
   pub row : ℕ
@@ -24,17 +24,6 @@ pub record Frame : Type 0 where
   pub opener : ℕ
   pub mask : Mask
   pub rounds : ℕ
-
-unfoldable pub isWhile : Op → Bool
-isWhile (CALC c) = false
-isWhile (MEM m) = false
-isWhile IF = false
-isWhile ELSE = false
-isWhile ENDIF = false
-isWhile WHILE = true
-isWhile ENDWHILE = false
-isWhile BARRIER = false
-isWhile UNKNOWN = false
 
 unfoldable pub loopsOf : Table → List Frame → List ℕ
 loopsOf T [] = replicate (length T) 0

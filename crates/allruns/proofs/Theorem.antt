@@ -13,7 +13,7 @@ use Rattle.spec.specs.Table.{Table, WellFormed}
 use Rattle.spec.specs.Threads as own
 use Rattle.spec.specs.Threads.{Group, Move, row, release, next, machine}
 use Rattle.spec.specs.LockStep.{LockState, LockResult, initialState, lockstep, countedBarriers}
-use Rattle.spec.specs.AllRuns.{machineOf, startOfRuns, RunOf, leaves, isRelease, EveryRunEndsWell, PassedSays, Demand3}
+use Rattle.spec.specs.AllRuns.{machineOf, startOfRuns, isRelease, EveryRunEndsWell, PassedSays, Demand3}
 use Rattle.allruns.proofs.Descent.{Same, descent}
 use Rattle.allruns.proofs.Diamond.{laws}
 use Rattle.allruns.proofs.Blocked.{bad-not-all, blocked-not-all}

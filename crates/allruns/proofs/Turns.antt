@@ -24,7 +24,7 @@ use Rattle.spec.specs.Threads as own
 use Rattle.allruns.proofs.LogRecord.{LogMatches, log-tested, log-entered}
 use Rattle.allruns.proofs.Bools.{and-make}
 use Rattle.allruns.proofs.Diamond.{next-done, next-bad}
-use Rattle.allruns.proofs.Simulation.{Pos, place, body, Match, moved, moved-same, moved-other, movedAll}
+use Rattle.allruns.proofs.Simulation.{Pos, body, Match, moved, moved-same, moved-other, movedAll}
 
 module _ (T : Table) (L : Shape) (new : ℕ → Pos) (here : Pos) where
   -- What one thread's part of a row comes to in the machine.

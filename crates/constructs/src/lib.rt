@@ -1,6 +1,6 @@
 // The rows of constructs, and BARRIER. Masks are saved on entry, with the construct's row beside them.
 ghost use mathlib.Core.Path.{_≡_};
-ghost use Prim.Native.Nat.{ℕ, _<_, _≤_};
+ghost use Prim.Native.Nat.{_<_, _≤_};
 ghost use Rattle.layout.proofs.Memory.{HoldingIs};
 ghost use Rattle.layout.proofs.Represents.{Room, Becomes, ifOn, ElseBecomes, EndifBecomes, RoomForWhile, EnteredWhile, WhileBecomes, EndwhileBecomes, DepthAsks, ConstructDone, BarrierDone, movedOn};
 

@@ -1,9 +1,7 @@
 // The bare launch: a table, its launch's numbers, and lent cells and log.
 ghost use mathlib.Core.Path.{_≡_};
 ghost use mathlib.Core.Bool.{_&&_};
-ghost use Prim.Native.Nat.{ℕ};
 ghost use lib.Dec.{leb};
-ghost use lib.ListN.{length};
 ghost use Rattle.spec.specs.Entries.{bareNumbers, bareLent, bareAnswer, bareCells, bareLog};
 ghost use Rattle.spec.specs.Demands.{BareDemand3};
 ghost use Rattle.reader.specs.Answer.{readingOf};

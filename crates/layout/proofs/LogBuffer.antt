@@ -14,7 +14,7 @@ use Rattle.spec.specs.declared.AccessKind.the-variants.{ReadWrite, WriteWrite}
 use Rattle.spec.specs.Access.{Kind, load, store}
 use Rattle.spec.specs.Op.{Mem, MEM, opOf}
 use Rattle.spec.specs.Table.{kindOf}
-use Rattle.spec.specs.Mask.{Mask, maskWord, has, union}
+use Rattle.spec.specs.Mask.{Mask, maskWord, has}
 use Rattle.spec.specs.Log.{Log, logWords, emptyLog, cleared, withThread, logged, testedMask, conflictMask, raceKind}
 use Rattle.masks.proofs.Words.{word-or, word-set, word-has, word-except, union-size}
 use Rattle.layout.proofs.Memory.{Masks, LogIs}

@@ -4,8 +4,7 @@ use mathlib.Core.Logic.{_⊎_}
 use mathlib.Core.List.{List, [], _∷_}
 use Prim.Native.Nat.{ℕ, suc, _+_, _-_, _*_, _<_, _≤_}
 use lib.ListN.{length, getD}
-use Rattle.spec.specs.declared.Verdict.{Verdict}
-use Rattle.spec.specs.Op.{Op, WHILE, opOf}
+use Rattle.spec.specs.Op.{WHILE, opOf}
 use Rattle.spec.specs.Table.{Table, Row, endOf}
 use Rattle.spec.specs.Shape.{Shape}
 use Rattle.spec.specs.Mask.{maskWord, holding}

@@ -1,7 +1,7 @@
 -- A loop over the threads of a row, one turn at a time. Assumes nothing.
-use mathlib.Core.Path.{_≡_, refl, sym, _∙_, ap, ap₂, subst}
+use mathlib.Core.Path.{_≡_, refl, sym, _∙_, ap, subst}
 use mathlib.Core.List.{List, [], _∷_}
-use mathlib.Core.Bool.{Bool, true, false}
+use mathlib.Core.Bool.{true, false}
 use Prim.Native.Nat.{ℕ, suc, _+_, _/_, _%_, _<_, _≤_}
 use native.Mathlib.Omega.{arith}
 use lib.ListN.{length}
@@ -12,7 +12,7 @@ use Rattle.spec.specs.LockStep.{LockState, Step, continues, stops, inTurn, andT
 use Rattle.masks.proofs.Words.{word-half, word-odd, ones-are}
 use Rattle.layout.specs.declared.Access.{Access}
 use Rattle.layout.specs.declared.Access.the-variants.{Done, Stop}
-use Rattle.layout.proofs.Memory.{Memory, Kept, Did, OneTurn, accessOf, stateOf, stepsOf}
+use Rattle.layout.proofs.Memory.{Memory, Kept, Did, OneTurn, stepsOf}
 
 pub kept-none : (s : LockState) → Kept 0 s s
 kept-none s = record { row-same = refl; enabled-same = refl; saved-same = refl; rows-same = refl; barriers-same = refl; steps-more = omega arith }

@@ -1,6 +1,6 @@
 -- Masks as words: what the code's bit operations and counts are of them. Assumes nothing.
-use mathlib.Core.Path.{_≡_, refl, sym, _∙_, ap, ap₂}
-use mathlib.Core.List.{List, [], _∷_, map}
+use mathlib.Core.Path.{_≡_, refl, _∙_, ap, ap₂}
+use mathlib.Core.List.{[], _∷_, map}
 use mathlib.Core.Bool.{Bool, true, false, cond, not, _&&_, _||_, true≢false, false≢true}
 use Prim.Native.Nat.{ℕ, zero, suc, _+_, _-_, _*_, _/_, _%_, _^_, _<_, _≤_, min, max}
 use native.Mathlib.Nat.{mod-eq-of-lt}
@@ -8,7 +8,7 @@ use native.Mathlib.Omega.{arith}
 use lib.Bits.{bitAnd, bitOr, and-step, or-step, and-zero-l, and-zero-r, or-zero-l, or-zero-r, and-mask}
 use lib.Pow.{pow-lt, pow-mono, pow-pos}
 use lib.Count.{ones, ones-step, trailingZeros, under}
-use lib.ListN.{length, getD, set, replicate}
+use lib.ListN.{length, set, replicate}
 use Rattle.spec.specs.Mask.{Mask, maskWord, has, any, full, minus, union, lowest, membersFrom}
 
 bit-small : (b : Bool) → cond b 1 0 ≤ 1

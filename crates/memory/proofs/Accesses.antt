@@ -2,7 +2,7 @@
 use mathlib.Core.Path.{_≡_, refl, sym, _∙_, ap, ap₂, subst}
 use mathlib.Core.Logic.{_⊎_, inl, inr}
 use mathlib.Core.List.{List, []}
-use mathlib.Core.Bool.{Bool, true, false, cond}
+use mathlib.Core.Bool.{true, false, cond}
 use Prim.Native.Nat.{ℕ, _+_, _*_, _<_, _≤_}
 use native.Mathlib.Omega.{arith}
 use native.Mathlib.Decide.{ℕ-discrete}
@@ -18,12 +18,12 @@ use Rattle.spec.specs.Op.{Mem, MEM, LOAD, STORE, opOf}
 use Rattle.spec.specs.Table.{Row, cellByte, kindOf}
 use Rattle.spec.specs.Shape.{Shape, bound, address}
 use Rattle.spec.specs.Mask.{Mask, maskWord, any, lowest}
-use Rattle.spec.specs.Log.{Log, logged, conflictMask, raceKind}
+use Rattle.spec.specs.Log.{logged, conflictMask, raceKind}
 use Rattle.spec.specs.LockStep.{LockState, Step, continues, stops, reg, madeAccess, tryAccess, accessTurn}
 use Rattle.masks.proofs.Words.{any-none, any-some, lowest-is}
 use Rattle.layout.specs.declared.Access.{Access}
 use Rattle.layout.specs.declared.Access.the-variants.{Done, Stop}
-use Rattle.layout.proofs.Memory.{Regs, LogIs, Memory, Kept, Did, stepsOf, Transferred, CellRegister}
+use Rattle.layout.proofs.Memory.{Regs, LogIs, Memory, Did, stepsOf, Transferred, CellRegister}
 use Rattle.layout.proofs.Buffers.{regs-set}
 use Rattle.layout.proofs.LogBuffer.{ConflictIs, KindIs, LoggedIs, conflict-size}
 use Rattle.layout.proofs.Turning.{kept-none}

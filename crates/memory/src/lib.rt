@@ -1,6 +1,6 @@
 // LOAD (16) and STORE (17): one path for both.
 ghost use mathlib.Core.Path.{_≡_};
-ghost use Prim.Native.Nat.{ℕ, _+_, _*_, _<_, _≤_};
+ghost use Prim.Native.Nat.{_+_, _*_, _<_, _≤_};
 ghost use lib.ListN.{length};
 ghost use Rattle.layout.proofs.Memory.{AccessAsks, AccessOne, AccessAll, Transferred, CellRegister};
 

@@ -12,14 +12,15 @@ use Rattle.spec.specs.declared.Verdict.{Verdict}
 use Rattle.spec.specs.declared.Verdict.the-variants.{Passed, Spent}
 use Rattle.spec.specs.declared.Outcome.{Outcome}
 use Rattle.spec.specs.Op.{Op, IF, ELSE, ENDIF, WHILE, ENDWHILE, UNKNOWN, opOf, opTable}
-use Rattle.spec.specs.Table.{Table, rowsOf, Role, opening, role, rowAt, openBefore, openedBy, endOf, innermost, Fits}
+use Rattle.spec.specs.Table.{Table, rowsOf, opening, role, rowAt, openBefore, openedBy, innermost, Fits}
 use Rattle.spec.specs.Shape.{Shape, shapeOf}
 use Rattle.spec.specs.LockStep.{Saved, LockState, Step, continues, stops, topOpener, runRow, LockResult, resultOf, runFrom, initialState, lockstep, outcomeOf}
 use Rattle.spec.specs.Threads.{Group, machine, initialGroup}
 use Rattle.spec.specs.Runs.{after}
 use Rattle.structure.proofs.Acceptance.{well-formed, depth-bounded}
-use Rattle.allruns.proofs.Simulation.{Frame, isWhile}
-use Rattle.allruns.proofs.Rows.{Sim, Framed, fresh, again, savedOf, openersOf, framed-fresh, RowDone, Advanced}
+use Rattle.allruns.proofs.Nesting.{isWhile}
+use Rattle.allruns.proofs.Simulation.{Frame}
+use Rattle.allruns.proofs.Rows.{Sim, Framed, fresh, again, savedOf, openersOf, framed-fresh, RowDone}
 use Rattle.allruns.proofs.BarrierRow.{row-done}
 use Rattle.allruns.proofs.LockRun.{start-sim}
 use Rattle.masks.proofs.Words.{word-all}

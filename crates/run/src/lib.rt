@@ -1,6 +1,6 @@
 // The lock-step run: one row after the other, until the table's end, the limit, or a stop.
 ghost use mathlib.Core.Path.{_≡_};
-ghost use Prim.Native.Nat.{ℕ, _*_, _≤_};
+ghost use Prim.Native.Nat.{_*_, _≤_};
 ghost use lib.ListN.{length};
 ghost use Rattle.spec.specs.Table.{rowsOf};
 ghost use Rattle.spec.specs.LockStep.{lockstep};

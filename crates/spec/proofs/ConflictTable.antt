@@ -3,9 +3,9 @@ use mathlib.Core.Path.{_≡_, refl}
 use mathlib.Core.List.{List, [], _∷_, map}
 use mathlib.Core.Bool.{Bool, true, false}
 use Prim.Native.Nat.{ℕ}
-use Rattle.spec.specs.Access.{Kind, load, store, Access, conflict}
-use Rattle.spec.specs.Log.{Log, emptyLog, logged, conflictMask}
-use Rattle.spec.specs.Mask.{Mask, any}
+use Rattle.spec.specs.Access.{Kind, load, store, conflict}
+use Rattle.spec.specs.Log.{emptyLog, logged, conflictMask}
+use Rattle.spec.specs.Mask.{any}
 use Rattle.spec.specs.Threads.{emptyRecord, recorded, races}
 use Rattle.spec.proofs.Computing.{computing}
 

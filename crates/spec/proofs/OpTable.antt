@@ -3,7 +3,7 @@ use mathlib.Core.Path.{_≡_, refl}
 use mathlib.Core.List.{List, [], _∷_, _++_, map}
 use Prim.Native.Nat.{ℕ, zero, suc}
 use lib.ListN.{length, replicate}
-use Rattle.spec.specs.Op.{Form, setForm, dForm, dabForm, daForm, aForm, noForm, unknownForm, opTable, formOf}
+use Rattle.spec.specs.Op.{setForm, dForm, dabForm, daForm, aForm, noForm, unknownForm, opTable, formOf}
 use Rattle.spec.proofs.Computing.{computing}
 
 unfoldable pub bytesFrom : ℕ → ℕ → List ℕ

@@ -1,6 +1,6 @@
 -- The worked launches come out of the definitions: report bytes and the whole log, for all of them in one computation. Assumes nothing.
 use mathlib.Core.Path.{_≡_, refl}
-use mathlib.Core.List.{List, [], _∷_, map}
+use mathlib.Core.List.{List, [], map}
 use Prim.Native.Nat.{ℕ}
 use Rattle.spec.specs.Log.{logWords}
 use Rattle.spec.specs.LaunchFile.{Launch, Checked, refused, accepted, fileLaunch}

@@ -1,9 +1,9 @@
 -- Demand 3: what the verdict of one lock-step run says of every run of the launch's independent threads. Assumes nothing.
 use mathlib.Core.Path.{_≡_}
 use mathlib.Core.Logic.{_↔_}
-use mathlib.Core.List.{List, [], _∷_, _++_}
+use mathlib.Core.List.{List, _++_}
 use mathlib.Core.Bool.{Bool, true, false}
-use Prim.Native.Nat.{ℕ, suc, _+_}
+use Prim.Native.Nat.{ℕ, _+_}
 use lib.ListN.{length}
 use Rattle.spec.specs.Answers.{Passed, Spent}
 use Rattle.spec.specs.Table.{Table}

@@ -1,13 +1,13 @@
 -- What each public entry answers and what it leaves in each lent buffer, for all inputs. "Turned back", "The launch file and the report". Assumes nothing.
 use mathlib.Core.List.{List, [], _∷_, _++_}
-use mathlib.Core.Bool.{Bool, true, false, cond, _&&_}
+use mathlib.Core.Bool.{_&&_}
 use mathlib.Core.Option.{Option, none, some}
 use Prim.Native.Nat.{ℕ, _+_, _*_, _/_, _%_}
 use lib.Dec.{eqb, leb}
 use lib.ListN.{length, drop}
 use Rattle.spec.specs.Limits.{maxThreads, maxCells, maxRows, maxLimit, fileCells, fileLog, fileOutput}
 use Rattle.spec.specs.Answers.{Outcome, Refusal, TableLength, TooManyRows, ThreadsOutOfRange, CellsOutOfRange, LimitOutOfRange, CellsLength, LogLength, OutputLength, ReportCells, ReportTooLong}
-use Rattle.spec.specs.Answers.{Answer, Written, Subject, refusalNumber, refusalPlace, unless, orElse, first}
+use Rattle.spec.specs.Answers.{Answer, Written, Subject, refusalNumber, refusalPlace, unless, first}
 use Rattle.spec.specs.declared.Answer.the-variants as answer
 use Rattle.spec.specs.declared.Written.the-variants as written
 use Rattle.spec.specs.declared.Subject.the-variants as subject

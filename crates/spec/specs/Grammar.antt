@@ -1,12 +1,12 @@
 -- The grammar of a table. "The kernel table": a body is a run of plain rows and constructs; a construct is IF body ENDIF,
 -- IF body ELSE body ENDIF, or WHILE body ENDWHILE, and its bodies are read by the same rule. Assumes nothing.
 use mathlib.Core.Path.{_≡_}
-use mathlib.Core.List.{List, [], _∷_, _++_}
-use mathlib.Core.Bool.{Bool, true}
-use Prim.Native.Nat.{ℕ, zero, suc, _≤_, _<_, max}
+use mathlib.Core.List.{[], _∷_, _++_}
+use mathlib.Core.Bool.{true}
+use Prim.Native.Nat.{ℕ, suc, _≤_, _<_, max}
 use lib.ListN.{length}
 use Rattle.spec.specs.Limits.{maxNesting}
-use Rattle.spec.specs.Op.{Op, IF, ELSE, ENDIF, WHILE, ENDWHILE, UNKNOWN, form, operandsFit}
+use Rattle.spec.specs.Op.{IF, ELSE, ENDIF, WHILE, ENDWHILE, UNKNOWN, form, operandsFit}
 use Rattle.spec.specs.Table.{Row, Table, rowAt, role, plain}
 
 mutual

@@ -9,7 +9,7 @@ use lib.ListN.{length}
 use Rattle.spec.specs.Limits.{maxThreads, maxCells, maxRows, maxLimit, maxFile, words, bytes}
 use Rattle.spec.specs.Answers.{Refusal, FileTooLong, LineNotDue, ThreadsOutOfRange, CellsOutOfRange, LimitOutOfRange, TooManyRows}
 use Rattle.spec.specs.Lists.{equalList}
-use Rattle.spec.specs.Text.{text, newline, comma, equals, numberBelow, Halves, splitAt}
+use Rattle.spec.specs.Text.{text, newline, comma, equals, numberBelow, splitAt}
 use Rattle.spec.specs.Table.{Table, Row, rowOf}
 use Rattle.spec.specs.TableCheck.{tableRefusal}
 

@@ -1,6 +1,6 @@
 -- The lock-step run's log: for each cell a reader mask and a writer mask. "The lock-step run", state, LOAD and STORE. Assumes nothing.
 use mathlib.Core.List.{List, [], _++_, map}
-use mathlib.Core.Bool.{Bool, true, false, cond}
+use mathlib.Core.Bool.{true, false, cond}
 use Prim.Native.Nat.{ℕ}
 use lib.ListN.{getD, set, replicate}
 use Rattle.spec.specs.Answers.{AccessKind, ReadWrite, WriteRead, WriteWrite}

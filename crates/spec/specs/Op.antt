@@ -1,12 +1,11 @@
 -- The ops of a kernel table, their numbers and their operands. "The kernel table". Assumes nothing.
-use mathlib.Core.List.{List, [], _∷_, _++_}
-use mathlib.Core.Bool.{Bool, true, false, _&&_}
+use mathlib.Core.List.{List, _∷_, _++_}
+use mathlib.Core.Bool.{Bool, true, _&&_}
 use Prim.Native.Nat.{ℕ, _+_, _*_}
 use lib.Dec.{eqb, ltb}
 use lib.Bits.{bitAnd, bitOr, bitXor}
 use lib.ListN.{getD, replicate}
 use Rattle.spec.specs.Limits.{registers}
-use Rattle.spec.specs.Access.{Kind, load, store}
 use Rattle.spec.specs.Word.{add, sub, mul, shr, sar, equal, less, signedLess}
 
 -- Ops that compute a register.

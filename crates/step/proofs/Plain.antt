@@ -3,7 +3,7 @@ use mathlib.Core.Path.{_≡_, sym, _∙_, ap, subst}
 use mathlib.Core.List.{List}
 use Prim.Native.Nat.{ℕ}
 use lib.Count.{ones}
-use Rattle.spec.specs.Op.{Calc, CALC, Mem, MEM, opOf, value}
+use Rattle.spec.specs.Op.{Calc, CALC, Mem, MEM, value}
 use Rattle.spec.specs.Table.{Table, Row}
 use Rattle.spec.specs.Shape.{Shape}
 use Rattle.spec.specs.Mask.{members}

@@ -6,7 +6,7 @@ use native.Mathlib.Omega.{arith}
 use native.Mathlib.Decide.{ℕ-discrete}
 use lib.ListN.{length, getD, drop}
 use Rattle.spec.specs.Op.{Calc, SET, TID, COUNT, ADD, SUB, MUL, AND, OR, XOR, SHR, SAR, EQ, LT, SLT, Op, CALC, Mem, MEM, LOAD, STORE, UNKNOWN, opOf, opTable}
-use Rattle.spec.specs.Table.{Row, Table, rowOf, rowsOf, rowAt}
+use Rattle.spec.specs.Table.{Row, rowOf, rowsOf, rowAt}
 use Rattle.spec.specs.LockStep.{LockState}
 use Rattle.layout.specs.declared.State.{State}
 use Rattle.layout.proofs.Memory.{ComputeAsks}

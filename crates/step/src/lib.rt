@@ -1,6 +1,6 @@
 // One row of the run: the op is told apart, and the row's own function does it.
 ghost use mathlib.Core.Path.{_≡_};
-ghost use Prim.Native.Nat.{ℕ, _+_, _*_, _<_, _≤_};
+ghost use Prim.Native.Nat.{_+_, _*_, _<_, _≤_};
 ghost use Rattle.layout.proofs.Memory.{AccessAsks};
 ghost use Rattle.layout.proofs.Represents.{Room, accessed};
 ghost use Rattle.layout.proofs.Running.{AccessDone, Ready, Steps};

@@ -1,13 +1,9 @@
-use mathlib.Core.Path.{_≡_, refl}
-use Prim.Native.Nat.{ℕ}
+use mathlib.Core.Path.{refl}
 use native.Mathlib.Omega.{arith}
 use Rattle.accesslog.proofs.LogTests.{conflict-by-load, conflict-by-store}
 use borrow.Author.Needs.{needs}
 use Rattle.accesslog.proofs.conflict.Statement.{statement}
 use Rattle.accesslog.proofs.conflict.Tie as tie
-use Rattle.accesslog.proofs.conflict.Reads as reads
-use Rattle.accesslog.proofs.conflict.Lts as lts
-use Rattle.masks.proofs.without_thread.Reads as without-thread-reads
 
 -- src/lib.rt:21:17
 add-w : tie.Need-add-w

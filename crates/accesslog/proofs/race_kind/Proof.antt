@@ -1,13 +1,8 @@
-use mathlib.Core.Path.{_≡_, refl}
-use Prim.Native.Nat.{ℕ}
 use native.Mathlib.Omega.{arith}
 use Rattle.accesslog.proofs.LogTests.{kind-by-load, kind-by-reader, kind-by-writer}
 use borrow.Author.Needs.{needs}
 use Rattle.accesslog.proofs.race_kind.Statement.{statement}
 use Rattle.accesslog.proofs.race_kind.Tie as tie
-use Rattle.accesslog.proofs.race_kind.Reads as reads
-use Rattle.accesslog.proofs.race_kind.Lts as lts
-use Rattle.masks.proofs.bit.Reads as bit-reads
 
 -- src/lib.rt:34:9
 returns : tie.Need-returns

@@ -1,17 +1,10 @@
-use mathlib.Core.Path.{_≡_, refl}
+use mathlib.Core.Path.{refl}
 use native.Mathlib.Omega.{arith}
 use Rattle.layout.proofs.PlainRows.{counted-moved}
 use Rattle.constructs.proofs.Barrier.{barrier-skips, barrier-passes, barrier-stops}
 use borrow.Author.Needs.{needs}
 use Rattle.constructs.proofs.barrier_row.Statement.{statement}
 use Rattle.constructs.proofs.barrier_row.Tie as tie
-use Rattle.constructs.proofs.barrier_row.Reads as reads
-use Rattle.constructs.proofs.barrier_row.Lts as lts
-use Rattle.constructs.proofs.moved.Reads as moved-reads
-use Rattle.masks.proofs.all.Reads as all-reads
-use Rattle.masks.proofs.lowest.Reads as lowest-reads
-use Rattle.masks.proofs.minus.Reads as minus-reads
-use Rattle.accesslog.proofs.clear.Reads as clear-reads
 
 -- src/lib.rt:179:9
 all-requires : tie.Need-all-requires

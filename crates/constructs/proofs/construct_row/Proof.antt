@@ -1,17 +1,9 @@
-use borrow.Author.Needs.{needs}
-use mathlib.Core.Path.{_≡_, refl, sym, ap, ap₂, _∙_, subst}
-use Prim.Native.Nat.{ℕ, _≤_, _<_, _-_, _+_, _*_}
+use mathlib.Core.Path.{_≡_}
+use Prim.Native.Nat.{ℕ, _≤_, _-_}
 use native.Mathlib.Omega.{arith}
 use Rattle.constructs.proofs.Arms.{if-arm, else-arm, endif-arm, while-arm, endwhile-arm, is-while}
 use Rattle.constructs.proofs.construct_row.Statement.{statement}
 use Rattle.constructs.proofs.construct_row.Tie as tie
-use Rattle.constructs.proofs.construct_row.Reads as reads
-use Rattle.constructs.proofs.construct_row.Lts as lts
-use Rattle.constructs.proofs.else_row.Reads as else-row-reads
-use Rattle.constructs.proofs.endif_row.Reads as endif-row-reads
-use Rattle.constructs.proofs.endwhile_row.Reads as endwhile-row-reads
-use Rattle.constructs.proofs.if_row.Reads as if-row-reads
-use Rattle.constructs.proofs.while_row.Reads as while-row-reads
 
 last : (o : ℕ) → 32 ≤ o → o ≤ 36 → (o ≡ 32 → ⊥) → (o ≡ 33 → ⊥) → (o ≡ 34 → ⊥) → (o ≡ 35 → ⊥) → o ≡ 36
 last o h l a b c d = omega arith

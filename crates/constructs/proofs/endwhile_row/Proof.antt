@@ -1,13 +1,10 @@
-use mathlib.Core.Path.{_≡_, refl, sym, ap, ap₂, _∙_, subst}
-use Prim.Native.Nat.{ℕ, _≤_, _<_, _-_, _+_, _*_}
+use mathlib.Core.Path.{refl}
+use Prim.Native.Nat.{_-_}
 use native.Mathlib.Omega.{arith}
 use Rattle.constructs.proofs.Rows.{endwhile-done}
 use borrow.Author.Needs.{needs}
 use Rattle.constructs.proofs.endwhile_row.Statement.{statement}
 use Rattle.constructs.proofs.endwhile_row.Tie as tie
-use Rattle.constructs.proofs.endwhile_row.Reads as reads
-use Rattle.constructs.proofs.endwhile_row.Lts as lts
-use Rattle.masks.proofs.count.Reads as count-reads
 
 sub-t4 : tie.Need-sub-t4
 sub-t4 c = search needs

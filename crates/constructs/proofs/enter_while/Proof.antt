@@ -1,5 +1,5 @@
-use mathlib.Core.Path.{_≡_, refl, sym, ap, ap₂, _∙_, subst}
-use Prim.Native.Nat.{ℕ, _≤_, _<_, _-_, _+_, _*_}
+use mathlib.Core.Path.{_≡_, refl}
+use Prim.Native.Nat.{_<_, _-_}
 use native.Mathlib.Omega.{arith}
 use mathlib.Core.Logic.{⊎-elim}
 use Rattle.layout.proofs.Saving.{enter-old, enter-new, atmost, room-new}
@@ -7,8 +7,6 @@ use lib.ListN.{getD}
 use borrow.Author.Needs.{needs}
 use Rattle.constructs.proofs.enter_while.Statement.{statement}
 use Rattle.constructs.proofs.enter_while.Tie as tie
-use Rattle.constructs.proofs.enter_while.Reads as reads
-use Rattle.constructs.proofs.enter_while.Lts as lts
 
 apart : (c : tie.Joined1) → 0 < c .before .args .s .depth → getD (c .before .args .openers .now) (c .before .args .s .depth - 1) 0 ≡ c .before .args .s .row → ⊥
 apart c h e = ⊎-elim (λ w. w .2 .left e) (λ w. omega (arith, w .left)) (c .if1 .came)

@@ -1,8 +1,8 @@
 use borrow.Author.Needs.{needs}
-use mathlib.Core.Path.{_≡_, refl, sym, ap, ap₂, _∙_, subst}
+use mathlib.Core.Path.{_≡_, _∙_}
 use mathlib.Core.Logic.{⊎-elim}
 use mathlib.Core.List.{List}
-use Prim.Native.Nat.{ℕ, _≤_, _<_, _-_, _+_, _*_, _/_}
+use Prim.Native.Nat.{ℕ, _≤_, _-_}
 use native.Mathlib.Omega.{arith}
 use lib.ListN.{length}
 use Rattle.spec.specs.Mask.{Mask, maskWord}
@@ -10,10 +10,6 @@ use Rattle.layout.proofs.Memory.{Regs}
 use Rattle.layout.proofs.Holding.{Sorted, sort-start, sort-done, sort-out, sort-none, sort-in}
 use Rattle.constructs.proofs.holding.Statement.{statement}
 use Rattle.constructs.proofs.holding.Tie as tie
-use Rattle.constructs.proofs.holding.Reads as reads
-use Rattle.constructs.proofs.holding.Lts as lts
-use Rattle.masks.proofs.with_thread.Reads as with-thread-reads
-use Rattle.constructs.proofs.index.Reads as index-reads
 
 abbrev Inv-loop : tie.InvT-loop
 Inv-loop regs n mask a m₀ t₀ h₀ m t h =

@@ -1,14 +1,10 @@
-use mathlib.Core.Path.{_≡_, refl, sym, ap, ap₂, _∙_, subst}
-use Prim.Native.Nat.{ℕ, _≤_, _<_, _-_, _+_, _*_}
+use mathlib.Core.Path.{refl}
+use Prim.Native.Nat.{_-_}
 use native.Mathlib.Omega.{arith}
 use Rattle.constructs.proofs.Rows.{if-done}
 use borrow.Author.Needs.{needs}
 use Rattle.constructs.proofs.if_row.Statement.{statement}
 use Rattle.constructs.proofs.if_row.Tie as tie
-use Rattle.constructs.proofs.if_row.Reads as reads
-use Rattle.constructs.proofs.if_row.Lts as lts
-use Rattle.masks.proofs.count.Reads as count-reads
-use Rattle.constructs.proofs.holding.Reads as holding-reads
 
 mul-saved : tie.Need-mul-saved
 mul-saved c = search needs

@@ -1,15 +1,10 @@
-use mathlib.Core.Path.{_≡_, refl, sym, ap, ap₂, _∙_, subst}
-use Prim.Native.Nat.{ℕ, _≤_, _<_, _-_, _+_, _*_}
+use mathlib.Core.Path.{refl}
+use Prim.Native.Nat.{_-_}
 use native.Mathlib.Omega.{arith}
 use Rattle.constructs.proofs.Rows.{while-stays, while-leaves}
 use borrow.Author.Needs.{needs}
 use Rattle.constructs.proofs.while_row.Statement.{statement}
 use Rattle.constructs.proofs.while_row.Tie as tie
-use Rattle.constructs.proofs.while_row.Reads as reads
-use Rattle.constructs.proofs.while_row.Lts as lts
-use Rattle.constructs.proofs.enter_while.Reads as enter-while-reads
-use Rattle.masks.proofs.count.Reads as count-reads
-use Rattle.constructs.proofs.holding.Reads as holding-reads
 
 enter-while-requires : tie.Need-enter-while-requires
 enter-while-requires c κs = search needs

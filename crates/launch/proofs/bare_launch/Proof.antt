@@ -2,19 +2,12 @@ use mathlib.Core.Option.{none}
 use lib.ListN.{length}
 use Rattle.spec.specs.Entries.{bareNumbers}
 use mathlib.Core.Path.{_≡_, sym, ap, _∙_}
-use Prim.Native.Nat.{ℕ}
 use native.Mathlib.Omega.{arith}
 use Rattle.reader.specs.Answer.{readingOf}
 use Rattle.launch.proofs.Bare.{fine, readable, lent-is, runnable, numbers-refuse, table-refuses, state-refuses, ran}
 use borrow.Author.Needs.{needs}
 use Rattle.launch.proofs.bare_launch.Statement.{statement}
 use Rattle.launch.proofs.bare_launch.Tie as tie
-use Rattle.launch.proofs.bare_launch.Reads as reads
-use Rattle.launch.proofs.bare_launch.Lts as lts
-use Rattle.launch.proofs.lent.Reads as lent-reads
-use Rattle.launch.proofs.numbers.Reads as numbers-reads
-use Rattle.reader.proofs.read_table.Reads as read-table-reads
-use Rattle.run.proofs.run.Reads as run-reads
 
 -- src/lib.rt:74:11
 numbers-requires : tie.Need-numbers-requires

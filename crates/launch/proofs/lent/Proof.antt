@@ -1,11 +1,7 @@
-use mathlib.Core.Path.{_≡_}
 use Rattle.launch.proofs.Tests.{bad-held, bad-logged, lent-fine}
 use borrow.Author.Needs.{needs}
 use Rattle.launch.proofs.lent.Statement.{statement}
 use Rattle.launch.proofs.lent.Tie as tie
-use Rattle.launch.proofs.lent.Reads as reads
-use Rattle.launch.proofs.lent.Lts as lts
-use Rattle.launch.proofs.wide.Reads as wide-reads
 
 -- src/lib.rt:49:9
 wide-requires : tie.Need-wide-requires

@@ -1,11 +1,7 @@
-use mathlib.Core.Path.{_≡_}
 use Rattle.launch.proofs.Tests.{odd-length, many-rows, bad-threads, bad-cells, bad-limit, all-fine}
 use borrow.Author.Needs.{needs}
 use Rattle.launch.proofs.numbers.Statement.{statement}
 use Rattle.launch.proofs.numbers.Tie as tie
-use Rattle.launch.proofs.numbers.Reads as reads
-use Rattle.launch.proofs.numbers.Lts as lts
-use Rattle.launch.proofs.within.Reads as within-reads
 
 -- src/lib.rt:22:9
 returns : tie.Need-returns

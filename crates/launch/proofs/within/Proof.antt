@@ -1,11 +1,9 @@
-use mathlib.Core.Path.{_≡_, refl, sym, ap, _∙_}
+use mathlib.Core.Path.{sym, ap, _∙_}
 use mathlib.Core.Bool.{_&&_}
 use borrow.Author.Tests.{le-leb, lt-leb}
 use lib.Dec.{leb}
 use Rattle.launch.proofs.within.Statement.{statement}
 use Rattle.launch.proofs.within.Tie as tie
-use Rattle.launch.proofs.within.Reads as reads
-use Rattle.launch.proofs.within.Lts as lts
 
 -- src/lib.rt:11:1
 returns : tie.Need-returns

@@ -1,12 +1,8 @@
 use borrow.Author.Needs.{needs}
 use Prim.Native.Nat.{_≤_, _-_}
-use native.Mathlib.Omega.{arith}
 use lib.ListN.{length}
 use Rattle.launches.proofs.words.Statement.{statement}
 use Rattle.launches.proofs.words.Tie as tie
-use Rattle.launches.proofs.words.Reads as reads
-use Rattle.launches.proofs.words.Lts as lts
-use Rattle.launches.proofs.field.Reads as field-reads
 
 abbrev Inv-loop : tie.InvT-loop
 Inv-loop key list i₀ i = i ≤ length list

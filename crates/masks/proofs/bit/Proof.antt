@@ -2,8 +2,6 @@ use Rattle.masks.proofs.Bits.{one-bit}
 use borrow.Author.Needs.{needs}
 use Rattle.masks.proofs.bit.Statement.{statement}
 use Rattle.masks.proofs.bit.Tie as tie
-use Rattle.masks.proofs.bit.Reads as reads
-use Rattle.masks.proofs.bit.Lts as lts
 
 shl-result : tie.Need-shl-result
 shl-result c = search needs

@@ -2,8 +2,6 @@ use Rattle.masks.proofs.Bits.{one-bit}
 use borrow.Author.Needs.{needs}
 use Rattle.masks.proofs.with_thread.Statement.{statement}
 use Rattle.masks.proofs.with_thread.Tie as tie
-use Rattle.masks.proofs.with_thread.Reads as reads
-use Rattle.masks.proofs.with_thread.Lts as lts
 
 shl-result : tie.Need-shl-result
 shl-result c = search needs

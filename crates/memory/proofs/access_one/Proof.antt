@@ -1,18 +1,9 @@
-use mathlib.Core.Path.{_≡_, refl, sym}
+use mathlib.Core.Path.{sym}
 use native.Mathlib.Omega.{arith}
 use Rattle.memory.proofs.Accesses.{outside-did, race-did, made-did}
 use borrow.Author.Needs.{needs}
 use Rattle.memory.proofs.access_one.Statement.{statement}
 use Rattle.memory.proofs.access_one.Tie as tie
-use Rattle.memory.proofs.access_one.Reads as reads
-use Rattle.memory.proofs.access_one.Lts as lts
-use Rattle.masks.proofs.lowest.Reads as lowest-reads
-use Rattle.memory.proofs.cell_register.Reads as cell-register-reads
-use Rattle.accesslog.proofs.conflict.Reads as conflict-reads
-use Rattle.accesslog.proofs.enter.Reads as enter-reads
-use Rattle.memory.proofs.index.Reads as index-reads
-use Rattle.accesslog.proofs.race_kind.Reads as race-kind-reads
-use Rattle.memory.proofs.transfer.Reads as transfer-reads
 
 -- src/lib.rt:93:9
 index-requires : tie.Need-index-requires

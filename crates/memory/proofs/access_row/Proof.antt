@@ -1,20 +1,16 @@
 use borrow.Author.Needs.{needs}
-use mathlib.Core.Path.{_≡_, refl, sym, ap, ap₂, _∙_, subst}
+use mathlib.Core.Path.{_≡_, refl, ap, _∙_, subst}
 use mathlib.Core.Logic.{⊎-elim}
-use Prim.Native.Nat.{ℕ, _≤_, _<_, _-_, _+_, _/_}
+use Prim.Native.Nat.{_≤_, _-_}
 use native.Mathlib.Omega.{arith}
 use lib.ListN.{length}
 use Rattle.spec.specs.Op.{Mem, MEM, opOf}
 use Rattle.spec.specs.Table.{Row}
 use Rattle.spec.specs.LockStep.{accessTurn}
 use Rattle.layout.proofs.Memory.{OneTurn}
-use Rattle.layout.proofs.Turning.{Turning, Turns, turn-start, turn-whole, go-in, go-out, go-stop}
+use Rattle.layout.proofs.Turning.{Turns, turn-start, turn-whole, go-in, go-out, go-stop}
 use Rattle.memory.proofs.access_row.Statement.{statement}
 use Rattle.memory.proofs.access_row.Tie as tie
-use Rattle.memory.proofs.access_row.Reads as reads
-use Rattle.memory.proofs.access_row.Lts as lts
-use Rattle.masks.proofs.count.Reads as count-reads
-use Rattle.memory.proofs.access_one.Reads as access-one-reads
 
 abbrev Inv-loop : tie.InvT-loop
 Inv-loop regs₀ cells₀ log₀ n mask op d a m₀ t₀ k₀ regs cells log m t k =

@@ -1,9 +1,7 @@
-use mathlib.Core.Path.{_≡_, refl}
+use mathlib.Core.Path.{refl}
 use borrow.Author.Needs.{needs}
 use Rattle.memory.proofs.transfer.Statement.{statement}
 use Rattle.memory.proofs.transfer.Tie as tie
-use Rattle.memory.proofs.transfer.Reads as reads
-use Rattle.memory.proofs.transfer.Lts as lts
 
 -- src/lib.rt:66:28
 mul-regs : tie.Need-mul-regs

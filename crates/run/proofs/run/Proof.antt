@@ -1,18 +1,12 @@
 use borrow.Author.Needs.{needs}
-use mathlib.Core.Path.{_≡_, refl, sym, ap, _∙_, subst}
-use Prim.Native.Nat.{ℕ, _≤_, _<_, _-_}
+use mathlib.Core.Path.{_≡_, refl, _∙_, subst}
+use Prim.Native.Nat.{_-_}
 use native.Mathlib.Omega.{arith}
 use lib.ListN.{length}
 use Rattle.layout.proofs.Represents.{Counts}
 use Rattle.run.proofs.Going.{Going, go-start, go-row, go-passed, go-spent, go-next, go-stop, go-stop-row, go-ready}
 use Rattle.run.proofs.run.Statement.{statement}
 use Rattle.run.proofs.run.Tie as tie
-use Rattle.run.proofs.run.Reads as reads
-use Rattle.run.proofs.run.Lts as lts
-use Rattle.masks.proofs.all.Reads as all-reads
-use Rattle.accesslog.proofs.clear.Reads as clear-reads
-use Rattle.run.proofs.ended.Reads as ended-reads
-use Rattle.step.proofs.step.Reads as step-reads
 
 abbrev Inv-loop : tie.InvT-loop
 Inv-loop table ends n limit cells₀ log₀ count regs₀ saved₀ openers₀ s₀ cells log regs saved openers s =

@@ -1,5 +1,4 @@
-use mathlib.Core.Path.{_≡_, _∙_, sym}
-use native.Mathlib.Omega.{arith}
+use mathlib.Core.Path.{_∙_}
 use Rattle.layout.proofs.PlainRows.{counts-accessed}
 use Rattle.layout.proofs.Running.{shapeBy}
 use Rattle.step.proofs.Tables.{mem-op}
@@ -7,10 +6,6 @@ use Rattle.step.proofs.Plain.{access-after}
 use borrow.Author.Needs.{needs}
 use Rattle.step.proofs.access_row.Statement.{statement}
 use Rattle.step.proofs.access_row.Tie as tie
-use Rattle.step.proofs.access_row.Reads as reads
-use Rattle.step.proofs.access_row.Lts as lts
-use Rattle.memory.proofs.access_row.Reads as access-row-reads
-use Rattle.step.proofs.after_access.Reads as after-access-reads
 
 -- src/lib.rt:61:18
 access-row-requires : tie.Need-access-row-requires

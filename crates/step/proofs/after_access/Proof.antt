@@ -1,12 +1,9 @@
-use mathlib.Core.Path.{_≡_, refl, sym, ap, _∙_}
+use mathlib.Core.Path.{sym, ap, _∙_}
 use Rattle.layout.specs.declared.Next.the-variants as next
 use Rattle.layout.proofs.Represents.{accessed}
 use borrow.Author.Needs.{needs}
 use Rattle.step.proofs.after_access.Statement.{statement}
 use Rattle.step.proofs.after_access.Tie as tie
-use Rattle.step.proofs.after_access.Reads as reads
-use Rattle.step.proofs.after_access.Lts as lts
-use Rattle.constructs.proofs.moved.Reads as moved-reads
 
 -- src/lib.rt:33:50
 enum-told : tie.Need-enum-told

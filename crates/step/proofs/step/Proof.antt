@@ -1,5 +1,5 @@
-use mathlib.Core.Path.{_≡_, refl, sym, ap, _∙_, subst}
-use Prim.Native.Nat.{ℕ, _≤_, _<_, _*_}
+use mathlib.Core.Path.{_≡_, sym, ap, _∙_, subst}
+use Prim.Native.Nat.{_<_, _*_}
 use native.Mathlib.Omega.{arith}
 use lib.ListN.{length, getD}
 use Rattle.spec.specs.Table.{rowsOf, rowAt, endOf}
@@ -11,16 +11,6 @@ use Rattle.step.proofs.Plain.{compute-after}
 use borrow.Author.Needs.{needs}
 use Rattle.step.proofs.step.Statement.{statement}
 use Rattle.step.proofs.step.Tie as tie
-use Rattle.step.proofs.step.Reads as reads
-use Rattle.step.proofs.step.Lts as lts
-use Rattle.constructs.proofs.barrier_row.Reads as barrier-row-reads
-use Rattle.constructs.proofs.construct_row.Reads as construct-row-reads
-use Rattle.constructs.proofs.moved.Reads as moved-reads
-use Rattle.compute.proofs.compute_row.Reads as compute-row-reads
-use Rattle.masks.proofs.count.Reads as count-reads
-use Rattle.step.proofs.access_row.Reads as access-row-reads
-use Rattle.step.proofs.constant.Reads as constant-reads
-use Rattle.step.proofs.index.Reads as index-reads
 
 -- src/lib.rt:80:20
 mul-op : tie.Need-mul-op
