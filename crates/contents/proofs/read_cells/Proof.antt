@@ -1,0 +1,80 @@
+-- `contents::read_cells` meets its contract: the cells still to be read, put behind those stored, are all. Assumes nothing.
+use mathlib.Core.Path.{_∙_, ap}
+use Prim.Native.Nat.{_-_}
+use native.Mathlib.Omega.{arith}
+use borrow.Author.Needs.{needs}
+use Rattle.text.specs.Numbers.{numberOf}
+use Rattle.contents.proofs.CellLoop.{CellsGoing, cells-start, cells-more, cells-stop, cells-end}
+use Rattle.contents.proofs.read_cells.Statement.{statement}
+use Rattle.contents.proofs.read_cells.Tie as tie
+
+abbrev Inv-loop : tie.InvT-loop
+Inv-loop file n cells₀ good₀ rest₀ k₀ cells good rest k = CellsGoing file n cells₀ cells rest k
+
+abbrev μ-loop : tie.MeasureT-loop
+μ-loop file n cells₀ good₀ rest₀ k₀ cells good rest k = n - k
+
+loop-holds : tie.Need-loop-holds Inv-loop μ-loop
+loop-holds c = cells-start (c .before .args .file .now) (c .before .args .n) (c .before .args .cells .now) (c .before .pre .1)
+
+cell-line-requires : tie.Need-cell-line-requires Inv-loop μ-loop
+cell-line-requires c κs = search needs
+
+enum-known-word : tie.Need-enum-known-word Inv-loop μ-loop
+enum-known-word c = search needs
+
+enum-told : tie.Need-enum-told Inv-loop μ-loop
+enum-told c = search needs
+
+returns : tie.Need-returns Inv-loop μ-loop
+returns c =
+    let l = c .before .before .before .before .loop in
+    let loop-test = c .before .before .before .loop-test in
+    let cell-line = c .before .before .cell-line in
+    cells-stop _ _ _ _ _ _ (l .inv) (loop-test .taken) (cell-line .ensures ∙ ap numberOf (c .enum-told .given .1))
+
+mul-cells : tie.Need-mul-cells Inv-loop μ-loop
+mul-cells c = omega arith
+
+element-write-cells : tie.Need-element-write-cells Inv-loop μ-loop
+element-write-cells c = omega arith
+
+next-requires : tie.Need-next-requires Inv-loop μ-loop
+next-requires c κs = search needs
+
+add-k : tie.Need-add-k Inv-loop μ-loop
+add-k c = omega arith
+
+loop-less : tie.Need-loop-less Inv-loop μ-loop
+loop-less c = omega arith
+
+loop-again : tie.Need-loop-again Inv-loop μ-loop
+loop-again c =
+    let pre = c .before .before .before .before .before .before .before .before .pre in
+    let l = c .before .before .before .before .before .before .loop in
+    let loop-test = c .before .before .before .before .before .loop-test in
+    let cell-line = c .before .before .before .before .cell-line in
+    let word = c .before .before .word in
+    cells-more _ _ _ _ _ _ (l .inv) (pre .0) (loop-test .taken) _ (cell-line .ensures ∙ ap numberOf (word .given .1)) _ (c .next .ensures)
+
+returns-2 : tie.Need-returns-2 Inv-loop μ-loop
+returns-2 c = cells-end _ _ _ _ _ _ (c .before .loop .inv) (c .loop-test .left)
+
+pub read-cells-spec : {M : Type 1} → statement M
+read-cells-spec =
+    tie.close
+    (tie.spec
+    Inv-loop
+    μ-loop
+    loop-holds
+    cell-line-requires
+    enum-known-word
+    enum-told
+    returns
+    mul-cells
+    element-write-cells
+    next-requires
+    add-k
+    loop-less
+    loop-again
+    returns-2)

@@ -1,0 +1,20 @@
+-- `filelines::next` meets its contract. Assumes nothing.
+use borrow.Author.Needs.{needs}
+use Rattle.filelines.proofs.Keys.{behind-line}
+use Rattle.filelines.proofs.next.Statement.{statement}
+use Rattle.filelines.proofs.next.Tie as tie
+
+before-requires : tie.Need-before-requires
+before-requires c κs = search needs
+
+behind-requires : tie.Need-behind-requires
+behind-requires c κs = search needs
+
+returns : tie.Need-returns
+returns c =
+    let args = c .before .before .before .args in
+    let before2 = c .before .before2 in
+    behind-line (args .rest .now) (before2 .result .now) (c .behind .result .now) (before2 .ensures) (c .behind .ensures)
+
+pub next-spec : {M : Type 1} → statement M
+next-spec = tie.close (tie.spec before-requires behind-requires returns)

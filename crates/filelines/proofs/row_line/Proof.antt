@@ -1,0 +1,48 @@
+-- `filelines::row_line` meets its contract. Assumes nothing.
+use mathlib.Core.Path.{_∙_}
+use borrow.Author.Needs.{needs}
+use Rattle.spec.specs.Text.{text}
+use Rattle.spec.specs.LaunchFile.{rowValue}
+use Rattle.filelines.proofs.Keys.{has-value, has-none}
+use Rattle.filelines.proofs.row_line.Statement.{statement}
+use Rattle.filelines.proofs.row_line.Tie as tie
+
+slice-aggregate-is-keyed : tie.Need-slice-aggregate-is-keyed
+slice-aggregate-is-keyed c = search needs
+
+is-keyed-requires : tie.Need-is-keyed-requires
+is-keyed-requires c κs = search needs
+
+value-requires : tie.Need-value-requires
+value-requires c κs = search needs
+
+row-requires : tie.Need-row-requires
+row-requires c κs = search needs
+
+returns : tie.Need-returns
+unfolding text
+returns c =
+    let args = c .before .before .before .before .before .before .args in
+    let is-keyed = c .before .before .before .is-keyed in
+    let if1 = c .before .before .if1 in
+    let value = c .before .value in
+    has-value (text "row") rowValue (args .rest .now) (is-keyed .result) (is-keyed .ensures) (if1 .taken) (value .result .now) (value .ensures)
+    ∙ c .row .ensures
+
+returns-2 : tie.Need-returns-2
+unfolding text
+returns-2 c =
+    let args = c .before .before .before .before .args in
+    let is-keyed = c .before .is-keyed in
+    has-none (text "row") rowValue (args .rest .now) (is-keyed .result) (is-keyed .ensures) (c .if1 .left)
+
+pub row-line-spec : {M : Type 1} → statement M
+row-line-spec =
+    tie.close
+    (tie.spec
+    slice-aggregate-is-keyed
+    is-keyed-requires
+    value-requires
+    row-requires
+    returns
+    returns-2)

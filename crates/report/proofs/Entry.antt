@@ -1,0 +1,60 @@
+-- What the writer's answer and buffer are in each of its cases. Assumes nothing.
+use mathlib.Core.Path.{_≡_, refl, ap}
+use mathlib.Core.List.{List}
+use mathlib.Core.Option.{none, some}
+use mathlib.Core.Bool.{Bool, true, false, _&&_}
+use Prim.Native.Nat.{ℕ, _≤_, _<_}
+use borrow.Author.Tests.{le-leb, lt-leb}
+use lib.Dec.{leb}
+use lib.ListN.{length}
+use Rattle.spec.specs.declared.Outcome.{Outcome}
+use Rattle.spec.specs.declared.Subject.{Subject}
+use Rattle.spec.specs.declared.Refusal.{Refusal}
+use Rattle.spec.specs.declared.Refusal.the-variants.{ReportCells, ReportTooLong}
+use Rattle.spec.specs.declared.Written.the-variants as written
+use Rattle.spec.specs.Answers.{unless, orElse, first}
+use Rattle.spec.specs.Report.{reportOf}
+use Rattle.spec.specs.Entries.{over, cellsReported, writerRefusal, writtenOf, writerAnswer, writerBuffer, keptIf}
+use Rattle.report.specs.Whole.{ran, refused}
+
+no-and : (b : Bool) → (b && false) ≡ false
+no-and true = refl
+no-and false = refl
+
+-- 23.
+pub no-cells : (o : Outcome) (cells out : List ℕ) → length cells < 1 → writerRefusal (ran o) cells out ≡ some ReportCells
+unfolding writerRefusal cellsReported first orElse unless
+no-cells o cells out h = rw (lt-leb 1 (length cells) h)
+
+pub many-cells : (o : Outcome) (cells out : List ℕ) → 1024 < length cells → writerRefusal (ran o) cells out ≡ some ReportCells
+unfolding writerRefusal cellsReported first orElse unless
+many-cells o cells out h = rw (lt-leb (length cells) 1024 h, no-and (leb 1 (length cells)))
+
+pub cells-right : (o : Outcome) (cells : List ℕ) → 1 ≤ length cells → length cells ≤ 1024 → cellsReported (ran o) cells ≡ none
+unfolding cellsReported unless
+cells-right o cells l h = rw (le-leb 1 (length cells) l, le-leb (length cells) 1024 h)
+
+pub no-cells-asked : (number place : ℕ) (cells : List ℕ) → cellsReported (refused number place) cells ≡ none
+unfolding cellsReported
+no-cells-asked number place cells = refl
+
+-- 22, with the length that is needed.
+pub too-long : (what : Subject) (cells out : List ℕ) (n : ℕ) → cellsReported what cells ≡ none → n ≡ length (reportOf what cells) → length out < n
+    → writerRefusal what cells out ≡ some (ReportTooLong n)
+unfolding writerRefusal first orElse unless
+too-long what cells out n c e h = rw (c, ← e, lt-leb n (length out) h)
+
+pub fitting : (what : Subject) (cells out : List ℕ) (n : ℕ) → cellsReported what cells ≡ none → n ≡ length (reportOf what cells) → n ≤ length out
+    → writerRefusal what cells out ≡ none
+unfolding writerRefusal first orElse unless
+fitting what cells out n c e h = rw (c, ← e, le-leb n (length out) h)
+
+pub turned-back : (what : Subject) (cells out : List ℕ) (r : Refusal) → writerRefusal what cells out ≡ some r
+    → (written.Refused r ≡ writerAnswer what cells out) × (out ≡ writerBuffer what cells out)
+unfolding writerAnswer writtenOf writerBuffer keptIf
+turned-back what cells out r e = rw e (refl, refl)
+
+pub taken : (what : Subject) (cells out l : List ℕ) (n : ℕ) → writerRefusal what cells out ≡ none → n ≡ length (reportOf what cells) → l ≡ over (reportOf what cells) out
+    → (written.Wrote n ≡ writerAnswer what cells out) × (l ≡ writerBuffer what cells out)
+unfolding writerAnswer writtenOf writerBuffer keptIf
+taken what cells out l n e en el = rw e (ap written.Wrote en, el)

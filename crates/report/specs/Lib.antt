@@ -1,0 +1,2 @@
+-- Definitions of the whole report. Assumes nothing.
+pub mod Whole

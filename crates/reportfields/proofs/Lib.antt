@@ -1,0 +1,2 @@
+-- Laws of groups of lines. Assumes nothing.
+pub mod Three

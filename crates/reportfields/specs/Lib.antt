@@ -1,0 +1,2 @@
+-- Definitions of groups of lines. Assumes nothing.
+pub mod Groups

@@ -1,0 +1,65 @@
+-- `reportlines::put` meets its contract. The invariant: the bytes passed stand over the buffer. Assumes nothing.
+use mathlib.Core.Path.{_≡_, refl, ap, _∙_}
+use mathlib.Core.List.{List}
+use Prim.Native.Nat.{ℕ, _-_, _≤_}
+use native.Mathlib.Omega.{arith}
+use borrow.Author.Needs.{needs}
+use lib.ListN.{length, take, getD, set, length-set}
+use lib.Seq.{take-length}
+use Rattle.spec.specs.Entries.{over}
+use Rattle.reportlines.proofs.Writing.{copied}
+use Rattle.reportlines.proofs.put.Statement.{statement}
+use Rattle.reportlines.proofs.put.Tie as tie
+
+abbrev Inv-loop : tie.InvT-loop
+Inv-loop src out₀ i₀ out i = (i ≤ length src) × (length out ≡ length out₀) × (out ≡ over (take i src) out₀)
+
+abbrev μ-loop : tie.MeasureT-loop
+μ-loop src out₀ i₀ out i = length src - i
+
+loop-holds : tie.Need-loop-holds Inv-loop μ-loop
+unfolding over
+loop-holds c = (search needs, refl, refl)
+
+shared-slice-read-out : tie.Need-shared-slice-read-out Inv-loop μ-loop
+shared-slice-read-out c = search needs
+
+slice-write-out : tie.Need-slice-write-out Inv-loop μ-loop
+slice-write-out c = omega (arith, c .before .before .before .pre)
+
+add-i : tie.Need-add-i Inv-loop μ-loop
+add-i c = search needs
+
+loop-less : tie.Need-loop-less Inv-loop μ-loop
+loop-less c = search needs
+
+loop-again : tie.Need-loop-again Inv-loop μ-loop
+loop-again c =
+    let a = c .before .before .before .args in
+    let l = c .before .before .loop in
+    (search needs, simp length-set (l .inv .1), ap (λ (d : List ℕ). set d (l .i) (getD (a .src .now) (l .i) 0)) (l .inv .2) ∙ copied (a .src .now) (a .out .now) (l .i) (c .before .loop-test .taken) (c .before .before .before .pre))
+
+same-length : tie.Need-same-length Inv-loop μ-loop
+same-length c = c .before .loop .inv .1
+
+returns : tie.Need-returns Inv-loop μ-loop
+returns c =
+    let a = c .before .before .args in
+    let l = c .before .loop in
+    let e : l .i ≡ length (a .src .now) = omega arith in
+    (e, l .inv .2 ∙ ap (λ (s : List ℕ). over s (a .out .now)) (ap (λ (n : ℕ). take n (a .src .now)) e ∙ take-length (a .src .now)))
+
+pub put-spec : {M : Type 1} → statement M
+put-spec =
+    tie.close
+    (tie.spec
+    Inv-loop
+    μ-loop
+    loop-holds
+    shared-slice-read-out
+    slice-write-out
+    add-i
+    loop-less
+    loop-again
+    same-length
+    returns)

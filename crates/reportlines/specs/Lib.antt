@@ -1,0 +1,2 @@
+-- Definitions of lines and of writing. Assumes nothing.
+pub mod Values

@@ -1,0 +1,66 @@
+-- `text::before` meets its contract: no byte that the loop has passed is b. Assumes nothing.
+use mathlib.Core.Path.{_≡_, sym}
+use Prim.Native.Nat.{ℕ, _≤_, _<_, _-_}
+use borrow.Author.Count.{below-more}
+use borrow.Author.Needs.{needs}
+use lib.ListN.{length, getD}
+use lib.Seq.{length-take-le}
+use Rattle.text.proofs.Splitting.{found, missing}
+use Rattle.text.proofs.before.Statement.{statement}
+use Rattle.text.proofs.before.Tie as tie
+
+abbrev Inv-loop : tie.InvT-loop
+Inv-loop s b i₀ i = (i ≤ length s) × ((k : ℕ) → k < i → getD s k 0 ≡ b → ⊥)
+
+abbrev μ-loop : tie.MeasureT-loop
+μ-loop s b i₀ i = length s - i
+
+loop-holds : tie.Need-loop-holds Inv-loop μ-loop
+loop-holds c = search needs
+
+shared-slice-read-if1 : tie.Need-shared-slice-read-if1 Inv-loop μ-loop
+shared-slice-read-if1 c = search needs
+
+slice-aggregate-result : tie.Need-slice-aggregate-result Inv-loop μ-loop
+slice-aggregate-result c =
+    let args = c .before .before .before .before .before .args in
+    let l = c .before .before .before .before .loop in
+    sym (length-take-le (l .i) (args .s .now) (l .inv .0))
+
+returns : tie.Need-returns Inv-loop μ-loop
+returns c =
+    let args = c .before .before .before .before .before .args in
+    let l = c .before .before .before .before .loop in
+    let loop-test = c .before .before .before .loop-test in
+    let if1 = c .before .if1 in
+    found (args .b) (args .s .now) (l .i) (loop-test .taken) (if1 .taken) (l .inv .1)
+
+add-i : tie.Need-add-i Inv-loop μ-loop
+add-i c = search needs
+
+loop-less : tie.Need-loop-less Inv-loop μ-loop
+loop-less c = search needs
+
+loop-again : tie.Need-loop-again Inv-loop μ-loop
+loop-again c = (search needs, below-more _ _ (c .before .before .before .loop .inv .1) (c .if1 .left))
+
+returns-2 : tie.Need-returns-2 Inv-loop μ-loop
+returns-2 c =
+    let args = c .before .before .args in
+    let l = c .before .loop in
+    missing (args .b) (args .s .now) (l .i) (c .loop-test .left) (l .inv .1)
+
+pub before-spec : {M : Type 1} → statement M
+before-spec =
+    tie.close
+    (tie.spec
+    Inv-loop
+    μ-loop
+    loop-holds
+    shared-slice-read-if1
+    slice-aggregate-result
+    returns
+    add-i
+    loop-less
+    loop-again
+    returns-2)

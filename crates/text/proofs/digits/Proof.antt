@@ -1,0 +1,103 @@
+-- `text::digits` meets its contract: the digits left, put behind the value so far, are the whole, and the value is below the bound. Assumes nothing.
+use mathlib.Core.Path.{_≡_, refl, sym, _∙_}
+use Prim.Native.Nat.{_≤_, _<_, _-_, _+_, _*_}
+use native.Mathlib.Omega.{arith}
+use borrow.Author.Needs.{needs}
+use lib.ListN.{length, drop}
+use Rattle.text.specs.Numbers.{digitsBelow}
+use Rattle.text.proofs.Counting.{too-large, digit, below-digits, above-digits, no-more}
+use Rattle.text.proofs.digits.Statement.{statement}
+use Rattle.text.proofs.digits.Tie as tie
+
+abbrev Inv-loop : tie.InvT-loop
+Inv-loop s bound value₀ i₀ value i = (i ≤ length s) × (value < bound) × (digitsBelow bound value (drop i s) ≡ digitsBelow bound 0 s)
+
+abbrev μ-loop : tie.MeasureT-loop
+μ-loop s bound value₀ i₀ value i = length s - i
+
+loop-holds : tie.Need-loop-holds Inv-loop μ-loop
+loop-holds c = (search needs, omega arith, refl)
+
+shared-slice-read-wide : tie.Need-shared-slice-read-wide Inv-loop μ-loop
+shared-slice-read-wide c = search needs
+
+wide-requires : tie.Need-wide-requires Inv-loop μ-loop
+wide-requires c κs = search needs
+
+returns : tie.Need-returns Inv-loop μ-loop
+returns c =
+    let args = c .before .before .before .before .before .before .args in
+    let l = c .before .before .before .before .loop in
+    let loop-test = c .before .before .before .loop-test in
+    let wide = c .before .wide in
+    sym (l .inv .2)
+    ∙ below-digits (args .bound) (l .value) (args .s .now) (l .i) (wide .result) (loop-test .taken) (wide .ensures) (c .if1 .taken)
+
+returns-2 : tie.Need-returns-2 Inv-loop μ-loop
+returns-2 c =
+    let args = c .before .before .before .before .before .before .before .args in
+    let l = c .before .before .before .before .before .loop in
+    let loop-test = c .before .before .before .before .loop-test in
+    let wide = c .before .before .wide in
+    sym (l .inv .2)
+    ∙ above-digits (args .bound) (l .value) (args .s .now) (l .i) (wide .result) (loop-test .taken) (wide .ensures) (c .if2 .taken)
+
+mul-value : tie.Need-mul-value Inv-loop μ-loop
+mul-value c = omega arith
+
+add-value : tie.Need-add-value Inv-loop μ-loop
+add-value c = omega arith
+
+returns-3 : tie.Need-returns-3 Inv-loop μ-loop
+returns-3 c =
+    let args = c .before .before .before .before .before .before .before .before .args in
+    let l = c .before .before .before .before .before .before .loop in
+    let loop-test = c .before .before .before .before .before .loop-test in
+    let wide = c .before .before .before .wide in
+    sym (l .inv .2)
+    ∙ digit (args .bound) (l .value) (args .s .now) (l .i) (wide .result) (loop-test .taken) (wide .ensures) (omega arith) (omega arith)
+    ∙ too-large (args .bound) (10 * l .value + (wide .result - 48)) _ (omega arith)
+
+add-i : tie.Need-add-i Inv-loop μ-loop
+add-i c = search needs
+
+loop-less : tie.Need-loop-less Inv-loop μ-loop
+loop-less c = search needs
+
+loop-again : tie.Need-loop-again Inv-loop μ-loop
+loop-again c =
+    let args = c .before .before .before .before .before .before .before .before .args in
+    let l = c .before .before .before .before .before .before .loop in
+    let loop-test = c .before .before .before .before .before .loop-test in
+    let wide = c .before .before .before .wide in
+    (search needs, omega arith, sym (digit (args .bound) (l .value) (args .s .now) (l .i) (wide .result) (loop-test .taken) (wide .ensures) (omega arith) (omega arith)) ∙ l .inv .2)
+
+cast-t12 : tie.Need-cast-t12 Inv-loop μ-loop
+cast-t12 c = omega arith
+
+returns-4 : tie.Need-returns-4 Inv-loop μ-loop
+returns-4 c =
+    let args = c .before .before .before .args in
+    let l = c .before .loop in
+    sym (l .inv .2)
+    ∙ no-more (args .bound) (l .value) (args .s .now) (l .i) (c .loop-test .left) (l .inv .1)
+
+pub digits-spec : {M : Type 1} → statement M
+digits-spec =
+    tie.close
+    (tie.spec
+    Inv-loop
+    μ-loop
+    loop-holds
+    shared-slice-read-wide
+    wide-requires
+    returns
+    returns-2
+    mul-value
+    add-value
+    returns-3
+    add-i
+    loop-less
+    loop-again
+    cast-t12
+    returns-4)

@@ -1,0 +1,72 @@
+-- `text::same` meets its contract: what is left of the two texts is equal exactly when they are. Assumes nothing.
+use mathlib.Core.Path.{_≡_, refl, sym, _∙_}
+use Prim.Native.Nat.{_≤_, _-_}
+use native.Mathlib.Omega.{arith}
+use borrow.Author.Needs.{needs}
+use lib.ListN.{length, drop}
+use Rattle.spec.specs.Lists.{equalList}
+use Rattle.text.proofs.Comparing.{lengths-differ, goes-on, bytes-differ, at-end}
+use Rattle.text.proofs.same.Statement.{statement}
+use Rattle.text.proofs.same.Tie as tie
+
+abbrev Inv-loop : tie.InvT-loop
+Inv-loop s key i₀ i = (i ≤ length s) × (equalList (drop i s) (drop i key) ≡ equalList s key)
+
+abbrev μ-loop : tie.MeasureT-loop
+μ-loop s key i₀ i = length s - i
+
+returns : tie.Need-returns Inv-loop μ-loop
+returns c = lengths-differ (c .before .args .s .now) (c .before .args .key .now) (c .if1 .taken)
+
+loop-holds : tie.Need-loop-holds Inv-loop μ-loop
+loop-holds c = (search needs, refl)
+
+shared-slice-read-if2 : tie.Need-shared-slice-read-if2 Inv-loop μ-loop
+shared-slice-read-if2 c = search needs
+
+shared-slice-read-if2-2 : tie.Need-shared-slice-read-if2-2 Inv-loop μ-loop
+shared-slice-read-if2-2 c = omega arith
+
+returns-2 : tie.Need-returns-2 Inv-loop μ-loop
+returns-2 c =
+    let args = c .before .before .before .before .before .before .args in
+    let l = c .before .before .before .before .loop in
+    let loop-test = c .before .before .before .loop-test in
+    bytes-differ (args .s .now) (args .key .now) (l .i) (loop-test .taken) (omega arith) (c .if2 .taken)
+    ∙ l .inv .1
+
+add-i : tie.Need-add-i Inv-loop μ-loop
+add-i c = search needs
+
+loop-less : tie.Need-loop-less Inv-loop μ-loop
+loop-less c = search needs
+
+loop-again : tie.Need-loop-again Inv-loop μ-loop
+loop-again c =
+    let args = c .before .before .before .before .before .before .args in
+    let l = c .before .before .before .before .loop in
+    let loop-test = c .before .before .before .loop-test in
+    (search needs, sym (goes-on (args .s .now) (args .key .now) (l .i) (loop-test .taken) (omega arith) (c .if2 .left)) ∙ l .inv .1)
+
+returns-3 : tie.Need-returns-3 Inv-loop μ-loop
+returns-3 c =
+    let args = c .before .before .before .args in
+    let l = c .before .loop in
+    at-end (args .s .now) (args .key .now) (l .i) (c .loop-test .left) (omega arith)
+    ∙ l .inv .1
+
+pub same-spec : {M : Type 1} → statement M
+same-spec =
+    tie.close
+    (tie.spec
+    Inv-loop
+    μ-loop
+    returns
+    loop-holds
+    shared-slice-read-if2
+    shared-slice-read-if2-2
+    returns-2
+    add-i
+    loop-less
+    loop-again
+    returns-3)
