@@ -6,13 +6,13 @@ use Prim.Native.Nat.{ℕ, _*_, _/_, _%_, _<_, _≤_}
 use native.Mathlib.Omega.{arith}
 use borrow.Author.Tests.{eqb-true, leb-true}
 use lib.Dec.{leb}
-use lib.ListN.{length, getD}
+use lib.ListN.{length}
 use Rattle.spec.specs.declared.Refusal.{Refusal}
 use Rattle.spec.specs.declared.Outcome.{Outcome}
 use Rattle.spec.specs.declared.Answer.{Answer}
 use Rattle.spec.specs.declared.Answer.the-variants as answer
 use Rattle.spec.specs.Answers.{first}
-use Rattle.spec.specs.Table.{rowsOf, endOf}
+use Rattle.spec.specs.Table.{rowsOf}
 use Rattle.spec.specs.TableCheck.{tableRefusal}
 use Rattle.spec.specs.Log.{logWords}
 use Rattle.spec.specs.LockStep.{lockstep, outcomeOf}
@@ -21,10 +21,8 @@ use Rattle.spec.specs.Demands.{BareDemand3}
 use Rattle.structure.proofs.Refusals.{unless-none, orElse-none}
 use Rattle.allruns.proofs.Bools.{and-left, and-right}
 use Rattle.allruns.proofs.Launches.{bare-demand3}
-use Rattle.layout.proofs.Running.{Runnable, RunIs}
-use Rattle.step.proofs.Tables.{rows-length}
-use Rattle.reader.specs.Answer.{ifLoop, ifAccepted, endAt}
-use Rattle.launch.proofs.Answers.{found, passed, ends}
+use Rattle.layout.proofs.Running.{RunIs}
+use Rattle.admission.proofs.Answers.{found, passed, ends}
 
 -- What the numbers are where none of them is refused.
 pub record Fine (bytes threads cells limit : ℕ) : Type 0 where
@@ -63,19 +61,6 @@ lent-is cells held logged e =
     let a = orElse-none _ _ .0 e in
     let b = orElse-none _ _ .0 (a .1) in
     (eqb-true _ _ (unless-none _ _ .0 (a .0)), eqb-true _ _ (unless-none _ _ .0 (b .0)))
-
--- The reader's table of loop ends serves the run.
-pub runnable : (table loopEnds : List ℕ) (threads cells limit : ℕ) → bareNumbers (length table) threads cells limit ≡ none → tableRefusal (rowsOf table) ≡ none
-    → ((i : ℕ) → i < 256 → getD loopEnds i 0 ≡ endAt (rowsOf table) i) → Runnable table loopEnds
-unfolding endAt ifLoop ifAccepted
-runnable table loopEnds threads cells limit e q h =
-    let f = fine (length table) threads cells limit e in
-    let few : length (rowsOf table) ≤ 256 = omega (arith, f .rows, rows-length table) in
-    record {
-      few = few;
-      accepted = q;
-      ends-are = λ r l w. h r (omega arith) ∙ ap₂ (λ x o. ifAccepted x (ifLoop o (endOf (rowsOf table) r) 0)) q w;
-    }
 
 module _ (table : List ℕ) (threads count limit : ℕ) (cells log : List ℕ) where
   abbrev refusal : Option Refusal

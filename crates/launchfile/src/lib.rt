@@ -1,4 +1,5 @@
 // The reader of a launch file: one pass over its lines. What is left of the file after a line is a part of the file's slice.
+use spec::Admission;
 use spec::Refusal;
 use text::Number;
 ghost use mathlib.Core.Path.{_≡_};
@@ -16,13 +17,8 @@ pub struct Launch {
     pub cells: [u32; 1024],
 }
 
-pub enum Reading {
-    Accepted,
-    Refused(Refusal),
-}
-
 pub struct Parsed {
-    pub answer: Reading,
+    pub answer: Admission,
     pub launch: Launch,
 }
 
@@ -40,7 +36,7 @@ fn refused(why: Refusal) -> Parsed
         cells,
     };
     Parsed {
-        answer: Reading::Refused(why),
+        answer: Admission::Refused(why),
         launch,
     }
 }
@@ -75,7 +71,7 @@ fn from_table(rest: &[u8], threads: u32, count: usize, limit: u32, rows: usize) 
                 cells,
             };
             return Parsed {
-                answer: Reading::Accepted,
+                answer: Admission::Accepted,
                 launch,
             };
         }

@@ -13,8 +13,9 @@ use Rattle.spec.specs.Op.{WHILE, opOf}
 use Rattle.spec.specs.Table.{Table, noRow, rowsOf, rowAt, endOf}
 use Rattle.spec.specs.TableCheck.{Open, elseFits, endifFits, endwhileFits, fits, tableRefusal}
 use Rattle.reader.specs.declared.Read.{Read}
-use Rattle.reader.specs.declared.Reading.the-variants.{Refused}
-use Rattle.reader.specs.Answer.{readingOf, ifLoop, ifAccepted, endAt}
+use Rattle.spec.specs.declared.Admission.the-variants.{Refused}
+use Rattle.spec.specs.Answers.{refusalOf}
+use Rattle.reader.specs.Answer.{ifLoop, ifAccepted, endAt}
 use Rattle.reader.specs.Parts.{IsTable, Ends, Fails, Body}
 use Rattle.reader.proofs.OpBytes.{byte-else, byte-endif, byte-endwhile}
 use Rattle.reader.proofs.Passing.{fail-on, misplaced, pass-all}
@@ -43,13 +44,13 @@ past T i e l = rw (List·getD-eq-default T noRow l)
 
 -- What the contract of the whole reader says.
 abbrev pub Answers : List ℕ → Read → Type 0
-Answers t r = (readingOf (r .answer) ≡ tableRefusal (rowsOf t)) × ((i : ℕ) → i < 256 → getD (r .ends) i 0 ≡ endAt (rowsOf t) i)
+Answers t r = (refusalOf (r .answer) ≡ tableRefusal (rowsOf t)) × ((i : ℕ) → i < 256 → getD (r .ends) i 0 ≡ endAt (rowsOf t) i)
 
 pub refused-whole : (t : List ℕ) (why : Refusal) (r : Read) → Fails (rowsOf t) 0 0 why → (r .answer ≡ Refused why) × (r .ends ≡ replicate 256 0) → Answers t r
 unfolding tableRefusal endAt ifAccepted
 refused-whole t why r f e =
     let n : tableRefusal (rowsOf t) ≡ some why = f [] refl in
-    (ap readingOf (e .0) ∙ sym n, λ i l. rw (e .1, n) (zeros 256 i))
+    (ap refusalOf (e .0) ∙ sym n, λ i l. rw (e .1, n) (zeros 256 i))
 
 module _ (t : List ℕ) (w : IsTable t) (k : ℕ) (y : List ℕ) (b : Body t 0 0 k (replicate 256 0) y) where
   pub stray : k * 4 < length t → Fails (rowsOf t) 0 0 (Misplaced k)

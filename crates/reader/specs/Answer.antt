@@ -5,12 +5,6 @@ use Rattle.spec.specs.declared.Refusal.{Refusal}
 use Rattle.spec.specs.Op.{Op, CALC, MEM, IF, ELSE, ENDIF, WHILE, ENDWHILE, BARRIER, UNKNOWN}
 use Rattle.spec.specs.Table.{Table, rowAt, endOf}
 use Rattle.spec.specs.TableCheck.{tableRefusal}
-use Rattle.reader.specs.declared.Reading.{Reading}
-use Rattle.reader.specs.declared.Reading.the-variants.{Accepted, Refused}
-
-abbrev pub readingOf : Reading → Option Refusal
-readingOf Accepted = none
-readingOf (Refused why) = some why
 
 -- The first number for a WHILE, the second for every other row.
 unfoldable pub ifLoop : Op → ℕ → ℕ → ℕ

@@ -1,5 +1,6 @@
 // Reads a table by recursive descent: its first refusal, or where each of its loops ends.
 use optable::Form;
+use spec::Admission;
 use spec::Refusal;
 ghost use mathlib.Core.Path.{_≡_};
 ghost use mathlib.Core.Bool.{_&&_};
@@ -7,9 +8,10 @@ ghost use mathlib.Core.Option.{none};
 ghost use Prim.Native.Nat.{ℕ, _*_, _%_, _<_, _≤_};
 ghost use lib.Dec.{eqb, ltb};
 ghost use lib.ListN.{length, getD, replicate};
+ghost use Rattle.spec.specs.Answers.{refusalOf};
 ghost use Rattle.spec.specs.Table.{rowsOf, rowAt};
 ghost use Rattle.spec.specs.TableCheck.{tableRefusal};
-ghost use Rattle.reader.specs.Answer.{readingOf, endAt};
+ghost use Rattle.reader.specs.Answer.{endAt};
 ghost use Rattle.reader.specs.Parts.{IsTable, ownRefusal, Opens, ClosesIs, BodyIs, ConstructIs};
 
 const IF: u8 = 32;
@@ -22,15 +24,9 @@ const WHILE: u8 = 35;
 
 const ENDWHILE: u8 = 36;
 
-// Whether a table is turned back, and why.
-pub enum Reading {
-    Accepted,
-    Refused(Refusal),
-}
-
 // ends holds, at each WHILE of an accepted table, the row of its ENDWHILE, and 0 everywhere else.
 pub struct Read {
-    pub answer: Reading,
+    pub answer: Admission,
     pub ends: [u8; 256],
 }
 
@@ -41,19 +37,19 @@ enum Reach {
 }
 
 // Refusals 3 and 4, for which a row is looked at by itself.
-fn row_fits(table: &[u8], row: usize) -> Reading
+fn row_fits(table: &[u8], row: usize) -> Admission
     requires { ⌜ (IsTable (now table)) × (row * 4 < length (now table)) ⌝ }
-    ensures { λ r. ⌜ readingOf r ≡ ownRefusal row (rowAt (rowsOf (now (table .entry))) row) ⌝ }
+    ensures { λ r. ⌜ refusalOf r ≡ ownRefusal row (rowAt (rowsOf (now (table .entry))) row) ⌝ }
 {
     let at = row * 4;
     let form = optable::form_of(table[at]);
     if let Form::UnknownForm = form {
-        return Reading::Refused(Refusal::UnknownOp(row as u32));
+        return Admission::Refused(Refusal::UnknownOp(row as u32));
     }
     if optable::operands_fit(form, table[at + 1], table[at + 2], table[at + 3]) {
-        Reading::Accepted
+        Admission::Accepted
     } else {
-        Reading::Refused(Refusal::BadOperand(row as u32))
+        Admission::Refused(Refusal::BadOperand(row as u32))
     }
 }
 
@@ -89,8 +85,8 @@ fn body(table: &[u8], from: usize, depth: usize, ends: &mut [u8; 256]) -> Reach
     let mut row = from;
     while row < rows {
         match row_fits(table, row) {
-            Reading::Refused(why) => return Reach::Refused(why),
-            Reading::Accepted => {}
+            Admission::Refused(why) => return Reach::Refused(why),
+            Admission::Accepted => {}
         }
         let op = table[row * 4];
         // ENDIF has an arm of its own: beside ELSE it would make the arm a range of numbers.
@@ -139,10 +135,10 @@ fn construct(table: &[u8], row: usize, depth: usize, ends: &mut [u8; 256]) -> Re
 
 // The ends that were noted before the refusal are dropped.
 fn refused(why: Refusal) -> Read
-    ensures { λ r. ⌜ (r .answer ≡ Reading.Refused why) × (r .ends ≡ replicate 256 0) ⌝ }
+    ensures { λ r. ⌜ (r .answer ≡ Admission.Refused why) × (r .ends ≡ replicate 256 0) ⌝ }
 {
     Read {
-        answer: Reading::Refused(why),
+        answer: Admission::Refused(why),
         ends: [0u8; 256],
     }
 }
@@ -150,7 +146,7 @@ fn refused(why: Refusal) -> Read
 // The caller has tested the length.
 pub fn read_table(table: &[u8]) -> Read
     requires { ⌜ (length (now table) % 4 ≡ 0) × (length (now table) ≤ 4 * 256) ⌝ }
-    ensures answer { λ r. ⌜ readingOf (r .answer) ≡ tableRefusal (rowsOf (now (table .entry))) ⌝ }
+    ensures answer { λ r. ⌜ refusalOf (r .answer) ≡ tableRefusal (rowsOf (now (table .entry))) ⌝ }
     ensures ends { λ r. ⌜ ((i : ℕ) → i < 256 → getD (r .ends) i 0 ≡ endAt (rowsOf (now (table .entry))) i) ⌝ }
 {
     let mut ends = [0u8; 256];
@@ -160,7 +156,7 @@ pub fn read_table(table: &[u8]) -> Read
                 refused(Refusal::Misplaced(row as u32))
             } else {
                 Read {
-                    answer: Reading::Accepted,
+                    answer: Admission::Accepted,
                     ends: ends,
                 }
             }

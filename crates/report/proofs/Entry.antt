@@ -4,6 +4,7 @@ use mathlib.Core.List.{List}
 use mathlib.Core.Option.{none, some}
 use mathlib.Core.Bool.{Bool, true, false, _&&_}
 use Prim.Native.Nat.{ℕ, _≤_, _<_}
+use native.Mathlib.Omega.{arith}
 use borrow.Author.Tests.{le-leb, lt-leb}
 use lib.Dec.{leb}
 use lib.ListN.{length}
@@ -15,7 +16,7 @@ use Rattle.spec.specs.declared.Written.the-variants as written
 use Rattle.spec.specs.Answers.{unless, orElse, first}
 use Rattle.spec.specs.Report.{reportOf}
 use Rattle.spec.specs.Entries.{over, cellsReported, writerRefusal, writtenOf, writerAnswer, writerBuffer, keptIf}
-use Rattle.report.specs.Whole.{ran, refused}
+use Rattle.report.specs.Whole.{ran, refused, FitsOutput}
 
 no-and : (b : Bool) → (b && false) ≡ false
 no-and true = refl
@@ -50,11 +51,15 @@ unfolding writerRefusal first orElse unless
 fitting what cells out n c e h = rw (c, ← e, le-leb n (length out) h)
 
 pub turned-back : (what : Subject) (cells out : List ℕ) (r : Refusal) → writerRefusal what cells out ≡ some r
-    → (written.Refused r ≡ writerAnswer what cells out) × (out ≡ writerBuffer what cells out)
+    → FitsOutput what cells → (written.Refused r ≡ writerAnswer what cells out) × ((out ≡ writerBuffer what cells out) × FitsOutput what cells)
 unfolding writerAnswer writtenOf writerBuffer keptIf
-turned-back what cells out r e = rw e (refl, refl)
+turned-back what cells out r e f = (rw e refl, (rw e refl, f))
 
 pub taken : (what : Subject) (cells out l : List ℕ) (n : ℕ) → writerRefusal what cells out ≡ none → n ≡ length (reportOf what cells) → l ≡ over (reportOf what cells) out
-    → (written.Wrote n ≡ writerAnswer what cells out) × (l ≡ writerBuffer what cells out)
+    → FitsOutput what cells → (written.Wrote n ≡ writerAnswer what cells out) × ((l ≡ writerBuffer what cells out) × FitsOutput what cells)
 unfolding writerAnswer writtenOf writerBuffer keptIf
-taken what cells out l n e en el = rw e (ap written.Wrote en, el)
+taken what cells out l n e en el f = (rw e (ap written.Wrote en), (rw e el, f))
+
+-- By the length that was counted.
+pub fits : (what : Subject) (cells : List ℕ) (n : ℕ) → n ≡ length (reportOf what cells) → n ≤ 17408 → FitsOutput what cells
+fits what cells n e h least few = omega arith

@@ -4,7 +4,7 @@ ghost use Prim.Native.Nat.{_+_, _*_, _≤_};
 ghost use lib.ListN.{length};
 ghost use Rattle.spec.specs.Report.{cellLines, runReport};
 ghost use Rattle.spec.specs.Entries.{over, writerAnswer, writerBuffer};
-ghost use Rattle.report.specs.Whole.{headLines, cellLine, ran, refused};
+ghost use Rattle.report.specs.Whole.{headLines, cellLine, ran, refused, FitsOutput};
 use reportlines::Value;
 
 fn cells_length(cells: &[u32]) -> usize
@@ -70,7 +70,7 @@ fn write_head(outcome: spec::Outcome, out: &mut [u8]) -> usize
 }
 
 // The length of a run's report, which a buffer of 17,408 bytes always holds.
-pub fn run_length(outcome: spec::Outcome, cells: &[u32]) -> usize
+fn run_length(outcome: spec::Outcome, cells: &[u32]) -> usize
     requires { ⌜ length (now cells) ≤ 1024 ⌝ }
     ensures { λ r. ⌜ (r ≡ length (runReport outcome (now (cells .entry)))) × (r ≤ 17408) ⌝ }
 {
@@ -90,6 +90,7 @@ fn write_run(outcome: spec::Outcome, cells: &[u32], out: &mut [u8]) -> usize
 fn report_run(outcome: spec::Outcome, cells: &[u32], out: &mut [u8]) -> spec::Written
     ensures answer { λ r. ⌜ r ≡ writerAnswer (ran outcome) (now (cells .entry)) (now (out .entry)) ⌝ }
     ensures buffer { λ _. ⌜ now (out .exit) ≡ writerBuffer (ran outcome) (now (cells .entry)) (now (out .entry)) ⌝ }
+    ensures fits { λ _. ⌜ FitsOutput (ran outcome) (now (cells .entry)) ⌝ }
 {
     if cells.len() < 1 {
         return spec::Written::Refused(spec::Refusal::ReportCells);
@@ -108,6 +109,7 @@ fn report_run(outcome: spec::Outcome, cells: &[u32], out: &mut [u8]) -> spec::Wr
 fn report_refusal(number: u32, place: u32, cells: &[u32], out: &mut [u8]) -> spec::Written
     ensures answer { λ r. ⌜ r ≡ writerAnswer (refused number place) (now (cells .entry)) (now (out .entry)) ⌝ }
     ensures buffer { λ _. ⌜ now (out .exit) ≡ writerBuffer (refused number place) (now (cells .entry)) (now (out .entry)) ⌝ }
+    ensures fits { λ _. ⌜ FitsOutput (refused number place) (now (cells .entry)) ⌝ }
 {
     let size = reportfields::refusal_length(number, place);
     if out.len() < size {
@@ -121,6 +123,7 @@ fn report_refusal(number: u32, place: u32, cells: &[u32], out: &mut [u8]) -> spe
 pub fn write_report(what: spec::Subject, cells: &[u32], out: &mut [u8]) -> spec::Written
     ensures answer { λ r. ⌜ r ≡ writerAnswer what (now (cells .entry)) (now (out .entry)) ⌝ }
     ensures buffer { λ _. ⌜ now (out .exit) ≡ writerBuffer what (now (cells .entry)) (now (out .entry)) ⌝ }
+    ensures fits { λ _. ⌜ FitsOutput what (now (cells .entry)) ⌝ }
 {
     match what {
         spec::Subject::Ran(outcome) => report_run(outcome, cells, out),

@@ -94,12 +94,12 @@ writerBuffer what cells buffer = keptIf (writerRefusal what cells buffer) buffer
 -- The whole-file entry: file bytes, lent cells, lent log, output.
 
 -- From the input: the file's refusal. From the state: 20, 21, 24.
-unfoldable pub lentRefusal : (lentCells lentLog output : List ℕ) → Option Refusal
-lentRefusal lentCells lentLog output =
+unfoldable pub fileLent : (cellWords logWords outputBytes : ℕ) → Option Refusal
+fileLent cellWords logWords outputBytes =
     first
-    (unless (eqb (length lentCells) fileCells) CellsLength
-    ∷ unless (eqb (length lentLog) fileLog) LogLength
-    ∷ unless (leb fileOutput (length output)) OutputLength
+    (unless (eqb cellWords fileCells) CellsLength
+    ∷ unless (eqb logWords fileLog) LogLength
+    ∷ unless (leb fileOutput outputBytes) OutputLength
     ∷ [])
 
 unfoldable pub andState : Checked Launch → Option Refusal → Checked Launch
@@ -107,7 +107,7 @@ andState (refused r) state = refused r
 andState (accepted launch) state = unlessRefused state launch
 
 unfoldable pub fileChecked : (file lentCells lentLog output : List ℕ) → Checked Launch
-fileChecked file lentCells lentLog output = andState (fileLaunch file) (lentRefusal lentCells lentLog output)
+fileChecked file lentCells lentLog output = andState (fileLaunch file) (fileLent (length lentCells) (length lentLog) (length output))
 
 -- The run of an accepted launch, and its report.
 unfoldable pub launchRun : Launch → LockResult

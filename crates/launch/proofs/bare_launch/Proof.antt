@@ -3,8 +3,9 @@ use lib.ListN.{length}
 use Rattle.spec.specs.Entries.{bareNumbers}
 use mathlib.Core.Path.{_≡_, sym, ap, _∙_}
 use native.Mathlib.Omega.{arith}
-use Rattle.reader.specs.Answer.{readingOf}
-use Rattle.launch.proofs.Bare.{fine, readable, lent-is, runnable, numbers-refuse, table-refuses, state-refuses, ran}
+use Rattle.spec.specs.Answers.{refusalOf}
+use Rattle.launch.proofs.Bare.{fine, readable, lent-is, numbers-refuse, table-refuses, state-refuses, ran}
+use Rattle.launch.proofs.Ready.{runnable}
 use borrow.Author.Needs.{needs}
 use Rattle.launch.proofs.bare_launch.Statement.{statement}
 use Rattle.launch.proofs.bare_launch.Tie as tie
@@ -21,7 +22,7 @@ enum-known-why c = search needs
 returns : tie.Need-returns
 returns c =
     let g = c .before .before .before .before .before .before .before .args in
-    numbers-refuse (g .table .now) (g .threads) (g .count) (g .limit) (g .cells .now) (g .log .now) _ (sym (c .before .before .before .numbers .ensures) ∙ ap readingOf (c .before .why .given .1))
+    numbers-refuse (g .table .now) (g .threads) (g .count) (g .limit) (g .cells .now) (g .log .now) _ (sym (c .before .before .before .numbers .ensures) ∙ ap refusalOf (c .before .why .given .1))
 
 enum-told : tie.Need-enum-told
 enum-told c = search needs
@@ -30,7 +31,7 @@ enum-told c = search needs
 read-table-requires : tie.Need-read-table-requires
 read-table-requires c κs =
     let g = c .before .before .before .before .before .before .args in
-    readable (g .table .now) (g .threads) (g .count) (g .limit) (sym (c .before .before .numbers .ensures) ∙ ap readingOf (c .enum-told .given .1))
+    readable (g .table .now) (g .threads) (g .count) (g .limit) (sym (c .before .before .numbers .ensures) ∙ ap refusalOf (c .enum-told .given .1))
 
 -- src/lib.rt:82:34
 enum-known-answer : tie.Need-enum-known-answer
@@ -40,7 +41,7 @@ enum-known-answer c = search needs
 returns-2 : tie.Need-returns-2
 returns-2 c =
     let g = c .before .before .before .before .before .before .before .before .before .before .before .args in
-    table-refuses (g .table .now) (g .threads) (g .count) (g .limit) (g .cells .now) (g .log .now) _ (sym (c .before .before .before .before .before .before .before .numbers .ensures) ∙ ap readingOf (c .before .before .before .before .before .enum-told .given .1)) (sym (c .before .before .before .before .read-table .ensures .0) ∙ ap readingOf (c .before .answer .given .1))
+    table-refuses (g .table .now) (g .threads) (g .count) (g .limit) (g .cells .now) (g .log .now) _ (sym (c .before .before .before .before .before .before .before .numbers .ensures) ∙ ap refusalOf (c .before .before .before .before .before .enum-told .given .1)) (sym (c .before .before .before .before .read-table .ensures .0) ∙ ap refusalOf (c .before .answer .given .1))
 
 enum-told-2 : tie.Need-enum-told-2
 enum-told-2 c = search needs
@@ -57,7 +58,7 @@ enum-known-why-2 c = search needs
 returns-3 : tie.Need-returns-3
 returns-3 c =
     let g = c .before .before .before .before .before .before .before .before .before .before .before .before .before .before .args in
-    state-refuses (g .table .now) (g .threads) (g .count) (g .limit) (g .cells .now) (g .log .now) _ (sym (c .before .before .before .before .before .before .before .before .before .before .numbers .ensures) ∙ ap readingOf (c .before .before .before .before .before .before .before .before .enum-told .given .1)) (sym (c .before .before .before .before .before .before .before .read-table .ensures .0) ∙ ap readingOf (c .before .before .before .before .enum-told2 .given .1)) (sym (c .before .before .before .lent .ensures) ∙ ap readingOf (c .before .why2 .given .1))
+    state-refuses (g .table .now) (g .threads) (g .count) (g .limit) (g .cells .now) (g .log .now) _ (sym (c .before .before .before .before .before .before .before .before .before .before .numbers .ensures) ∙ ap refusalOf (c .before .before .before .before .before .before .before .before .enum-told .given .1)) (sym (c .before .before .before .before .before .before .before .read-table .ensures .0) ∙ ap refusalOf (c .before .before .before .before .enum-told2 .given .1)) (sym (c .before .before .before .lent .ensures) ∙ ap refusalOf (c .before .why2 .given .1))
 
 enum-told-3 : tie.Need-enum-told-3
 enum-told-3 c = search needs
@@ -66,10 +67,10 @@ enum-told-3 c = search needs
 run-requires : tie.Need-run-requires
 run-requires c κs =
     let g = c .before .before .before .before .before .before .before .before .before .before .before .before .before .before .before .before .args in
-    let n : bareNumbers (length (g .table .now)) (g .threads) (g .count) (g .limit) ≡ none = sym (c .before .before .before .before .before .before .before .before .before .before .before .before .numbers .ensures) ∙ ap readingOf (c .before .before .before .before .before .before .before .before .before .before .enum-told .given .1) in
+    let n : bareNumbers (length (g .table .now)) (g .threads) (g .count) (g .limit) ≡ none = sym (c .before .before .before .before .before .before .before .before .before .before .before .before .numbers .ensures) ∙ ap refusalOf (c .before .before .before .before .before .before .before .before .before .before .enum-told .given .1) in
     let f = fine _ (g .threads) (g .count) (g .limit) n in
-    let l = lent-is (g .count) _ _ (sym (c .before .before .before .before .before .lent .ensures) ∙ ap readingOf (c .before .before .before .enum-told3 .given .1)) in
-    (runnable (g .table .now) _ (g .threads) (g .count) (g .limit) n (sym (c .before .before .before .before .before .before .before .before .before .read-table .ensures .0) ∙ ap readingOf (c .before .before .before .before .before .before .enum-told2 .given .1)) (c .before .before .before .before .before .before .before .before .before .read-table .ensures .1), f .someThreads, f .fewThreads, f .fewRows, omega (arith, l .0, l .1), omega (arith, l .0, f .fewCells))
+    let l = lent-is (g .count) _ _ (sym (c .before .before .before .before .before .lent .ensures) ∙ ap refusalOf (c .before .before .before .enum-told3 .given .1)) in
+    (runnable (g .table .now) _ (readable (g .table .now) (g .threads) (g .count) (g .limit) n .1) (sym (c .before .before .before .before .before .before .before .before .before .read-table .ensures .0) ∙ ap refusalOf (c .before .before .before .before .before .before .enum-told2 .given .1)) (c .before .before .before .before .before .before .before .before .before .read-table .ensures .1), f .someThreads, f .fewThreads, f .fewRows, omega (arith, l .0, l .1), omega (arith, l .0, f .fewCells))
 
 -- src/lib.rt:61:1
 same-length : tie.Need-same-length
@@ -83,7 +84,7 @@ same-length-2 c = search needs
 returns-4 : tie.Need-returns-4
 returns-4 c =
     let g = c .before .before .before .before .before .before .before .before .before .before .before .before .before .before .before .before .before .before .before .before .before .args in
-    ran (g .table .now) (g .threads) (g .count) (g .limit) (g .cells .now) (g .log .now) _ _ _ (sym (c .before .before .before .before .before .before .before .before .before .before .before .before .before .before .before .before .before .numbers .ensures) ∙ ap readingOf (c .before .before .before .before .before .before .before .before .before .before .before .before .before .before .before .enum-told .given .1)) (sym (c .before .before .before .before .before .before .before .before .before .before .before .before .before .before .read-table .ensures .0) ∙ ap readingOf (c .before .before .before .before .before .before .before .before .before .before .before .enum-told2 .given .1)) (sym (c .before .before .before .before .before .before .before .before .before .before .lent .ensures) ∙ ap readingOf (c .before .before .before .before .before .before .before .before .enum-told3 .given .1)) (c .before .before .before .before .run .ensures)
+    ran (g .table .now) (g .threads) (g .count) (g .limit) (g .cells .now) (g .log .now) _ _ _ (sym (c .before .before .before .before .before .before .before .before .before .before .before .before .before .before .before .before .before .numbers .ensures) ∙ ap refusalOf (c .before .before .before .before .before .before .before .before .before .before .before .before .before .before .before .enum-told .given .1)) (sym (c .before .before .before .before .before .before .before .before .before .before .before .before .before .before .read-table .ensures .0) ∙ ap refusalOf (c .before .before .before .before .before .before .before .before .before .before .before .enum-told2 .given .1)) (sym (c .before .before .before .before .before .before .before .before .before .before .lent .ensures) ∙ ap refusalOf (c .before .before .before .before .before .before .before .before .enum-told3 .given .1)) (c .before .before .before .before .run .ensures)
 
 pub bare-launch-spec : {M : Type 1} → statement M
 bare-launch-spec =

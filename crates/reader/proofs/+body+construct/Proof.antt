@@ -12,7 +12,7 @@ use lib.ListN.{length, getD}
 use Rattle.spec.specs.declared.Refusal.the-variants.{TooDeep}
 use Rattle.spec.specs.Table.{rowsOf, rowAt}
 use Rattle.reader.specs.declared.Reach.the-variants.{To}
-use Rattle.reader.specs.Answer.{readingOf}
+use Rattle.spec.specs.Answers.{refusalOf}
 use Rattle.reader.specs.Parts.{ownRefusal, Fails, Span, Body, Construct, BodyIs, ConstructIs, ClosesIs}
 use Rattle.reader.proofs.OpBytes.{plain-byte}
 use Rattle.reader.proofs.Passing.{fail-on}
@@ -73,7 +73,7 @@ module _ (t : ℕ) where
   body-returns : body-lts.Need-returns (body-calls t) (body-at t) body.Post body-Inv-loop body-μ-loop
   body-returns c =
       let s = c .before .before .before .before .before .before .before in
-      span-refused (s .args .table .now) (s .pre .1 .0) (c .before .before .before .before .before .loop .inv) (omega arith) (sym (c .before .before .before .row-fits .ensures) ∙ ap readingOf (c .before .why .given .1))
+      span-refused (s .args .table .now) (s .pre .1 .0) (c .before .before .before .before .before .loop .inv) (omega arith) (sym (c .before .before .before .row-fits .ensures) ∙ ap refusalOf (c .before .why .given .1))
 
   body-enum-told : body-lts.Need-enum-told (body-calls t) (body-at t) body.Post body-Inv-loop body-μ-loop
   body-enum-told c = search needs
@@ -92,7 +92,7 @@ module _ (t : ℕ) where
   inside c = omega arith
 
   own : (c : Fitting) → let r = c .before .before .before .before .loop .row in ownRefusal r (rowAt (rowsOf (c .before .before .before .before .before .before .args .table .now)) r) ≡ none
-  own c = sym (c .before .before .row-fits .ensures) ∙ ap readingOf (c .enum-told .given .1)
+  own c = sym (c .before .before .row-fits .ensures) ∙ ap refusalOf (c .enum-told .given .1)
 
   body-construct-requires : body-lts.Need-construct-requires (body-calls t) (body-at t) body.Post body-Inv-loop body-μ-loop
   body-construct-requires c κs =

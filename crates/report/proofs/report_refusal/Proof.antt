@@ -3,7 +3,7 @@ use native.Mathlib.Omega.{arith}
 use borrow.Author.Needs.{needs}
 use Rattle.spec.specs.Report.{reportOf}
 use Rattle.report.specs.Whole.{refused}
-use Rattle.report.proofs.Entry.{no-cells-asked, too-long, fitting, turned-back, taken}
+use Rattle.report.proofs.Entry.{no-cells-asked, too-long, fitting, turned-back, taken, fits}
 use Rattle.report.proofs.report_refusal.Statement.{statement}
 use Rattle.report.proofs.report_refusal.Tie as tie
 
@@ -19,7 +19,7 @@ returns c =
     let a = c .before .before .before .before .args in
     let what = refused (a .number) (a .place) in
     let right = no-cells-asked (a .number) (a .place) (a .cells .now) in
-    turned-back what (a .cells .now) (a .out .now) _ (too-long what (a .cells .now) (a .out .now) (c .before .refusal-length .result) right (c .before .refusal-length .ensures .0) (omega (arith, c .if1 .taken)))
+    turned-back what (a .cells .now) (a .out .now) _ (too-long what (a .cells .now) (a .out .now) (c .before .refusal-length .result) right (c .before .refusal-length .ensures .0) (omega (arith, c .if1 .taken))) (fits what (a .cells .now) _ (c .before .refusal-length .ensures .0) (omega (arith, c .before .refusal-length .ensures .1)))
 
 write-refusal-requires : tie.Need-write-refusal-requires
 write-refusal-requires c κs = search needs
@@ -33,7 +33,7 @@ returns-2 c =
     let a = c .before .before .before .before .before .before .before .before .args in
     let what = refused (a .number) (a .place) in
     let right = no-cells-asked (a .number) (a .place) (a .cells .now) in
-    taken what (a .cells .now) (a .out .now) _ _ (fitting what (a .cells .now) (a .out .now) (c .before .before .before .before .before .refusal-length .result) right (c .before .before .before .before .before .refusal-length .ensures .0) (omega (arith, c .before .before .before .before .if1 .left))) (c .before .before .write-refusal .ensures .0) (c .before .before .write-refusal .ensures .1)
+    taken what (a .cells .now) (a .out .now) _ _ (fitting what (a .cells .now) (a .out .now) (c .before .before .before .before .before .refusal-length .result) right (c .before .before .before .before .before .refusal-length .ensures .0) (omega (arith, c .before .before .before .before .if1 .left))) (c .before .before .write-refusal .ensures .0) (c .before .before .write-refusal .ensures .1) (fits what (a .cells .now) _ (c .before .before .before .before .before .refusal-length .ensures .0) (omega (arith, c .before .before .before .before .before .refusal-length .ensures .1)))
 
 pub report-refusal-spec : {M : Type 1} → statement M
 report-refusal-spec =

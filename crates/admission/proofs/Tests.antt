@@ -6,9 +6,9 @@ use Prim.Native.Nat.{ℕ, _*_, _/_, _%_, _<_, _≤_}
 use native.Mathlib.Omega.{arith}
 use borrow.Author.Tests.{eq-eqb, ne-eqb, le-leb, lt-leb}
 use lib.Dec.{leb}
-use Rattle.spec.specs.declared.Refusal.the-variants.{TableLength, TooManyRows, ThreadsOutOfRange, CellsOutOfRange, LimitOutOfRange, CellsLength, LogLength}
-use Rattle.spec.specs.Entries.{bareNumbers, bareLent}
-use Rattle.launch.proofs.Answers.{fails, holds, ends}
+use Rattle.spec.specs.declared.Refusal.the-variants.{TableLength, TooManyRows, ThreadsOutOfRange, CellsOutOfRange, LimitOutOfRange, CellsLength, LogLength, OutputLength}
+use Rattle.spec.specs.Entries.{bareNumbers, bareLent, fileLent}
+use Rattle.admission.proofs.Answers.{fails, holds, ends}
 
 -- A test's answer, by the code's branch on its opposite.
 yes-by : (w b : Bool) → w ≡ b → not w ≡ false → b ≡ true
@@ -63,3 +63,22 @@ module _ (cells k held logged : ℕ) (ek : k ≡ cells) where
     pub lent-fine : logged ≡ 2 * k → none ≡ bareLent cells held logged
     unfolding bareLent
     lent-fine q = sym (holds _ _ _ (eq-eqb held cells (e ∙ ek)) ∙ holds _ _ _ (eq-eqb logged (2 * cells) (omega (arith, q, ek))) ∙ ends)
+
+module _ (held logged room : ℕ) where
+  pub bad-cells-lent : (held ≡ 1024 → ⊥) → some CellsLength ≡ fileLent held logged room
+  unfolding fileLent
+  bad-cells-lent n = sym (fails _ _ _ (ne-eqb held 1024 n))
+
+  module _ (e : held ≡ 1024) where
+    pub bad-log-lent : (logged ≡ 2048 → ⊥) → some LogLength ≡ fileLent held logged room
+    unfolding fileLent
+    bad-log-lent n = sym (holds _ _ _ (eq-eqb held 1024 e) ∙ fails _ _ _ (ne-eqb logged 2048 n))
+
+    module _ (q : logged ≡ 2048) where
+      pub bad-output-lent : room < 17408 → some OutputLength ≡ fileLent held logged room
+      unfolding fileLent
+      bad-output-lent l = sym (holds _ _ _ (eq-eqb held 1024 e) ∙ holds _ _ _ (eq-eqb logged 2048 q) ∙ fails _ _ _ (lt-leb 17408 room l))
+
+      pub all-lent : 17408 ≤ room → none ≡ fileLent held logged room
+      unfolding fileLent
+      all-lent l = sym (holds _ _ _ (eq-eqb held 1024 e) ∙ holds _ _ _ (eq-eqb logged 2048 q) ∙ holds _ _ _ (le-leb 17408 room l) ∙ ends)

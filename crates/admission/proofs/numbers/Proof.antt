@@ -1,7 +1,7 @@
-use Rattle.launch.proofs.Tests.{odd-length, many-rows, bad-threads, bad-cells, bad-limit, all-fine}
+use Rattle.admission.proofs.Tests.{odd-length, many-rows, bad-threads, bad-cells, bad-limit, all-fine}
 use borrow.Author.Needs.{needs}
-use Rattle.launch.proofs.numbers.Statement.{statement}
-use Rattle.launch.proofs.numbers.Tie as tie
+use Rattle.admission.proofs.numbers.Statement.{statement}
+use Rattle.admission.proofs.numbers.Tie as tie
 
 -- src/lib.rt:22:9
 returns : tie.Need-returns

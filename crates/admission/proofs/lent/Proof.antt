@@ -1,7 +1,7 @@
-use Rattle.launch.proofs.Tests.{bad-held, bad-logged, lent-fine}
+use Rattle.admission.proofs.Tests.{bad-held, bad-logged, lent-fine}
 use borrow.Author.Needs.{needs}
-use Rattle.launch.proofs.lent.Statement.{statement}
-use Rattle.launch.proofs.lent.Tie as tie
+use Rattle.admission.proofs.lent.Statement.{statement}
+use Rattle.admission.proofs.lent.Tie as tie
 
 -- src/lib.rt:49:9
 wide-requires : tie.Need-wide-requires

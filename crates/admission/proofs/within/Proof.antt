@@ -2,8 +2,8 @@ use mathlib.Core.Path.{sym, ap, _∙_}
 use mathlib.Core.Bool.{_&&_}
 use borrow.Author.Tests.{le-leb, lt-leb}
 use lib.Dec.{leb}
-use Rattle.launch.proofs.within.Statement.{statement}
-use Rattle.launch.proofs.within.Tie as tie
+use Rattle.admission.proofs.within.Statement.{statement}
+use Rattle.admission.proofs.within.Tie as tie
 
 -- src/lib.rt:11:1
 returns : tie.Need-returns

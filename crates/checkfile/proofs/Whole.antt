@@ -1,0 +1,177 @@
+-- The whole-file entry: what its tests leave known, and its answer. Assumes nothing.
+use mathlib.Core.Path.{_≡_, refl, sym, ap, ap₂, _∙_}
+use mathlib.Core.List.{List}
+use mathlib.Core.Option.{Option, none, some, Option·none-ne-some, Option·some-injective}
+use Prim.Native.Nat.{ℕ, _*_, _%_, _<_, _≤_}
+use native.Mathlib.Omega.{arith}
+use borrow.Author.Tests.{eqb-true, leb-true}
+use lib.ListN.{length, take, getD}
+use lib.Seq.{length-take-le}
+use Rattle.spec.specs.declared.Admission.the-variants as admission
+use Rattle.spec.specs.declared.Refusal.{Refusal}
+use Rattle.spec.specs.declared.Written.{Written}
+use Rattle.spec.specs.declared.Written.the-variants as written
+use Rattle.spec.specs.Answers.{refusalOf, first}
+use Rattle.spec.specs.Table.{rowsOf}
+use Rattle.spec.specs.TableCheck.{tableRefusal}
+use Rattle.spec.specs.Log.{logWords}
+use Rattle.spec.specs.LaunchFile.{Launch, Read, stop, read, Checked, refused, accepted, unlessRefused, checkedTable, fileLaunch}
+use Rattle.spec.specs.Entries.{fileLent, andState, fileChecked, launchRun, launchReport, reportLength, ifAccepted, fileAnswer, fileCellsAfter, fileLogAfter, fileOutputAfter}
+use Rattle.spec.specs.Demands.{FileDemand3}
+use Rattle.structure.proofs.Refusals.{unless-none, orElse-none}
+use Rattle.allruns.proofs.Launches.{file-demand3}
+use Rattle.reader.specs.Answer.{endAt}
+use Rattle.launch.proofs.Ready.{runnable}
+use Rattle.launchfile.specs.declared.Parsed.{Parsed}
+use Rattle.launchfile.specs.Parsed.{linesRead, ReadAs, ParsedIs, AcceptedAs}
+use Rattle.launchfile.proofs.Whole.{whole-file}
+use Rattle.checkfile.specs.Reported.{Asks, launchOf, ReportedLaunch}
+
+-- What the reader's answer says of the lines.
+lines-refused : (x : Read Launch) (p : Parsed) (why : Refusal) → ReadAs x p → p .answer ≡ admission.Refused why → x ≡ stop why
+lines-refused (stop r) p why h e = ap stop (Option·some-injective r why (sym (ap (λ (q : Parsed). refusalOf (q .answer)) h) ∙ ap refusalOf e))
+lines-refused (read launch line rest) p why h e = absurd (Option·none-ne-some why (sym (ap refusalOf (h .answer)) ∙ ap refusalOf e))
+
+pub record Accepted (x : Read Launch) (p : Parsed) : Type 0 where
+  pub launch : Launch
+  pub line : ℕ
+  pub rest : List ℕ
+  pub lines : x ≡ read launch line rest
+  pub stands : AcceptedAs launch p
+
+lines-accepted : (x : Read Launch) (p : Parsed) → ReadAs x p → p .answer ≡ admission.Accepted → Accepted x p
+lines-accepted (stop r) p h e = absurd (Option·none-ne-some r (sym (ap refusalOf e) ∙ ap (λ (q : Parsed). refusalOf (q .answer)) h))
+lines-accepted (read launch line rest) p h e = record { launch = launch; line = line; rest = rest; lines = refl; stands = h }
+
+-- The bytes of the table that was read.
+abbrev pub tableBytes : Parsed → List ℕ
+tableBytes p = take (4 * p .launch .rows) (p .launch .table)
+
+abbrev pub cellWords : Parsed → List ℕ
+cellWords p = take (p .launch .count) (p .launch .cells)
+
+abbrev pub launchRead : Parsed → Launch
+launchRead p = launchOf (tableBytes p) (p .launch .threads) (p .launch .limit) (cellWords p)
+
+same-launch : (launch : Launch) (p : Parsed) → AcceptedAs launch p → launch ≡ launchRead p
+same-launch launch p a = rw (a .threads, a .limit, a .table, a .cells) refl
+
+module _ (file : List ℕ) (p : Parsed) (h : ParsedIs file p) where
+  pub file-refused : (why : Refusal) → p .answer ≡ admission.Refused why → fileLaunch file ≡ refused why
+  unfolding checkedTable
+  file-refused why e = whole-file file ∙ ap checkedTable (lines-refused (linesRead file) p why h e)
+
+  module _ (e : p .answer ≡ admission.Accepted) where
+    abbrev lines : Accepted (linesRead file) p
+    lines = lines-accepted (linesRead file) p h e
+
+    of-file : AcceptedAs (lines .launch) p
+    of-file = lines .stands
+
+    by-table : fileLaunch file ≡ unlessRefused (tableRefusal (rowsOf (tableBytes p))) (launchRead p)
+    unfolding checkedTable
+    by-table =
+        whole-file file
+        ∙ ap checkedTable (lines .lines)
+        ∙ ap (λ (l : Launch). unlessRefused (tableRefusal (l .table)) l) (same-launch (lines .launch) p of-file)
+
+    pub table-refused : (why : Refusal) → tableRefusal (rowsOf (tableBytes p)) ≡ some why → fileLaunch file ≡ refused why
+    unfolding unlessRefused
+    table-refused why q = by-table ∙ ap (λ (x : Option Refusal). unlessRefused x (launchRead p)) q
+
+    pub launch-accepted : tableRefusal (rowsOf (tableBytes p)) ≡ none → fileLaunch file ≡ accepted (launchRead p)
+    unfolding unlessRefused
+    launch-accepted q = by-table ∙ ap (λ (x : Option Refusal). unlessRefused x (launchRead p)) q
+
+    -- The parts that hold the table and the words.
+    pub small : p .launch .rows ≤ 256
+    small = of-file .within .fewRows
+
+    pub used : 4 * p .launch .rows ≤ length (p .launch .table)
+    used = omega (arith, of-file .tableLong, of-file .within .fewRows)
+
+    pub table-length : 4 * p .launch .rows ≡ length (tableBytes p)
+    table-length = sym (length-take-le (4 * p .launch .rows) (p .launch .table) used)
+
+    pub filled : p .launch .count ≤ length (p .launch .cells)
+    filled = omega (arith, of-file .cellsLong, of-file .within .fewCells)
+
+    pub words-length : p .launch .count ≡ length (cellWords p)
+    words-length = sym (length-take-le (p .launch .count) (p .launch .cells) filled)
+
+    pub whole-rows : (length (tableBytes p) % 4 ≡ 0) × (length (tableBytes p) ≤ 4 * 256)
+    whole-rows = (omega (arith, table-length), omega (arith, table-length, of-file .within .fewRows))
+
+pub lent-is : (held logged room : ℕ) → fileLent held logged room ≡ none → (held ≡ 1024) × ((logged ≡ 2048) × (17408 ≤ room))
+unfolding fileLent first
+lent-is held logged room e =
+    let a = orElse-none _ _ .0 e in
+    let b = orElse-none _ _ .0 (a .1) in
+    let c = orElse-none _ _ .0 (b .1) in
+    (eqb-true _ _ (unless-none _ _ .0 (a .0)), (eqb-true _ _ (unless-none _ _ .0 (b .0)), leb-true _ _ (unless-none _ _ .0 (c .0))))
+
+module _ (file cells log output : List ℕ) where
+  -- The answer and the buffers.
+  abbrev pub Entry : Written → (cells′ log′ output′ : List ℕ) → Type 0
+  Entry r cells′ log′ output′ =
+      (r ≡ fileAnswer file cells log output)
+      × ((cells′ ≡ fileCellsAfter file cells log output) × ((log′ ≡ fileLogAfter file cells log output) × ((output′ ≡ fileOutputAfter file cells log output) × FileDemand3 file)))
+
+  abbrev byState : Option Refusal
+  byState = fileLent (length cells) (length log) (length output)
+
+  turned-back : (why : Refusal) → fileChecked file cells log output ≡ refused why → Entry (written.Refused why) cells log output
+  unfolding fileAnswer fileCellsAfter fileLogAfter fileOutputAfter reportLength ifAccepted
+  turned-back why e = (
+    sym (ap reportLength e),
+    (
+      sym (ap (λ x. ifAccepted x cells (λ launch. launchRun launch .state .cells)) e),
+      (
+        sym (ap (λ x. ifAccepted x log (λ launch. logWords (launchRun launch .state .log))) e),
+        (sym (ap (λ x. ifAccepted x output launchReport) e), file-demand3 file),
+      ),
+    ),
+  )
+
+  -- From the input, and from the state.
+  pub file-refuses : (why : Refusal) → fileLaunch file ≡ refused why → Entry (written.Refused why) cells log output
+  unfolding fileChecked andState
+  file-refuses why e = turned-back why (ap (λ x. andState x byState) e)
+
+  pub state-refuses : (launch : Launch) (why : Refusal) → fileLaunch file ≡ accepted launch → byState ≡ some why → Entry (written.Refused why) cells log output
+  unfolding fileChecked andState unlessRefused
+  state-refuses launch why e q = turned-back why (ap₂ andState e q)
+
+  pub ran : (launch : Launch) (r : Written) (cells′ log′ output′ : List ℕ) → fileLaunch file ≡ accepted launch → byState ≡ none
+      → ReportedLaunch launch cells log output r cells′ log′ output′ → Entry r cells′ log′ output′
+  unfolding fileChecked andState unlessRefused fileAnswer fileCellsAfter fileLogAfter fileOutputAfter reportLength ifAccepted
+  ran launch r cells′ log′ output′ e q d =
+      let taken : fileChecked file cells log output ≡ accepted launch = ap₂ andState e q in (
+        d .answered ∙ sym (ap reportLength taken),
+        (
+          d .cells-left ∙ sym (ap (λ x. ifAccepted x cells (λ l. launchRun l .state .cells)) taken),
+          (
+            d .log-left ∙ sym (ap (λ x. ifAccepted x log (λ l. logWords (launchRun l .state .log))) taken),
+            (d .report-written ∙ sym (ap (λ x. ifAccepted x output launchReport) taken), file-demand3 file),
+          ),
+        ),
+      )
+
+  -- What running the launch asks.
+  pub asked : (p : Parsed) (h : ParsedIs file p) (e : p .answer ≡ admission.Accepted) (loopEnds : List ℕ) → tableRefusal (rowsOf (tableBytes p)) ≡ none
+      → ((i : ℕ) → i < 256 → getD loopEnds i 0 ≡ endAt (rowsOf (tableBytes p)) i) → byState ≡ none
+      → Asks (tableBytes p) loopEnds (p .launch .threads) (p .launch .limit) (cellWords p) cells log output
+  asked p h e loopEnds t f q =
+      let w = of-file file p h e .within in
+      let l = lent-is (length cells) (length log) (length output) q in
+      record {
+        checked = runnable (tableBytes p) loopEnds (whole-rows file p h e .1) t f;
+        someThread = w .someThread;
+        fewThreads = w .fewThreads;
+        fewRuns = w .fewRuns;
+        someCell = omega (arith, words-length file p h e, w .someCell);
+        fewCells = omega (arith, words-length file p h e, w .fewCells);
+        cellsLent = l .0;
+        logLent = l .1 .0;
+        outputLent = l .1 .1;
+      }

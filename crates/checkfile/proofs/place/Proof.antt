@@ -1,0 +1,73 @@
+-- `checkfile::place` meets its contract. The invariant: the words passed stand over the lent cells. Assumes nothing.
+use mathlib.Core.Path.{_≡_, refl, ap, _∙_}
+use mathlib.Core.List.{List}
+use Prim.Native.Nat.{ℕ, _-_, _≤_}
+use native.Mathlib.Omega.{arith}
+use borrow.Author.Needs.{needs}
+use lib.ListN.{length, take, getD, set, length-set}
+use lib.Seq.{take-length}
+use Rattle.spec.specs.Entries.{over}
+use Rattle.reportlines.proofs.Writing.{copied}
+use Rattle.checkfile.proofs.place.Statement.{statement}
+use Rattle.checkfile.proofs.place.Tie as tie
+
+abbrev Inv-loop : tie.InvT-loop
+Inv-loop words cells₀ i₀ cells i = (i ≤ length words) × (length cells ≡ length cells₀) × (cells ≡ over (take i words) cells₀)
+
+abbrev μ-loop : tie.MeasureT-loop
+μ-loop words cells₀ i₀ cells i = length words - i
+
+loop-holds : tie.Need-loop-holds Inv-loop μ-loop
+unfolding over
+loop-holds c = (search needs, refl, refl)
+
+mul-cells : tie.Need-mul-cells Inv-loop μ-loop
+mul-cells c = search needs
+
+shared-slice-read-cells : tie.Need-shared-slice-read-cells Inv-loop μ-loop
+shared-slice-read-cells c = search needs
+
+mul-cells-2 : tie.Need-mul-cells-2 Inv-loop μ-loop
+mul-cells-2 c = search needs
+
+slice-write-cells : tie.Need-slice-write-cells Inv-loop μ-loop
+slice-write-cells c = omega (arith, c .before .before .before .pre)
+
+add-i : tie.Need-add-i Inv-loop μ-loop
+add-i c = search needs
+
+loop-less : tie.Need-loop-less Inv-loop μ-loop
+loop-less c = search needs
+
+loop-again : tie.Need-loop-again Inv-loop μ-loop
+loop-again c =
+    let a = c .before .before .before .args in
+    let l = c .before .before .loop in
+    (search needs, simp length-set (l .inv .1), ap (λ (d : List ℕ). set d (l .i) (getD (a .words .now) (l .i) 0)) (l .inv .2) ∙ copied (a .words .now) (a .cells .now) (l .i) (c .before .loop-test .taken) (c .before .before .before .pre))
+
+same-length : tie.Need-same-length Inv-loop μ-loop
+same-length c = c .before .loop .inv .1
+
+returns : tie.Need-returns Inv-loop μ-loop
+returns c =
+    let a = c .before .before .args in
+    let l = c .before .loop in
+    let e : l .i ≡ length (a .words .now) = omega arith in
+    l .inv .2 ∙ ap (λ (s : List ℕ). over s (a .cells .now)) (ap (λ (n : ℕ). take n (a .words .now)) e ∙ take-length (a .words .now))
+
+pub place-spec : {M : Type 1} → statement M
+place-spec =
+    tie.close
+    (tie.spec
+    Inv-loop
+    μ-loop
+    loop-holds
+    mul-cells
+    shared-slice-read-cells
+    mul-cells-2
+    slice-write-cells
+    add-i
+    loop-less
+    loop-again
+    same-length
+    returns)
