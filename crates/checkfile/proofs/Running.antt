@@ -26,7 +26,8 @@ use Rattle.checkfile.proofs.Front.{front-of, front-kept, given-back, gi
 accepted : (o : Outcome) (cells output : List ℕ) → 1 ≤ length cells → length cells ≤ 1024 → 17408 ≤ length output → FitsOutput (ran o) cells
     → writerRefusal (ran o) cells output ≡ none
 accepted o cells output some few room fits =
-    fitting (ran o) cells output (length (reportOf (ran o) cells)) (cells-right o cells some few) refl (omega (arith, fits some few))
+    let right = cells-right o cells some few in
+    fitting (ran o) cells output (length (reportOf (ran o) cells)) right refl (omega (arith, fits right))
 
 wrote : (o : Outcome) (cells output : List ℕ) → writerRefusal (ran o) cells output ≡ none → writerAnswer (ran o) cells output ≡ Wrote (length (runReport o cells))
 unfolding writerAnswer writtenOf reportOf

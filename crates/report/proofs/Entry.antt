@@ -1,7 +1,7 @@
 -- What the writer's answer and buffer are in each of its cases. Assumes nothing.
-use mathlib.Core.Path.{_≡_, refl, ap}
-use mathlib.Core.List.{List}
-use mathlib.Core.Option.{none, some}
+use mathlib.Core.Path.{_≡_, refl, sym, ap, _∙_}
+use mathlib.Core.List.{List, [], _∷_}
+use mathlib.Core.Option.{Option, none, some, Option·none-ne-some}
 use mathlib.Core.Bool.{Bool, true, false, _&&_}
 use Prim.Native.Nat.{ℕ, _≤_, _<_}
 use native.Mathlib.Omega.{arith}
@@ -23,13 +23,13 @@ no-and true = refl
 no-and false = refl
 
 -- 23.
-pub no-cells : (o : Outcome) (cells out : List ℕ) → length cells < 1 → writerRefusal (ran o) cells out ≡ some ReportCells
-unfolding writerRefusal cellsReported first orElse unless
-no-cells o cells out h = rw (lt-leb 1 (length cells) h)
+pub no-cells : (o : Outcome) (cells : List ℕ) → length cells < 1 → cellsReported (ran o) cells ≡ some ReportCells
+unfolding cellsReported unless
+no-cells o cells h = rw (lt-leb 1 (length cells) h)
 
-pub many-cells : (o : Outcome) (cells out : List ℕ) → 1024 < length cells → writerRefusal (ran o) cells out ≡ some ReportCells
-unfolding writerRefusal cellsReported first orElse unless
-many-cells o cells out h = rw (lt-leb (length cells) 1024 h, no-and (leb 1 (length cells)))
+pub many-cells : (o : Outcome) (cells : List ℕ) → 1024 < length cells → cellsReported (ran o) cells ≡ some ReportCells
+unfolding cellsReported unless
+many-cells o cells h = rw (lt-leb (length cells) 1024 h, no-and (leb 1 (length cells)))
 
 pub cells-right : (o : Outcome) (cells : List ℕ) → 1 ≤ length cells → length cells ≤ 1024 → cellsReported (ran o) cells ≡ none
 unfolding cellsReported unless
@@ -60,6 +60,13 @@ pub taken : (what : Subject) (cells out l : List ℕ) (n : ℕ) → writerRefusa
 unfolding writerAnswer writtenOf writerBuffer keptIf
 taken what cells out l n e en el f = (rw e (ap written.Wrote en), (rw e el, f))
 
--- By the length that was counted.
+-- By 23, or by the length that was counted.
+pub cells-refused : (what : Subject) (cells out : List ℕ) (r : Refusal) → cellsReported what cells ≡ some r
+    → (written.Refused r ≡ writerAnswer what cells out) × ((out ≡ writerBuffer what cells out) × FitsOutput what cells)
+unfolding writerRefusal first orElse
+cells-refused what cells out r e =
+    turned-back what cells out r (ap (λ (x : Option Refusal). orElse x (first (unless (leb (length (reportOf what cells)) (length out)) (ReportTooLong (length (reportOf what cells))) ∷ []))) e)
+    (λ q. absurd (Option·none-ne-some r (sym q ∙ e)))
+
 pub fits : (what : Subject) (cells : List ℕ) (n : ℕ) → n ≡ length (reportOf what cells) → n ≤ 17408 → FitsOutput what cells
-fits what cells n e h least few = omega arith
+fits what cells n e h q = omega arith

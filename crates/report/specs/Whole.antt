@@ -1,13 +1,16 @@
 -- The lines before the cells, one cell's line, the two subjects of a report, and the room that every report fits in. Assumes nothing.
+use mathlib.Core.Path.{_≡_}
 use mathlib.Core.List.{List, _++_}
+use mathlib.Core.Option.{none}
 use Prim.Native.Nat.{ℕ, _≤_}
 use lib.ListN.{length}
 use Rattle.spec.specs.declared.Outcome.{Outcome}
 use Rattle.spec.specs.declared.Subject.{Subject}
 use Rattle.spec.specs.declared.Subject.the-variants as subject
-use Rattle.spec.specs.Limits.{maxCells, fileOutput}
+use Rattle.spec.specs.Limits.{fileOutput}
 use Rattle.spec.specs.Text.{decimal}
 use Rattle.spec.specs.Report.{line, reportOf}
+use Rattle.spec.specs.Entries.{cellsReported}
 use Rattle.reportfields.specs.Groups.{verdictLines, raceLines, countLines}
 
 unfoldable pub headLines : Outcome → List ℕ
@@ -22,6 +25,6 @@ ran = subject.Ran
 abbrev pub refused : ℕ → ℕ → Subject
 refused = subject.Refused
 
--- A report over as many cells as a launch can have fits into the output that the whole-file entry asks for.
+-- A report that is not turned back by 23 fits into the output that the whole-file entry asks for.
 abbrev pub FitsOutput : Subject → List ℕ → Type 0
-FitsOutput what cells = 1 ≤ length cells → length cells ≤ maxCells → length (reportOf what cells) ≤ fileOutput
+FitsOutput what cells = cellsReported what cells ≡ none → length (reportOf what cells) ≤ fileOutput

@@ -3,19 +3,19 @@ use native.Mathlib.Omega.{arith}
 use borrow.Author.Needs.{needs}
 use Rattle.spec.specs.Report.{reportOf}
 use Rattle.report.specs.Whole.{ran}
-use Rattle.report.proofs.Entry.{no-cells, many-cells, cells-right, too-long, fitting, turned-back, taken, fits}
+use Rattle.report.proofs.Entry.{no-cells, many-cells, cells-right, too-long, fitting, cells-refused, turned-back, taken, fits}
 use Rattle.report.proofs.report_run.Statement.{statement}
 use Rattle.report.proofs.report_run.Tie as tie
 
 returns : tie.Need-returns
 returns c =
     let a = c .before .before .before .args in
-    turned-back (ran (a .outcome)) (a .cells .now) (a .out .now) _ (no-cells (a .outcome) (a .cells .now) (a .out .now) (omega (arith, c .if1 .taken))) (λ least few. absurd (omega (arith, c .if1 .taken)))
+    cells-refused (ran (a .outcome)) (a .cells .now) (a .out .now) _ (no-cells (a .outcome) (a .cells .now) (omega (arith, c .if1 .taken)))
 
 returns-2 : tie.Need-returns-2
 returns-2 c =
     let a = c .before .before .before .before .args in
-    turned-back (ran (a .outcome)) (a .cells .now) (a .out .now) _ (many-cells (a .outcome) (a .cells .now) (a .out .now) (omega (arith, c .if2 .taken))) (λ least few. absurd (omega (arith, c .if2 .taken)))
+    cells-refused (ran (a .outcome)) (a .cells .now) (a .out .now) _ (many-cells (a .outcome) (a .cells .now) (omega (arith, c .if2 .taken)))
 
 run-length-requires : tie.Need-run-length-requires
 run-length-requires c κs = search needs

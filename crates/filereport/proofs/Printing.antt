@@ -1,0 +1,126 @@
+-- What is printed, by what the whole-file entry and the report writer answer. Assumes nothing.
+use mathlib.Core.Path.{_≡_, refl, sym, ap, ap₂, _∙_}
+use mathlib.Core.List.{List}
+use mathlib.Core.Option.{Option, none, some, Option·none-ne-some, Option·some-injective}
+use Prim.Native.Nat.{ℕ, _≤_}
+use native.Mathlib.Omega.{arith}
+use borrow.Author.Tests.{eq-eqb, le-leb}
+use lib.ListN.{length, drop, length-append, length-drop}
+use Rattle.spec.specs.declared.Refusal.{Refusal}
+use Rattle.spec.specs.declared.Written.{Written}
+use Rattle.spec.specs.declared.Written.the-variants.{Refused, Wrote}
+use Rattle.spec.specs.declared.Subject.the-variants as subject
+use Rattle.spec.specs.Answers.{unless, orElse, first, refusalNumber, refusalPlace}
+use Rattle.spec.specs.LaunchFile.{Launch, Checked, refused, accepted, unlessRefused, fileLaunch}
+use Rattle.spec.specs.Report.{refusalReport, reportOf}
+use Rattle.spec.specs.Entries.{over, cellsReported, writerRefusal, writtenOf, writerAnswer, writerBuffer, keptIf, fileLent, andState, fileChecked, launchReport, reportLength, ifAccepted, fileAnswer, fileOutputAfter, printed, checkPrints}
+use Rattle.reportlines.proofs.Writing.{over-length}
+use Rattle.report.specs.Whole.{FitsOutput}
+use Rattle.report.proofs.Entry.{no-cells-asked, fitting}
+
+-- The two cases of an answer.
+abbrev sizeIn : Written → Option ℕ
+sizeIn (Refused why) = none
+sizeIn (Wrote n) = some n
+
+abbrev reasonIn : Written → Option Refusal
+reasonIn (Refused why) = some why
+reasonIn (Wrote n) = none
+
+same-size : (r : Written) (m n : ℕ) → r ≡ Wrote m → r ≡ Wrote n → m ≡ n
+same-size r m n e q = Option·some-injective m n (sym (ap sizeIn e) ∙ ap sizeIn q)
+
+not-both : {A : Type 0} (r : Written) (n : ℕ) (why : Refusal) → r ≡ Wrote n → r ≡ Refused why → A
+not-both r n why e q = absurd (Option·none-ne-some n (sym (ap sizeIn q) ∙ ap sizeIn e))
+
+-- A text that was written over a buffer of the same length fits into it.
+over-fits : (w xs l : List ℕ) → l ≡ over w xs → length l ≡ length xs → length w ≤ length xs
+unfolding over
+over-fits w xs l e h = omega (arith, h, ap length e, length-append w (drop (length w) xs), length-drop (length w) xs)
+
+-- The report of a refusal: it is asked for no cells, and it has room.
+module _ (why : Refusal) (number place : ℕ) (en : number ≡ refusalNumber why) (ep : place ≡ refusalPlace why) (cells output out : List ℕ) (r : Written) (room : 17408 ≤ length output) where
+  abbrev text : List ℕ
+  text = refusalReport (refusalNumber why) (refusalPlace why)
+
+  abbrev Told : Type 0
+  Told = (r ≡ writerAnswer (subject.Refused number place) cells output) × ((out ≡ writerBuffer (subject.Refused number place) cells output) × FitsOutput (subject.Refused number place) cells)
+
+  same-text : reportOf (subject.Refused number place) cells ≡ text
+  unfolding reportOf
+  same-text = ap₂ refusalReport en ep
+
+  short : Told → length text ≤ 17408
+  short t = omega (arith, ap length same-text, t .1 .1 (no-cells-asked number place cells))
+
+  taken : Told → writerRefusal (subject.Refused number place) cells output ≡ none
+  taken t = fitting (subject.Refused number place) cells output (length text) (no-cells-asked number place cells) (ap length (sym same-text)) (omega (arith, short t))
+
+  wrote : Told → r ≡ Wrote (length text)
+  unfolding writerAnswer writtenOf
+  wrote t = t .0 ∙ ap₂ writtenOf (taken t) (ap length same-text)
+
+  pub refusal-written : (size : ℕ) → Told → r ≡ Wrote size → (size ≡ length text) × ((out ≡ over text output) × (size ≤ 17408))
+  unfolding writerBuffer keptIf
+  refusal-written size t e =
+      let same = same-size r size (length text) e (wrote t) in (
+        same,
+        (t .1 .0 ∙ ap₂ (λ x w. keptIf x output (over w output)) (taken t) same-text, omega (arith, same, short t)),
+      )
+
+  pub never-refused : {A : Type 0} (again : Refusal) → Told → r ≡ Refused again → A
+  never-refused again t e = not-both r (length text) again (wrote t) e
+
+-- The whole-file entry with buffers of the right sizes refuses nothing but the file.
+by-file : (x : Checked Launch) (state : Option Refusal) → state ≡ none → andState x state ≡ x
+unfolding andState unlessRefused
+by-file (refused why) state e = refl
+by-file (accepted launch) state e = ap (λ s. unlessRefused s launch) e
+
+module _ (file cells log output : List ℕ) (c : length cells ≡ 1024) (l : length log ≡ 2048) (o : length output ≡ 17408) where
+  lent : fileLent (length cells) (length log) (length output) ≡ none
+  unfolding fileLent first orElse unless
+  lent = rw (eq-eqb (length cells) 1024 c, eq-eqb (length log) 2048 l, le-leb 17408 (length output) (omega arith)) refl
+
+  checked : fileChecked file cells log output ≡ fileLaunch file
+  unfolding fileChecked
+  checked = by-file (fileLaunch file) (fileLent (length cells) (length log) (length output)) lent
+
+  module _ (r : Written) (out : List ℕ) (long : length out ≡ length output) (answer : r ≡ fileAnswer file cells log output) (buffer : out ≡ fileOutputAfter file cells log output) where
+    size-told : r ≡ reportLength (fileLaunch file)
+    unfolding fileAnswer
+    size-told = answer ∙ ap reportLength checked
+
+    output-told : out ≡ ifAccepted (fileLaunch file) output launchReport
+    unfolding fileOutputAfter
+    output-told = buffer ∙ ap (λ x. ifAccepted x output launchReport) checked
+
+    accepted-one : (x : Checked Launch) (size : ℕ) → r ≡ reportLength x → out ≡ ifAccepted x output launchReport → r ≡ Wrote size
+        → (size ≡ length (printed x)) × ((out ≡ over (printed x) output) × (size ≤ length out))
+    unfolding reportLength ifAccepted printed
+    accepted-one (refused why) size e q w = not-both r size why w e
+    accepted-one (accepted launch) size e q w =
+        let same = same-size r size (length (launchReport launch)) w e in
+        (same, (q, omega (arith, same, long, over-fits (launchReport launch) output out q long)))
+
+    refused-one : (x : Checked Launch) (why : Refusal) → r ≡ reportLength x → out ≡ ifAccepted x output launchReport → r ≡ Refused why
+        → (refusalReport (refusalNumber why) (refusalPlace why) ≡ printed x) × (out ≡ output)
+    unfolding reportLength ifAccepted printed
+    refused-one (refused r′) why e q w =
+        let same : why ≡ r′ = Option·some-injective why r′ (sym (ap reasonIn w) ∙ ap reasonIn e) in
+        (ap (λ x. refusalReport (refusalNumber x) (refusalPlace x)) same, q)
+    refused-one (accepted launch) why e q w = not-both r (length (launchReport launch)) why e w
+
+    pub run-printed : (size : ℕ) → r ≡ Wrote size → (size ≡ length (checkPrints file)) × ((out ≡ over (checkPrints file) output) × (size ≤ length out))
+    unfolding checkPrints
+    run-printed size w = accepted-one (fileLaunch file) size size-told output-told w
+
+    -- The refusal's report is written over the output as it was lent.
+    pub refusal-printed : (why : Refusal) (size : ℕ) (last : List ℕ) → r ≡ Refused why
+        → (size ≡ length (refusalReport (refusalNumber why) (refusalPlace why))) × ((last ≡ over (refusalReport (refusalNumber why) (refusalPlace why)) out) × (size ≤ 17408))
+        → (size ≡ length (checkPrints file)) × ((last ≡ over (checkPrints file) output) × (size ≤ length last))
+    unfolding checkPrints
+    refusal-printed why size last w t =
+        let f = refused-one (fileLaunch file) why size-told output-told w in
+        let room = over-length (refusalReport (refusalNumber why) (refusalPlace why)) out (omega (arith, t .0, t .1 .1, long, o)) in
+        (t .0 ∙ ap length (f .0), (t .1 .0 ∙ ap₂ over (f .0) (f .1), omega (arith, t .1 .1, ap length (t .1 .0), room, long, o)))

@@ -1,0 +1,45 @@
+-- `filereport::report_file` meets its contract. The lent buffers have the right sizes. Assumes nothing.
+use Rattle.filereport.proofs.Printing.{run-printed, refusal-printed}
+use mathlib.Core.Path.{refl}
+use borrow.Author.Needs.{needs}
+use Rattle.filereport.proofs.report_file.Statement.{statement}
+use Rattle.filereport.proofs.report_file.Tie as tie
+
+slice-aggregate-check-file : tie.Need-slice-aggregate-check-file
+slice-aggregate-check-file c = search needs
+
+slice-aggregate-check-file-2 : tie.Need-slice-aggregate-check-file-2
+slice-aggregate-check-file-2 c = search needs
+
+check-file-requires : tie.Need-check-file-requires
+check-file-requires c κs = search needs
+
+enum-known-size : tie.Need-enum-known-size
+enum-known-size c = search needs
+
+enum-known-why : tie.Need-enum-known-why
+enum-known-why c = search needs
+
+report-refusal-requires : tie.Need-report-refusal-requires
+report-refusal-requires c κs = search needs
+
+returns : tie.Need-returns
+returns c =
+    run-printed (c .before .before .before .before .before .before .before .before .before .before .args .file .now) _ _ (c .before .before .before .before .before .before .before .before .before .before .args .output .now) refl refl (search needs) _ _ (search needs) (c .before .before .before .before .before .check-file .ensures .0) (c .before .before .before .before .before .check-file .ensures .1 .1 .1 .0) _ (c .before .size .given .1)
+
+returns-2 : tie.Need-returns-2
+returns-2 c =
+    refusal-printed (c .before .before .before .before .before .before .before .before .before .before .before .before .args .file .now) _ _ (c .before .before .before .before .before .before .before .before .before .before .before .before .args .output .now) refl refl (search needs) _ _ (search needs) (c .before .before .before .before .before .before .before .check-file .ensures .0) (c .before .before .before .before .before .before .before .check-file .ensures .1 .1 .1 .0) _ _ _ (c .before .before .before .why .given .1) (c .report-refusal .ensures)
+
+pub report-file-spec : {M : Type 1} → statement M
+report-file-spec =
+    tie.close
+    (tie.spec
+    slice-aggregate-check-file
+    slice-aggregate-check-file-2
+    check-file-requires
+    enum-known-size
+    enum-known-why
+    report-refusal-requires
+    returns
+    returns-2)

@@ -1,0 +1,38 @@
+// What the program check prints for a launch file: the report of its run, or of its refusal.
+use spec::Refusal;
+use spec::Subject;
+use spec::Written;
+ghost use mathlib.Core.Path.{_≡_};
+ghost use Prim.Native.Nat.{_≤_};
+ghost use lib.ListN.{length};
+ghost use Rattle.spec.specs.Answers.{refusalNumber, refusalPlace};
+ghost use Rattle.spec.specs.Report.{refusalReport};
+ghost use Rattle.spec.specs.Entries.{over, checkPrints};
+
+fn report_refusal(why: Refusal, output: &mut [u8]) -> usize
+    requires { ⌜ 17408 ≤ length (now output) ⌝ }
+    ensures long { λ r. ⌜ r ≡ length (refusalReport (refusalNumber why) (refusalPlace why)) ⌝ }
+    ensures written { λ _. ⌜ now (output .exit) ≡ over (refusalReport (refusalNumber why) (refusalPlace why)) (now (output .entry)) ⌝ }
+    ensures fits { λ r. ⌜ r ≤ 17408 ⌝ }
+{
+    let subject = Subject::Refused(refusals::number(why), refusals::place(why));
+    let none: [u32; 0] = [];
+    match report::write_report(subject, &none, output) {
+        Written::Wrote(size) => size,
+        // A refusal's report has room.
+        Written::Refused(short) => 0,
+    }
+}
+
+pub fn report_file(file: &[u8], output: &mut [u8; 17408]) -> usize
+    ensures long { λ r. ⌜ r ≡ length (checkPrints (now (file .entry))) ⌝ }
+    ensures written { λ _. ⌜ now (output .exit) ≡ over (checkPrints (now (file .entry))) (now (output .entry)) ⌝ }
+    ensures fits { λ r. ⌜ r ≤ length (now (output .exit)) ⌝ }
+{
+    let mut cells: [u32; 1024] = [0; 1024];
+    let mut log: [u32; 2048] = [0; 2048];
+    match checkfile::check_file(file, &mut cells, &mut log, output) {
+        Written::Wrote(size) => size,
+        Written::Refused(why) => report_refusal(why, output),
+    }
+}
