@@ -36,6 +36,7 @@ fn run_launch(
     ensures { λ r. ⌜ Reported (now (table .entry)) threads limit (now (words .entry)) (now (cells .entry)) (now (log .entry)) (now (output .entry)) r (now (cells .exit)) (now (log .exit)) (now (output .exit)) ⌝ }
 {
     let count = words.len();
+    let logged = 2 * count;
     place(words, cells);
     let outcome = run::run(
         table,
@@ -43,7 +44,7 @@ fn run_launch(
         threads,
         limit,
         &mut cells[..count],
-        &mut log[..2 * count],
+        &mut log[..logged],
     );
     report::write_report(Subject::Ran(outcome), &cells[..count], output)
 }

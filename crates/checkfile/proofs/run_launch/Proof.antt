@@ -8,35 +8,28 @@ use Rattle.checkfile.proofs.Running.{placed-length, reported}
 use Rattle.checkfile.proofs.run_launch.Statement.{statement}
 use Rattle.checkfile.proofs.run_launch.Tie as tie
 
--- src/lib.rt:39:5
+mul-logged : tie.Need-mul-logged
+mul-logged c = search needs
+
 place-requires : tie.Need-place-requires
 place-requires c κs = search needs
 
--- src/lib.rt:45:9
 slice-relend-prefix-run : tie.Need-slice-relend-prefix-run
 slice-relend-prefix-run c = search needs
 
--- src/lib.rt:45:9
 slice-aggregate-run : tie.Need-slice-aggregate-run
 slice-aggregate-run c =
     let s = c .before .before .before .before .before .before .before .before .before .before in
     front-length (length (s .args .words .now)) _ (omega (arith, placed-length _ _ _ _ _ _ _ _ (s .pre) _ (c .before .before .before .place .ensures), s .pre .fewCells, s .pre .cellsLent))
 
--- src/lib.rt:46:20
-mul-run : tie.Need-mul-run
-mul-run c = search needs
-
--- src/lib.rt:46:9
 slice-relend-prefix-run-2 : tie.Need-slice-relend-prefix-run-2
 slice-relend-prefix-run-2 c = search needs
 
--- src/lib.rt:46:9
 slice-aggregate-run-2 : tie.Need-slice-aggregate-run-2
 slice-aggregate-run-2 c =
     let s = c .before .before .before .before .before .before .before .before .before .before .before in
     front-length (2 * length (s .args .words .now)) _ (omega (arith, s .pre .fewCells, s .pre .logLent))
 
--- src/lib.rt:40:9
 run-requires : tie.Need-run-requires
 run-requires c κs =
     let s = c .before .before .before .before .before .before .before .before .before .before .before in
@@ -44,33 +37,26 @@ run-requires c κs =
     let log-front = front-length (2 * length (s .args .words .now)) (s .args .log .now) (omega (arith, s .pre .fewCells, s .pre .logLent)) in
     (s .pre .checked, s .pre .someThread, s .pre .fewThreads, s .pre .fewRuns, omega (arith, cells-front, log-front), omega (arith, cells-front, s .pre .fewCells))
 
--- src/lib.rt:48:49
 slice-reshare-prefix-write-report : tie.Need-slice-reshare-prefix-write-report
 slice-reshare-prefix-write-report c = search needs
 
--- src/lib.rt:48:49
 slice-aggregate-write-report : tie.Need-slice-aggregate-write-report
 slice-aggregate-write-report c =
     let s = c .before .before .before .before .before .before .before .before .before .before .before .before .before .before .before .before .before in
     front-length (length (s .args .words .now)) _ (omega (arith, c .before .before .before .before .cells2 .given .1, placed-length _ _ _ _ _ _ _ _ (s .pre) _ (c .before .before .before .before .before .before .before .before .before .before .place .ensures), s .pre .fewCells, s .pre .cellsLent))
 
--- src/lib.rt:48:5
 write-report-requires : tie.Need-write-report-requires
 write-report-requires c κs = search needs
 
--- src/lib.rt:25:1
 same-length : tie.Need-same-length
 same-length c = search needs
 
--- src/lib.rt:25:1
 same-length-2 : tie.Need-same-length-2
 same-length-2 c = search needs
 
--- src/lib.rt:25:1
 same-length-3 : tie.Need-same-length-3
 same-length-3 c = search needs
 
--- src/lib.rt:25:1
 returns : tie.Need-returns
 returns c =
     let s = c .before .before .before .before .before .before .before .before .before .before .before .before .before .before .before .before .before .before .before .before .before in
@@ -89,10 +75,10 @@ pub run-launch-spec : {M : Type 1} → statement M
 run-launch-spec =
     tie.close
     (tie.spec
+    mul-logged
     place-requires
     slice-relend-prefix-run
     slice-aggregate-run
-    mul-run
     slice-relend-prefix-run-2
     slice-aggregate-run-2
     run-requires
