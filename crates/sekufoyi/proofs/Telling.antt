@@ -1,0 +1,20 @@
+-- A bare launch's answer told in words. Assumes nothing.
+use mathlib.Core.Path.{_≡_, refl, sym, ap, _∙_}
+use mathlib.Core.List.{List, [], _∷_}
+use mathlib.Core.Bool.{true, false}
+use Prim.Native.Nat.{ℕ}
+use Rattle.spec.specs.declared.Outcome.{Outcome}
+use Rattle.spec.specs.declared.Refusal.{Refusal}
+use Rattle.spec.specs.declared.Answer.{Answer}
+use Rattle.spec.specs.declared.Answer.the-variants.{Refused, Ran}
+use Rattle.sekufoyi.specs.Codes.{refusalWords, outcomeWords, ranIn, outcomeIn, whyIn}
+
+module _ (answer told : Answer) (e : told ≡ answer) where
+  pub refusal-told : (why : Refusal) (ws : List ℕ) → told ≡ Refused why → ws ≡ refusalWords why
+      → (false ≡ ranIn answer) × ((0 ∷ 0 ∷ 0 ∷ 0 ∷ 0 ∷ 0 ∷ 0 ∷ 0 ∷ 0 ∷ [] ≡ outcomeIn answer) × (ws ≡ whyIn answer))
+  unfolding ranIn outcomeIn whyIn
+  refusal-told why ws q w = let same : Refused why ≡ answer = sym q ∙ e in (ap ranIn same, (ap outcomeIn same, w ∙ ap whyIn same))
+
+  pub run-told : (o : Outcome) (ws : List ℕ) → told ≡ Ran o → ws ≡ outcomeWords o → (true ≡ ranIn answer) × ((ws ≡ outcomeIn answer) × (0 ∷ 0 ∷ [] ≡ whyIn answer))
+  unfolding ranIn outcomeIn whyIn
+  run-told o ws q w = let same : Ran o ≡ answer = sym q ∙ e in (ap ranIn same, (w ∙ ap outcomeIn same, ap whyIn same))

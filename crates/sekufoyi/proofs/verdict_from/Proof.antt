@@ -1,0 +1,33 @@
+-- `sekufoyi::verdict_from` meets its contract. Assumes nothing.
+use borrow.Author.Tests.{eq-eqb, ne-eqb}
+use Rattle.sekufoyi.specs.Codes.{verdictFrom}
+use borrow.Author.Needs.{needs}
+use Rattle.sekufoyi.proofs.verdict_from.Statement.{statement}
+use Rattle.sekufoyi.proofs.verdict_from.Tie as tie
+
+returns : tie.Need-returns
+unfolding verdictFrom
+returns c = rw (eq-eqb _ 1 (c .if1 .taken))
+
+kind-from-requires : tie.Need-kind-from-requires
+kind-from-requires c κs = search needs
+
+returns-2 : tie.Need-returns-2
+unfolding verdictFrom
+returns-2 c = rw (ne-eqb _ 1 (c .before .before .if1 .left), eq-eqb _ 2 (c .before .if2 .taken), c .kind-from .ensures)
+
+returns-3 : tie.Need-returns-3
+unfolding verdictFrom
+returns-3 c = rw (ne-eqb _ 1 (c .before .before .if1 .left), ne-eqb _ 2 (c .before .if2 .left), eq-eqb _ 3 (c .if3 .taken))
+
+returns-4 : tie.Need-returns-4
+unfolding verdictFrom
+returns-4 c = rw (ne-eqb _ 1 (c .before .before .before .if1 .left), ne-eqb _ 2 (c .before .before .if2 .left), ne-eqb _ 3 (c .before .if3 .left), eq-eqb _ 4 (c .if4 .taken))
+
+returns-5 : tie.Need-returns-5
+unfolding verdictFrom
+returns-5 c = rw (ne-eqb _ 1 (c .before .before .before .if1 .left), ne-eqb _ 2 (c .before .before .if2 .left), ne-eqb _ 3 (c .before .if3 .left), ne-eqb _ 4 (c .if4 .left))
+
+pub verdict-from-spec : {M : Type 1} → statement M
+verdict-from-spec =
+    tie.close (tie.spec returns kind-from-requires returns-2 returns-3 returns-4 returns-5)

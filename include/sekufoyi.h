@@ -1,0 +1,63 @@
+/* The verified checker for barrier kernels, for C. Link libsekufoyi.a, which `rt staticlib sekufoyi` makes.
+ *
+ * Every function takes any numbers and any lengths, ends, and answers as the specification says. What C has to see to: a pointer is
+ * not NULL (where a length is 0 it may point anywhere), the bytes or words behind it are as many as its length says, and the
+ * buffers that a function writes overlap neither each other nor those that it reads. */
+#ifndef SEKUFOYI_H
+#define SEKUFOYI_H
+
+#include <stdbool.h>
+#include <stddef.h>
+#include <stdint.h>
+
+#ifdef __cplusplus
+extern "C" {
+#endif
+
+/* What sekufoyi_check_file is lent. */
+enum { SEKUFOYI_CELLS = 1024, SEKUFOYI_LOG = 2048, SEKUFOYI_OUTPUT = 17408 };
+
+/* The first word of an outcome. 0 is none of them. */
+enum {
+    SEKUFOYI_PASSED = 1,
+    SEKUFOYI_RACE = 2,
+    SEKUFOYI_OUTSIDE = 3,
+    SEKUFOYI_DIVERGED = 4,
+    SEKUFOYI_SPENT = 5
+};
+
+/* The words of an outcome. A word without meaning, such as the kind of a launch that passed, is 0. */
+enum {
+    SEKUFOYI_VERDICT,
+    SEKUFOYI_ROW,
+    SEKUFOYI_THREAD,
+    SEKUFOYI_OTHER,
+    SEKUFOYI_KIND, /* 1 rw, 2 wr, 3 ww */
+    SEKUFOYI_AT,
+    SEKUFOYI_ROWS,
+    SEKUFOYI_STEPS,
+    SEKUFOYI_BARRIERS
+};
+
+/* Checks a launch file and writes its report to the start of the output. Answers the report's length, and 0 where the file is
+ * refused: then refusal has the number and the place, and the other buffers are as they were. Otherwise refusal is 0, 0. */
+size_t sekufoyi_check_file(const uint8_t *file, size_t file_length, uint32_t *cells, size_t cells_length, uint32_t *log,
+                           size_t log_length, uint8_t *output, size_t output_length, uint32_t refusal[2]);
+
+/* Runs a kernel table over the lent cells. Answers true with the outcome, or false with the refusal; the one that does not apply
+ * is all zeros. */
+bool sekufoyi_bare_launch(const uint8_t *table, size_t table_length, uint32_t threads, uint32_t cell_count, uint32_t limit,
+                          uint32_t *cells, size_t cells_length, uint32_t *log, size_t log_length, uint32_t outcome[9],
+                          uint32_t refusal[2]);
+
+/* Writes the report of an outcome, or of a refusal, and answers its length, or 0 with a refusal as above. */
+size_t sekufoyi_write_report(const uint32_t outcome[9], const uint32_t *cells, size_t cells_length, uint8_t *output,
+                             size_t output_length, uint32_t refusal[2]);
+
+size_t sekufoyi_write_refusal(uint32_t number, uint32_t place, uint8_t *output, size_t output_length, uint32_t refusal[2]);
+
+#ifdef __cplusplus
+}
+#endif
+
+#endif

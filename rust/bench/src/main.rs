@@ -1,0 +1,103 @@
+//! `bench`: how fast the verified library is beside the independent checker, and how its cost grows.
+
+mod kernels;
+mod measure;
+
+use std::time::Duration;
+
+use measure::Best;
+
+const THREADS: [u32; 6] = [1, 2, 4, 8, 16, 32];
+/// The barrier loop: this many rows in each round, two of them the loop's.
+const ROUND: usize = 8;
+
+fn main() {
+    loops();
+    files();
+    threads();
+    cells();
+    barriers();
+}
+
+fn loops() {
+    heading("loops, 1,000,000 rows, 32 threads", "Mrows/s");
+    speed("arithmetic", &measure::bare(&kernels::arithmetic(), 32, 32));
+    speed(
+        "load and store",
+        &measure::bare(&kernels::load_store(), 32, 32),
+    );
+    speed("mixed", &measure::bare(&kernels::mixed(), 32, 32));
+    let barrier = kernels::barrier(ROUND);
+    speed("barrier, 32 cells", &measure::bare(&barrier, 32, 32));
+    speed("barrier, 1,024 cells", &measure::bare(&barrier, 32, 1_024));
+}
+
+fn files() {
+    let rows = kernels::largest();
+    heading("files, 256 rows, 1,024 cells of 10 digits", "us/file");
+    for (limit, repeats) in [(1, 50), (1_000_000, 1)] {
+        let best = measure::file(&rows, limit, repeats);
+        let micros = |time: Duration| time.as_secs_f64() * 1e6;
+        line(
+            &format!("limit {limit}"),
+            micros(best.ours),
+            micros(best.theirs),
+        );
+    }
+}
+
+fn threads() {
+    for (name, rows) in [
+        ("arithmetic", kernels::arithmetic()),
+        ("load and store", kernels::load_store()),
+        ("mixed", kernels::mixed()),
+    ] {
+        heading(&format!("threads, {name}"), "Mrows/s");
+        for threads in THREADS {
+            speed(
+                &count(threads, "thread"),
+                &measure::bare(&rows, threads, 32),
+            );
+        }
+    }
+}
+
+fn cells() {
+    heading(&format!("cells, a barrier every {ROUND} rows"), "Mrows/s");
+    for cells in [1, 32, 1_024] {
+        let best = measure::bare(&kernels::barrier(ROUND), 32, cells);
+        speed(&count(cells, "cell"), &best);
+    }
+}
+
+fn barriers() {
+    for cells in [32, 1_024] {
+        heading(&format!("barriers, {cells} cells"), "Mrows/s");
+        for every in [4, 16, 64] {
+            let best = measure::bare(&kernels::barrier(every), 32, cells);
+            speed(&format!("every {every} rows"), &best);
+        }
+    }
+}
+
+fn count(number: u32, of: &str) -> String {
+    let plural = if number == 1 { "" } else { "s" };
+    format!("{number} {of}{plural}")
+}
+
+/// Millions of rows in a second.
+fn speed(name: &str, best: &Best) {
+    let rate = |time: Duration| f64::from(best.rows) / time.as_secs_f64() / 1e6;
+    line(name, rate(best.ours), rate(best.theirs));
+}
+
+fn heading(name: &str, unit: &str) {
+    let (ours, theirs) = (format!("ours {unit}"), format!("theirs {unit}"));
+    println!("\n{name:<45}{ours:>14}{theirs:>16}{:>10}", "ratio");
+}
+
+/// The ratio is ours to theirs.
+fn line(name: &str, ours: f64, theirs: f64) {
+    let ratio = ours / theirs;
+    println!("  {name:<43}{ours:>14.2}{theirs:>16.2}{ratio:>10.2}");
+}

@@ -1,0 +1,99 @@
+//! One launch through both checkers, and the best time of each.
+
+use std::hint::black_box;
+use std::time::{Duration, Instant};
+
+use crate::kernels::Row;
+
+/// Times of each checker's best run, and the rows of one.
+pub(crate) struct Best {
+    pub ours: Duration,
+    pub theirs: Duration,
+    pub rows: u32,
+}
+
+const TIMES: u32 = 9;
+const LIMIT: u32 = 1_000_000;
+
+/// Both in turn, so that whatever else the machine does meets both; the first round only warms up.
+fn best(repeats: u32, mut ours: impl FnMut() -> u32, mut theirs: impl FnMut() -> u32) -> Best {
+    let rows = theirs();
+    assert_eq!(ours(), rows, "both run the same");
+    let mut best = Best {
+        ours: Duration::MAX,
+        theirs: Duration::MAX,
+        rows,
+    };
+    for _ in 0..TIMES {
+        best.ours = best.ours.min(time(repeats, &mut ours));
+        best.theirs = best.theirs.min(time(repeats, &mut theirs));
+    }
+    best
+}
+
+/// The mean of some repeats, where a single one is too short to time.
+fn time(repeats: u32, run: &mut impl FnMut() -> u32) -> Duration {
+    let start = Instant::now();
+    for _ in 0..repeats {
+        black_box(run());
+    }
+    start.elapsed() / repeats
+}
+
+/// A bare launch of a million rows.
+pub(crate) fn bare(rows: &[Row], threads: u32, cells: u32) -> Best {
+    let table = rows.concat();
+    let mut lent_cells = vec![0; cells as usize];
+    let mut lent_log = vec![0; 2 * cells as usize];
+    let (mut our_cells, mut our_log) = (lent_cells.clone(), lent_log.clone());
+    best(
+        1,
+        || {
+            let (table, cells_lent, log) = (black_box(&table), &mut our_cells, &mut our_log);
+            let outcome = sekufoyi::bare_launch(table, threads, cells, LIMIT, cells_lent, log);
+            outcome.expect("a sound launch").rows
+        },
+        || {
+            let (table, cells_lent, log) = (black_box(&table), &mut lent_cells, &mut lent_log);
+            let outcome = checker::bare_launch(table, threads, cells, LIMIT, cells_lent, log);
+            outcome.expect("a sound launch").rows
+        },
+    )
+}
+
+/// A launch file of the largest size, with words of ten digits, through the whole-file entry.
+pub(crate) fn file(rows: &[Row], limit: u32, repeats: u32) -> Best {
+    let file = launch_file(rows, limit);
+    let (mut cells, mut log) = (vec![0; checker::LENT_CELLS], vec![0; checker::LENT_LOG]);
+    let mut output = vec![0; checker::REPORT_ROOM];
+    let (mut our_cells, mut our_log) = (cells.clone(), log.clone());
+    let mut our_output = output.clone();
+    let measured = best(
+        repeats,
+        || {
+            let (cells, log, output) = (&mut our_cells, &mut our_log, &mut our_output);
+            sekufoyi::check_file(black_box(&file), cells, log, output).expect("a sound file");
+            limit
+        },
+        || {
+            let (cells, log, output) = (&mut cells, &mut log, &mut output);
+            checker::check_file(black_box(&file), cells, log, output).expect("a sound file");
+            limit
+        },
+    );
+    assert_eq!(our_output, output, "the same report");
+    measured
+}
+
+fn launch_file(rows: &[Row], limit: u32) -> Vec<u8> {
+    let count = rows.len();
+    let mut text = format!("kernel=1\nthreads=32\ncells=1024\nlimit={limit}\nrows={count}\n");
+    for [op, d, a, b] in rows {
+        text += &format!("row={op},{d},{a},{b}\n");
+    }
+    for cell in 0..1_024 {
+        text += &format!("cell={}\n", u32::MAX - cell);
+    }
+    text += "end=kernel\n";
+    text.into_bytes()
+}

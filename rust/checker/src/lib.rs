@@ -1,0 +1,83 @@
+//! A checker of barrier kernels in lock step, written from document 01 and its
+//! readings alone. Every entry answers every input: none of them panics.
+
+mod file;
+mod limits;
+mod lock_step;
+mod memory;
+mod registers;
+mod report;
+mod table;
+mod verdict;
+
+pub use file::{parse_file, Launch};
+pub use limits::*;
+pub use report::{write_report, Subject};
+pub use table::op;
+pub use verdict::{AccessKind, Outcome, Verdict};
+
+use memory::Memory;
+
+/// A bare launch: refusals 1, 2, 8, 9, 10, rows, then 20, 21. The lent cells
+/// hold the launch's cells and keep what the run leaves; a refusal changes no
+/// buffer.
+pub fn bare_launch(
+    table: &[u8],
+    threads: u32,
+    cells: u32,
+    limit: u32,
+    lent_cells: &mut [u32],
+    lent_log: &mut [u32],
+) -> Result<Outcome, Refusal> {
+    observed_launch(table, threads, cells, limit, lent_cells, lent_log, |_| {})
+}
+
+/// As [`bare_launch`]; `at_barrier` sees the cells just before each counted
+/// barrier.
+pub fn observed_launch(
+    table: &[u8],
+    threads: u32,
+    cells: u32,
+    limit: u32,
+    lent_cells: &mut [u32],
+    lent_log: &mut [u32],
+    at_barrier: impl FnMut(&[u32]),
+) -> Result<Outcome, Refusal> {
+    Refusal::unless(table.len().is_multiple_of(4), number::TABLE_LENGTH, 0)?;
+    check_rows(table.len() / 4, 0)?;
+    check_threads(threads, 0)?;
+    check_cells(cells, 0)?;
+    check_limit(limit, 0)?;
+    let program = table::decode(table)?;
+    let cells = cells as usize;
+    Refusal::unless(lent_cells.len() == cells, number::LENT_CELLS, 0)?;
+    Refusal::unless(lent_log.len() == 2 * cells, number::LENT_LOG, 0)?;
+    let mut memory = Memory::new(lent_cells, lent_log);
+    Ok(lock_step::run(
+        &program,
+        threads,
+        limit,
+        &mut memory,
+        at_barrier,
+    ))
+}
+
+/// The whole-file entry: the input's refusals, then 20, 21, 24. Runs the
+/// launch in the first words of the lent buffers, writes its report to the
+/// start of `out` and gives the report's length. A refusal changes no buffer.
+pub fn check_file(
+    file: &[u8],
+    lent_cells: &mut [u32],
+    lent_log: &mut [u32],
+    out: &mut [u8],
+) -> Result<usize, Refusal> {
+    let (launch, program) = file::parse_and_decode(file)?;
+    Refusal::unless(lent_cells.len() == LENT_CELLS, number::LENT_CELLS, 0)?;
+    Refusal::unless(lent_log.len() == LENT_LOG, number::LENT_LOG, 0)?;
+    Refusal::unless(out.len() >= REPORT_ROOM, number::FILE_OUTPUT, 0)?;
+    let cells = &mut lent_cells[..launch.cells.len()];
+    cells.copy_from_slice(&launch.cells);
+    let mut memory = Memory::new(cells, lent_log);
+    let outcome = lock_step::run(&program, launch.threads, launch.limit, &mut memory, |_| {});
+    write_report(Subject::Ran(outcome), memory.cells(), out)
+}

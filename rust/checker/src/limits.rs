@@ -1,0 +1,101 @@
+//! The limits of document 01, and the refusals of "Turned back".
+
+/// Threads of a group: 1 to this many.
+pub const MAX_THREADS: u32 = 32;
+/// Cells of a launch: 1 to this many.
+pub const MAX_CELLS: u32 = 1_024;
+/// Rows of a table: 0 to this many.
+pub const MAX_ROWS: usize = 256;
+/// Constructs open at once: 0 to this many.
+pub const MAX_NESTING: usize = 8;
+/// Rows run: the limit is 0 to this.
+pub const MAX_LIMIT: u32 = 1_000_000;
+/// Bytes of a launch file.
+pub const MAX_FILE: usize = 32_768;
+/// Words of cells that the whole-file entry is lent.
+pub const LENT_CELLS: usize = MAX_CELLS as usize;
+/// Words of log that the whole-file entry is lent.
+pub const LENT_LOG: usize = 2 * LENT_CELLS;
+/// Bytes of output that the whole-file entry needs at least.
+pub const REPORT_ROOM: usize = 17_408;
+
+/// The refusal numbers of "Turned back", by name.
+pub mod number {
+    /// Table length no multiple of 4.
+    pub const TABLE_LENGTH: u32 = 1;
+    /// Over 256 rows.
+    pub const ROWS: u32 = 2;
+    /// Unknown op.
+    pub const UNKNOWN_OP: u32 = 3;
+    /// Register above 15, or an unused byte that is not 0.
+    pub const OPERAND: u32 = 4;
+    /// ELSE or an end that doesn't fit the innermost open construct.
+    pub const MISFIT: u32 = 5;
+    /// A ninth nesting.
+    pub const NESTING: u32 = 6;
+    /// Construct left open.
+    pub const LEFT_OPEN: u32 = 7;
+    /// Threads out of range.
+    pub const THREADS: u32 = 8;
+    /// Cells out of range.
+    pub const CELLS: u32 = 9;
+    /// Limit out of range.
+    pub const LIMIT: u32 = 10;
+    /// A line that isn't the one due.
+    pub const LINE: u32 = 11;
+    /// File too long.
+    pub const FILE_LENGTH: u32 = 12;
+    /// Lent cells not as many as said.
+    pub const LENT_CELLS: u32 = 20;
+    /// Lent log not twice the cells.
+    pub const LENT_LOG: u32 = 21;
+    /// Report buffer too short.
+    pub const REPORT_BUFFER: u32 = 22;
+    /// Cell slice of a report empty or over 1,024.
+    pub const REPORT_CELLS: u32 = 23;
+    /// Whole-file output too short.
+    pub const FILE_OUTPUT: u32 = 24;
+}
+
+/// An input or a state that is turned back, and where.
+#[derive(Clone, Copy, Debug, PartialEq, Eq, Hash, PartialOrd, Ord)]
+pub struct Refusal {
+    /// Which refusal, one of [`number`].
+    pub number: u32,
+    /// The line from 1, the row from 0, the length needed, or 0.
+    pub place: u32,
+}
+
+impl Refusal {
+    pub(crate) const fn new(number: u32, place: u32) -> Self {
+        Self { number, place }
+    }
+
+    /// `Err` of this refusal unless `fine`.
+    pub(crate) const fn unless(fine: bool, number: u32, place: u32) -> Result<(), Self> {
+        if fine {
+            Ok(())
+        } else {
+            Err(Self::new(number, place))
+        }
+    }
+}
+
+/// Refuses threads, cells or a limit out of range, each with its own place.
+pub(crate) fn check_threads(threads: u32, place: u32) -> Result<(), Refusal> {
+    let fine = (1..=MAX_THREADS).contains(&threads);
+    Refusal::unless(fine, number::THREADS, place)
+}
+
+pub(crate) fn check_cells(cells: u32, place: u32) -> Result<(), Refusal> {
+    let fine = (1..=MAX_CELLS).contains(&cells);
+    Refusal::unless(fine, number::CELLS, place)
+}
+
+pub(crate) fn check_limit(limit: u32, place: u32) -> Result<(), Refusal> {
+    Refusal::unless(limit <= MAX_LIMIT, number::LIMIT, place)
+}
+
+pub(crate) fn check_rows(rows: usize, place: u32) -> Result<(), Refusal> {
+    Refusal::unless(rows <= MAX_ROWS, number::ROWS, place)
+}

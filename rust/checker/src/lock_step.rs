@@ -1,0 +1,189 @@
+//! "The lock-step run": predicated execution of one row at a time.
+
+use crate::limits::MAX_NESTING;
+use crate::memory::{Memory, Stop};
+use crate::registers::{Enabled, Registers};
+use crate::table::{Instr, Program};
+use crate::verdict::{Outcome, Verdict};
+
+/// Runs a checked program for 1 to 32 threads. `at_barrier` sees the cells
+/// just before each counted barrier.
+#[inline(never)] // Its loop needs the machine's registers for itself.
+pub(crate) fn run(
+    program: &Program,
+    threads: u32,
+    limit: u32,
+    memory: &mut Memory,
+    mut at_barrier: impl FnMut(&[u32]),
+) -> Outcome {
+    let code = program.code();
+    let mut registers = Registers::new(threads);
+    let mut enabled = Enabled::all(threads);
+    let mut saved = [0; MAX_NESTING];
+    let mut from_end = false;
+    let (mut row, mut rows, mut steps, mut barriers) = (0, 0, 0, 0);
+
+    let verdict = loop {
+        // The table's end is looked at before the limit.
+        let Some(&instr) = code.get(row) else {
+            break Verdict::Passed;
+        };
+        if rows == limit {
+            break Verdict::Spent { row: row as u32 };
+        }
+        let mut next = row + 1;
+        let mut stepping = enabled.count();
+        match instr {
+            Instr::Set { d, value } => registers.fill(&enabled, d, |_| u32::from(value)),
+            Instr::Tid { d } => registers.fill(&enabled, d, |thread| thread),
+            Instr::Count { d } => registers.fill(&enabled, d, |_| threads),
+            Instr::Add(r) => registers.binary(&enabled, r, u32::wrapping_add),
+            Instr::Sub(r) => registers.binary(&enabled, r, u32::wrapping_sub),
+            Instr::Mul(r) => registers.binary(&enabled, r, u32::wrapping_mul),
+            Instr::And(r) => registers.binary(&enabled, r, |x, y| x & y),
+            Instr::Or(r) => registers.binary(&enabled, r, |x, y| x | y),
+            Instr::Xor(r) => registers.binary(&enabled, r, |x, y| x ^ y),
+            Instr::Shr(r) => registers.binary(&enabled, r, shr),
+            Instr::Sar(r) => registers.binary(&enabled, r, sar),
+            Instr::Eq(r) => registers.binary(&enabled, r, |x, y| u32::from(x == y)),
+            Instr::Lt(r) => registers.binary(&enabled, r, |x, y| u32::from(x < y)),
+            Instr::Slt(r) => registers.binary(&enabled, r, slt),
+            Instr::Load { d, a } => {
+                if let Err(stop) = memory.load(&mut registers, &enabled, d, a) {
+                    steps += steps_below(stop.thread, &enabled);
+                    break stopped(row, stop);
+                }
+            }
+            Instr::Store { d, a } => {
+                if let Err(stop) = memory.store(&registers, &enabled, d, a) {
+                    steps += steps_below(stop.thread, &enabled);
+                    break stopped(row, stop);
+                }
+            }
+            Instr::If { a, level } => {
+                saved[slot(level)] = enabled.mask();
+                enabled.set(registers.truth(&enabled, a));
+            }
+            // Inner constructs have restored their masks, so the enabled
+            // threads are those that the IF enabled.
+            Instr::Else { level } => enabled.set(saved[slot(level)] & !enabled.mask()),
+            Instr::EndIf { level } => {
+                enabled.set(saved[slot(level)]);
+                stepping = enabled.count();
+            }
+            Instr::While { a, level, exit } => {
+                if !std::mem::take(&mut from_end) {
+                    saved[slot(level)] = enabled.mask();
+                }
+                let remaining = registers.truth(&enabled, a);
+                if remaining != 0 {
+                    enabled.set(remaining);
+                } else {
+                    enabled.set(saved[slot(level)]);
+                    next = usize::from(exit);
+                }
+            }
+            Instr::EndWhile { head } => {
+                from_end = true;
+                next = usize::from(head);
+            }
+            Instr::Barrier => {
+                stepping = 0;
+                if enabled.is_all() {
+                    at_barrier(memory.cells());
+                    memory.clear_log();
+                    barriers += 1;
+                } else if enabled.mask() != 0 {
+                    break diverged(row, &enabled);
+                }
+            }
+        }
+        steps += stepping;
+        rows += 1;
+        row = next;
+    };
+    Outcome {
+        verdict,
+        rows,
+        steps,
+        barriers,
+    }
+}
+
+/// The saved mask's slot. The mask of 7 only spares the bounds check.
+#[inline(always)]
+const fn slot(level: u8) -> usize {
+    level as usize % MAX_NESTING
+}
+
+/// A shift of 32 or more gives 0.
+#[inline(always)]
+fn shr(x: u32, y: u32) -> u32 {
+    x.checked_shr(y).unwrap_or(0)
+}
+
+/// A shift of 32 or more gives all copies of the top bit, as does one of 31.
+#[inline(always)]
+fn sar(x: u32, y: u32) -> u32 {
+    (x.cast_signed() >> y.min(31)).cast_unsigned()
+}
+
+#[inline(always)]
+fn slt(x: u32, y: u32) -> u32 {
+    u32::from(x.cast_signed() < y.cast_signed())
+}
+
+/// Steps of a stopped row: its enabled threads below the stopping one.
+#[cold]
+fn steps_below(thread: u32, enabled: &Enabled) -> u32 {
+    (enabled.mask() & ((1 << thread) - 1)).count_ones()
+}
+
+#[cold]
+fn stopped(row: usize, stop: Stop) -> Verdict {
+    let row = row as u32;
+    let Stop { thread, at, .. } = stop;
+    match stop.conflict {
+        None => Verdict::Outside { row, thread, at },
+        Some((other, kind)) => Verdict::Race {
+            row,
+            thread,
+            other,
+            kind,
+            at,
+        },
+    }
+}
+
+#[cold]
+fn diverged(row: usize, enabled: &Enabled) -> Verdict {
+    Verdict::Diverged {
+        row: row as u32,
+        thread: enabled.mask().trailing_zeros(),
+        other: enabled.disabled().trailing_zeros(),
+    }
+}
+
+#[cfg(test)]
+mod tests {
+    use super::*;
+
+    #[test]
+    fn shifts_at_their_edges() {
+        let top = 1 << 31;
+        assert_eq!([31, 32, 33, u32::MAX].map(|y| shr(top, y)), [1, 0, 0, 0]);
+        assert_eq!(
+            [1, 31, 32, u32::MAX].map(|y| sar(top, y)),
+            [3 << 30, u32::MAX, u32::MAX, u32::MAX]
+        );
+        assert_eq!([30, 31, 32].map(|y| sar(top - 1, y)), [1, 0, 0]);
+    }
+
+    #[test]
+    fn slt_is_exact_at_both_ends() {
+        let (least, most) = (1 << 31, (1 << 31) - 1);
+        assert_eq!((slt(least, most), slt(most, least)), (1, 0));
+        assert_eq!((slt(u32::MAX, 0), slt(0, u32::MAX)), (1, 0));
+        assert_eq!((slt(least, least), slt(most, most)), (0, 0));
+    }
+}

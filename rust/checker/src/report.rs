@@ -1,0 +1,200 @@
+//! "The report": lines written one behind the other into the caller's buffer.
+
+use crate::limits::{number, Refusal, MAX_CELLS};
+use crate::verdict::{AccessKind, Outcome, Verdict};
+
+/// What a report is about.
+#[derive(Clone, Copy, Debug, PartialEq, Eq)]
+pub enum Subject {
+    /// A launch that ran.
+    Ran(Outcome),
+    /// A launch that was turned back.
+    Refused(Refusal),
+}
+
+/// Writes the report of `subject` to the start of `out` and gives its length.
+/// The cells belong to a launch that ran and are not looked at otherwise.
+pub fn write_report(subject: Subject, cells: &[u32], out: &mut [u8]) -> Result<usize, Refusal> {
+    if let Subject::Ran(_) = subject {
+        let fine = (1..=MAX_CELLS as usize).contains(&cells.len());
+        Refusal::unless(fine, number::REPORT_CELLS, 0)?;
+    }
+    let mut needed = 0;
+    each_line(subject, cells, |key, value| needed += line_len(key, value));
+    let short = Refusal::new(number::REPORT_BUFFER, needed as u32);
+    let mut rest = out.get_mut(..needed).ok_or(short)?;
+    each_line(subject, cells, |key, value| {
+        rest = write_line(std::mem::take(&mut rest), key, value);
+    });
+    Ok(needed)
+}
+
+/// A line's value.
+#[derive(Clone, Copy)]
+enum Value {
+    Word(&'static str),
+    Number(u32),
+}
+
+/// A line without meaning.
+const HYPHEN: Value = Value::Word("-");
+
+/// A verdict's lines from `verdict=` to `at=`.
+struct Head {
+    verdict: &'static str,
+    row: Value,
+    thread: Value,
+    other: Value,
+    kind: Value,
+    at: Value,
+}
+
+impl Head {
+    const fn bare(verdict: &'static str) -> Self {
+        Self {
+            verdict,
+            row: HYPHEN,
+            thread: HYPHEN,
+            other: HYPHEN,
+            kind: HYPHEN,
+            at: HYPHEN,
+        }
+    }
+
+    const fn of(verdict: Verdict) -> Self {
+        match verdict {
+            Verdict::Passed => Self::bare("passed"),
+            Verdict::Race {
+                row,
+                thread,
+                other,
+                kind,
+                at,
+            } => Self {
+                verdict: "race",
+                row: Value::Number(row),
+                thread: Value::Number(thread),
+                other: Value::Number(other),
+                kind: Value::Word(kind_word(kind)),
+                at: Value::Number(at),
+            },
+            Verdict::Outside { row, thread, at } => Self {
+                row: Value::Number(row),
+                thread: Value::Number(thread),
+                at: Value::Number(at),
+                ..Self::bare("outside")
+            },
+            Verdict::Diverged { row, thread, other } => Self {
+                row: Value::Number(row),
+                thread: Value::Number(thread),
+                other: Value::Number(other),
+                ..Self::bare("diverged")
+            },
+            Verdict::Spent { row } => Self {
+                row: Value::Number(row),
+                ..Self::bare("spent")
+            },
+        }
+    }
+}
+
+const fn kind_word(kind: AccessKind) -> &'static str {
+    match kind {
+        AccessKind::Rw => "rw",
+        AccessKind::Wr => "wr",
+        AccessKind::Ww => "ww",
+    }
+}
+
+/// Gives every line of a report in order, for measuring and for writing.
+fn each_line(subject: Subject, cells: &[u32], mut line: impl FnMut(&'static str, Value)) {
+    match subject {
+        Subject::Ran(outcome) => {
+            let head = Head::of(outcome.verdict);
+            line("verdict", Value::Word(head.verdict));
+            line("row", head.row);
+            line("thread", head.thread);
+            line("other", head.other);
+            line("kind", head.kind);
+            line("at", head.at);
+            line("rows", Value::Number(outcome.rows));
+            line("steps", Value::Number(outcome.steps));
+            line("barriers", Value::Number(outcome.barriers));
+            for &cell in cells {
+                line("cell", Value::Number(cell));
+            }
+        }
+        Subject::Refused(refusal) => {
+            line("refused", Value::Number(refusal.number));
+            line("place", Value::Number(refusal.place));
+        }
+    }
+    line("end", Value::Word("report"));
+}
+
+/// Key, `=`, value and line end.
+fn line_len(key: &str, value: Value) -> usize {
+    let value_len = match value {
+        Value::Word(word) => word.len(),
+        Value::Number(number) => Digits::of(number).as_bytes().len(),
+    };
+    key.len() + 1 + value_len + 1
+}
+
+/// Writes a line at the start of `out` and gives the part behind it.
+fn write_line<'a>(out: &'a mut [u8], key: &str, value: Value) -> &'a mut [u8] {
+    let out = write_bytes(out, key.as_bytes());
+    let out = write_bytes(out, b"=");
+    let out = match value {
+        Value::Word(word) => write_bytes(out, word.as_bytes()),
+        Value::Number(number) => write_bytes(out, Digits::of(number).as_bytes()),
+    };
+    write_bytes(out, b"\n")
+}
+
+/// The buffer has been measured, so it is never too short here.
+fn write_bytes<'a>(out: &'a mut [u8], bytes: &[u8]) -> &'a mut [u8] {
+    match out.split_at_mut_checked(bytes.len()) {
+        Some((here, behind)) => {
+            here.copy_from_slice(bytes);
+            behind
+        }
+        None => &mut [],
+    }
+}
+
+/// A number in base ten, right-aligned.
+struct Digits {
+    text: [u8; 10],
+    start: usize,
+}
+
+impl Digits {
+    fn of(mut number: u32) -> Self {
+        let mut text = [b'0'; 10];
+        let mut start = text.len() - 1;
+        text[start] += (number % 10) as u8;
+        while number >= 10 {
+            number /= 10;
+            start -= 1;
+            text[start] += (number % 10) as u8;
+        }
+        Self { text, start }
+    }
+
+    fn as_bytes(&self) -> &[u8] {
+        &self.text[self.start..]
+    }
+}
+
+#[cfg(test)]
+mod tests {
+    use super::*;
+
+    #[test]
+    fn digits_are_those_of_the_standard_library() {
+        for number in [0, 1, 9, 10, 99, 100, 4_294_967_295, 1_000_000_000] {
+            assert_eq!(Digits::of(number).as_bytes(), number.to_string().as_bytes());
+        }
+    }
+}

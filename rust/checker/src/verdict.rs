@@ -1,0 +1,69 @@
+//! What a launch came to.
+
+/// How two accesses to one cell conflict: the other's first, then the
+/// acting thread's.
+#[derive(Clone, Copy, Debug, PartialEq, Eq, Hash, PartialOrd, Ord)]
+pub enum AccessKind {
+    /// The other only read, the thread stores.
+    Rw,
+    /// The other wrote, the thread loads.
+    Wr,
+    /// The other wrote, the thread stores.
+    Ww,
+}
+
+/// How the run ended.
+#[derive(Clone, Copy, Debug, PartialEq, Eq, Hash)]
+pub enum Verdict {
+    /// The table's end was reached.
+    Passed,
+    /// Two threads met at a cell.
+    Race {
+        /// Where the run stopped.
+        row: u32,
+        /// The acting thread.
+        thread: u32,
+        /// The lowest conflicting thread.
+        other: u32,
+        /// How they conflict.
+        kind: AccessKind,
+        /// The cell.
+        at: u32,
+    },
+    /// An access outside the cells.
+    Outside {
+        /// Where the run stopped.
+        row: u32,
+        /// The acting thread.
+        thread: u32,
+        /// The number used.
+        at: u32,
+    },
+    /// A barrier that some, but not all, threads reached.
+    Diverged {
+        /// Where the run stopped.
+        row: u32,
+        /// The lowest enabled thread.
+        thread: u32,
+        /// The lowest thread not enabled.
+        other: u32,
+    },
+    /// As many rows run as the limit allows.
+    Spent {
+        /// The row due.
+        row: u32,
+    },
+}
+
+/// A verdict with the counts of its run.
+#[derive(Clone, Copy, Debug, PartialEq, Eq, Hash)]
+pub struct Outcome {
+    /// How the run ended.
+    pub verdict: Verdict,
+    /// Rows finished.
+    pub rows: u32,
+    /// Threads' steps made.
+    pub steps: u32,
+    /// Barriers that all threads passed.
+    pub barriers: u32,
+}

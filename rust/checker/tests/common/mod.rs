@@ -1,0 +1,94 @@
+//! Helpers of the tests: launches from rows, files from launches.
+#![allow(dead_code)]
+
+use checker::{bare_launch, check_file, Outcome, Refusal, LENT_CELLS, LENT_LOG, REPORT_ROOM};
+
+pub type Row = [u8; 4];
+
+/// P1's file.
+pub const P1: &str = "kernel=1\nthreads=2\ncells=3\nlimit=100\nrows=7\n\
+    row=2,0,0,0\nrow=1,1,1,0\nrow=4,2,0,1\nrow=16,3,2,0\nrow=16,4,0,0\nrow=4,3,3,4\nrow=17,0,3,0\n\
+    cell=1\ncell=1\ncell=1\nend=kernel\n";
+
+pub fn set(d: u8, value: u16) -> Row {
+    let [a, b] = value.to_le_bytes();
+    [1, d, a, b]
+}
+pub fn tid(d: u8) -> Row {
+    [2, d, 0, 0]
+}
+pub fn add(d: u8, a: u8, b: u8) -> Row {
+    [4, d, a, b]
+}
+pub fn sub(d: u8, a: u8, b: u8) -> Row {
+    [5, d, a, b]
+}
+pub fn load(d: u8, a: u8) -> Row {
+    [16, d, a, 0]
+}
+pub fn store(d: u8, a: u8) -> Row {
+    [17, d, a, 0]
+}
+pub fn if_(a: u8) -> Row {
+    [32, 0, a, 0]
+}
+pub fn while_(a: u8) -> Row {
+    [35, 0, a, 0]
+}
+pub const ELSE: Row = [33, 0, 0, 0];
+pub const ENDIF: Row = [34, 0, 0, 0];
+pub const ENDWHILE: Row = [36, 0, 0, 0];
+pub const BARRIER: Row = [37, 0, 0, 0];
+
+/// Runs a bare launch with buffers that fit; gives the cells as well.
+pub fn run(rows: &[Row], threads: u32, cells: &[u32], limit: u32) -> (Outcome, Vec<u32>) {
+    let mut after = cells.to_vec();
+    let mut log = vec![7; 2 * cells.len()];
+    let count = cells.len() as u32;
+    let outcome = bare_launch(&rows.concat(), threads, count, limit, &mut after, &mut log);
+    (outcome.expect("a launch that isn't refused"), after)
+}
+
+/// The refusal of a bare table, which must leave the buffers alone.
+pub fn refused(rows: &[Row]) -> Refusal {
+    let (mut cells, mut log) = ([5; 2], [6; 4]);
+    let refusal = bare_launch(&rows.concat(), 2, 2, 9, &mut cells, &mut log).unwrap_err();
+    assert_eq!((cells, log), ([5; 2], [6; 4]));
+    refusal
+}
+
+/// The whole-file entry with buffers as it wants them; gives the report.
+pub fn check(file: &[u8]) -> Result<String, Refusal> {
+    let (mut cells, mut log) = (vec![5; LENT_CELLS], vec![6; LENT_LOG]);
+    let mut out = vec![b'?'; REPORT_ROOM];
+    let result = check_file(file, &mut cells, &mut log, &mut out);
+    match result {
+        Ok(len) => {
+            assert!(out[len..].iter().all(|&byte| byte == b'?'));
+            Ok(String::from_utf8(out[..len].to_vec()).unwrap())
+        }
+        Err(refusal) => {
+            let kept = cells.iter().all(|&word| word == 5) && log.iter().all(|&word| word == 6);
+            assert!(kept && out.iter().all(|&byte| byte == b'?'));
+            Err(refusal)
+        }
+    }
+}
+
+/// `(number, place)` of a refused file.
+pub fn turned_back(file: &str) -> (u32, u32) {
+    let refusal = check(file.as_bytes()).unwrap_err();
+    (refusal.number, refusal.place)
+}
+
+/// A file of these rows, for two threads, cells 0 and limit 9.
+pub fn file(rows: &[Row]) -> String {
+    let mut text = format!(
+        "kernel=1\nthreads=2\ncells=1\nlimit=9\nrows={}\n",
+        rows.len()
+    );
+    for [op, d, a, b] in rows {
+        text += &format!("row={op},{d},{a},{b}\n");
+    }
+    text + "cell=0\nend=kernel\n"
+}

@@ -1,0 +1,278 @@
+//! "Turned back": each number with its place, and their order.
+
+mod common;
+
+use checker::{bare_launch, check_file, Refusal};
+use common::*;
+
+fn refusal(number: u32, place: u32) -> Refusal {
+    Refusal { number, place }
+}
+
+/// P1's file with line `line` (from 1) replaced.
+fn p1_with(line: usize, text: &str) -> String {
+    let mut lines: Vec<&str> = P1.lines().collect();
+    lines[line - 1] = text;
+    lines.join("\n") + "\n"
+}
+
+fn bare(table: &[u8], threads: u32, cells: u32, limit: u32) -> Refusal {
+    bare_launch(table, threads, cells, limit, &mut [], &mut []).unwrap_err()
+}
+
+#[test]
+fn bare_launches_in_order() {
+    let bad_row = [9; 1_032];
+    assert_eq!(bare(&bad_row[..1_031], 0, 0, u32::MAX), refusal(1, 0));
+    assert_eq!(bare(&bad_row[..1_028], 0, 0, u32::MAX), refusal(2, 0));
+    assert_eq!(bare(&[99; 1_024], 0, 0, u32::MAX), refusal(8, 0));
+    assert_eq!(bare(&[99; 4], 33, 0, u32::MAX), refusal(8, 0));
+    assert_eq!(bare(&[99; 4], 32, 0, u32::MAX), refusal(9, 0));
+    assert_eq!(bare(&[99; 4], 1, 1_025, u32::MAX), refusal(9, 0));
+    assert_eq!(bare(&[99; 4], 1, 1_024, 1_000_001), refusal(10, 0));
+    assert_eq!(bare(&[99; 4], 1, 1, 1_000_000), refusal(3, 0));
+    assert_eq!(bare(&[], 1, 1, 0), refusal(20, 0));
+}
+
+#[test]
+fn lent_buffers_fit_exactly() {
+    for (cells, log, expected) in [
+        (1, 4, refusal(20, 0)),
+        (3, 3, refusal(20, 0)),
+        (2, 3, refusal(21, 0)),
+        (2, 5, refusal(21, 0)),
+        (2, 0, refusal(21, 0)),
+    ] {
+        let (mut lent_cells, mut lent_log) = (vec![5; cells], vec![6; log]);
+        let found = bare_launch(&[], 1, 2, 0, &mut lent_cells, &mut lent_log);
+        assert_eq!(found, Err(expected));
+        assert_eq!((lent_cells, lent_log), (vec![5; cells], vec![6; log]));
+    }
+}
+
+#[test]
+fn rows_3_unknown_op() {
+    for op in [0, 15, 18, 31, 38, 255] {
+        assert_eq!(refused(&[tid(0), [op, 255, 255, 255]]), refusal(3, 1));
+    }
+}
+
+#[test]
+fn rows_4_operands() {
+    let wrong: [Row; 21] = [
+        [1, 16, 0, 0],
+        [2, 16, 0, 0],
+        [2, 0, 1, 0],
+        [2, 0, 0, 1],
+        [3, 0, 1, 0],
+        [4, 16, 0, 0],
+        [9, 0, 16, 0],
+        [14, 0, 0, 16],
+        [16, 16, 0, 0],
+        [16, 0, 16, 0],
+        [16, 0, 0, 1],
+        [17, 0, 0, 1],
+        [32, 1, 0, 0],
+        [32, 0, 16, 0],
+        [32, 0, 0, 1],
+        [35, 1, 0, 0],
+        [33, 1, 0, 0],
+        [34, 0, 1, 0],
+        [36, 0, 0, 1],
+        [37, 1, 0, 0],
+        [37, 0, 0, 255],
+    ];
+    for row in wrong {
+        assert_eq!(refused(&[tid(15), row]), refusal(4, 1), "{row:?}");
+    }
+}
+
+#[test]
+fn rows_5_misfits() {
+    for row in [ELSE, ENDIF, ENDWHILE] {
+        assert_eq!(refused(&[row]), refusal(5, 0));
+        assert_eq!(refused(&[if_(0), ENDIF, row]), refusal(5, 2));
+    }
+    assert_eq!(refused(&[if_(0), ELSE, ELSE]), refusal(5, 2));
+    assert_eq!(refused(&[if_(0), ENDWHILE]), refusal(5, 1));
+    assert_eq!(refused(&[if_(0), ELSE, ENDWHILE]), refusal(5, 2));
+    assert_eq!(refused(&[while_(0), ELSE]), refusal(5, 1));
+    assert_eq!(refused(&[while_(0), ENDIF]), refusal(5, 1));
+    assert_eq!(refused(&[if_(0), while_(0), ENDIF]), refusal(5, 2));
+}
+
+#[test]
+fn rows_6_a_ninth_nesting() {
+    let mut rows = [if_(0), while_(0)].repeat(4);
+    rows.push(if_(0));
+    assert_eq!(refused(&rows), refusal(6, 8));
+    rows[8] = while_(0);
+    assert_eq!(refused(&rows), refusal(6, 8));
+    // Within a row 3, 4, 5, 6.
+    rows[8] = if_(16);
+    assert_eq!(refused(&rows), refusal(4, 8));
+    rows[8] = [99, 0, 16, 0];
+    assert_eq!(refused(&rows), refusal(3, 8));
+}
+
+#[test]
+fn rows_7_left_open() {
+    assert_eq!(refused(&[tid(0), if_(0)]), refusal(7, 1));
+    assert_eq!(refused(&[if_(0), tid(0), ELSE, tid(0)]), refusal(7, 0));
+    assert_eq!(refused(&[if_(0), while_(0), tid(0)]), refusal(7, 1));
+    assert_eq!(refused(&[while_(0), if_(0), ENDIF]), refusal(7, 0));
+    let eight = [while_(0)].repeat(8);
+    assert_eq!(refused(&eight), refusal(7, 7));
+    // 7 comes after every row's refusals.
+    assert_eq!(refused(&[if_(0), tid(0), [99; 4]]), refusal(3, 2));
+}
+
+#[test]
+fn files_12_too_long() {
+    let mut text = P1.to_string();
+    text += &"x".repeat(32_768 - text.len());
+    assert_eq!(turned_back(&text), (11, 17));
+    text.push('x');
+    assert_eq!(turned_back(&text), (12, 0));
+    assert_eq!(turned_back(&"\n".repeat(32_769)), (12, 0));
+}
+
+#[test]
+fn files_11_each_line_due() {
+    assert_eq!(turned_back(""), (11, 1));
+    let lines: Vec<&str> = P1.lines().collect();
+    for line in 1..=lines.len() {
+        let number = line as u32;
+        // Cut off before it, within it, and before its line end.
+        let before: String = lines[..line - 1].iter().map(|l| format!("{l}\n")).collect();
+        assert_eq!(turned_back(&before), (11, number));
+        assert_eq!(turned_back(&(before.clone() + "t")), (11, number));
+        assert_eq!(turned_back(&(before + lines[line - 1])), (11, number));
+        // Replaced, and with bytes around its value.
+        for text in ["", "=", "x", "kernel", "kernel=2", "row=1,1,1"] {
+            assert_eq!(turned_back(&p1_with(line, text)), (11, number));
+        }
+        for text in [
+            format!("{} ", lines[line - 1]),
+            format!(" {}", lines[line - 1]),
+        ] {
+            assert_eq!(turned_back(&p1_with(line, &text)), (11, number));
+        }
+        assert_eq!(
+            turned_back(&p1_with(line, &format!("{}\r", lines[line - 1]))),
+            (11, number)
+        );
+    }
+}
+
+#[test]
+fn files_11_behind_the_end() {
+    assert_eq!(turned_back(&format!("{P1}\n")), (11, 17));
+    assert_eq!(turned_back(&format!("{P1}x")), (11, 17));
+    assert_eq!(turned_back(&format!("{P1}\0")), (11, 17));
+    assert_eq!(turned_back(&p1_with(16, "end=kernelx")), (11, 16));
+}
+
+#[test]
+fn files_11_numbers() {
+    for (line, key) in [
+        (2, "threads"),
+        (3, "cells"),
+        (4, "limit"),
+        (5, "rows"),
+        (13, "cell"),
+    ] {
+        for value in [
+            "",
+            "01",
+            "00",
+            "+1",
+            "-1",
+            "4294967296",
+            "99999999999999999999",
+            "1,1",
+            "0x1",
+        ] {
+            let text = p1_with(line, &format!("{key}={value}"));
+            assert_eq!(turned_back(&text), (11, line as u32), "{key}={value}");
+        }
+    }
+    for value in [
+        "256,0,0,0",
+        "2,0,0,00",
+        "2,0,0",
+        "2,0,0,0,0",
+        "2,0,0,",
+        "2,,0,0",
+        "2;0;0;0",
+    ] {
+        assert_eq!(turned_back(&p1_with(6, &format!("row={value}"))), (11, 6));
+    }
+}
+
+#[test]
+fn files_8_9_10_2_at_their_lines() {
+    for value in ["0", "33", "4294967295"] {
+        assert_eq!(
+            turned_back(&p1_with(2, &format!("threads={value}"))),
+            (8, 2)
+        );
+    }
+    for value in ["0", "1025", "4294967295"] {
+        assert_eq!(turned_back(&p1_with(3, &format!("cells={value}"))), (9, 3));
+    }
+    for value in ["1000001", "4294967295"] {
+        assert_eq!(turned_back(&p1_with(4, &format!("limit={value}"))), (10, 4));
+    }
+    for value in ["257", "4294967295"] {
+        assert_eq!(turned_back(&p1_with(5, &format!("rows={value}"))), (2, 5));
+    }
+    // Line by line: an early range comes before a later malformed line.
+    let early = p1_with(2, "threads=33").replace("cells=3", "cells=x");
+    assert_eq!(turned_back(&early), (8, 2));
+    assert_eq!(turned_back("kernel=1\nthreads=33"), (11, 2));
+    assert_eq!(turned_back("kernel=1\nthreads=33\n"), (8, 2));
+}
+
+#[test]
+fn files_more_or_fewer_lines_than_said() {
+    assert_eq!(turned_back(&p1_with(5, "rows=6")), (11, 12));
+    assert_eq!(turned_back(&p1_with(5, "rows=8")), (11, 13));
+    assert_eq!(turned_back(&p1_with(3, "cells=2")), (11, 15));
+    assert_eq!(turned_back(&p1_with(3, "cells=4")), (11, 16));
+}
+
+#[test]
+fn files_rows_come_after_all_lines_and_count_from_0() {
+    assert_eq!(turned_back(&file(&[tid(0), [99, 0, 0, 0]])), (3, 1));
+    assert_eq!(turned_back(&file(&[[2, 16, 0, 0]])), (4, 0));
+    assert_eq!(turned_back(&file(&[tid(0), tid(0), ELSE])), (5, 2));
+    let mut nine = [if_(0)].repeat(9);
+    nine.extend([ENDIF].repeat(9));
+    assert_eq!(turned_back(&file(&nine)), (6, 8));
+    assert_eq!(turned_back(&file(&[while_(0)])), (7, 0));
+    let both = file(&[[99, 0, 0, 0]]).replace("cell=0", "cell=x");
+    assert_eq!(turned_back(&both), (11, 7));
+}
+
+#[test]
+fn whole_file_buffers() {
+    for (cells, log, out, expected) in [
+        (1_023, 2_047, 0, 20),
+        (1_025, 2_048, 17_408, 20),
+        (3, 6, 17_408, 20),
+        (1_024, 2_047, 17_407, 21),
+        (1_024, 2_049, 17_408, 21),
+        (1_024, 2_048, 17_407, 24),
+        (1_024, 2_048, 0, 24),
+    ] {
+        let (mut lent_cells, mut lent_log, mut room) = (vec![5; cells], vec![6; log], vec![7; out]);
+        let found = check_file(P1.as_bytes(), &mut lent_cells, &mut lent_log, &mut room);
+        assert_eq!(found, Err(refusal(expected, 0)));
+        let input = check_file(b"", &mut lent_cells, &mut lent_log, &mut room);
+        assert_eq!(input, Err(refusal(11, 1)));
+        assert_eq!(lent_cells, vec![5; cells]);
+        assert_eq!(lent_log, vec![6; log]);
+        assert_eq!(room, vec![7; out]);
+    }
+}

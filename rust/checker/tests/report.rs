@@ -1,0 +1,146 @@
+//! "The report": its bytes, its buffer, and the lent buffers behind it.
+
+mod common;
+
+use checker::{check_file, write_report, AccessKind, Outcome, Refusal, Subject, Verdict};
+use common::*;
+
+const P1_REPORT: &str = "verdict=race\nrow=6\nthread=1\nother=0\nkind=rw\nat=1\n\
+    rows=6\nsteps=13\nbarriers=0\ncell=2\ncell=1\ncell=1\nend=report\n";
+
+fn ran(verdict: Verdict) -> Subject {
+    Subject::Ran(Outcome {
+        verdict,
+        rows: 1,
+        steps: 2,
+        barriers: 3,
+    })
+}
+
+fn written(subject: Subject, cells: &[u32]) -> String {
+    let mut out = [b'?'; 512];
+    let len = write_report(subject, cells, &mut out).unwrap();
+    assert!(out[len..].iter().all(|&byte| byte == b'?'));
+    String::from_utf8(out[..len].to_vec()).unwrap()
+}
+
+#[test]
+fn p1_prints_its_report() {
+    assert_eq!(check(P1.as_bytes()).unwrap(), P1_REPORT);
+}
+
+#[test]
+fn p2_prints_its_report() {
+    let file = P1
+        .replace("rows=7", "rows=8")
+        .replace("row=16,4,0,0", "row=37,0,0,0\nrow=16,4,0,0");
+    let report = "verdict=passed\nrow=-\nthread=-\nother=-\nkind=-\nat=-\n\
+        rows=8\nsteps=14\nbarriers=1\ncell=2\ncell=2\ncell=1\nend=report\n";
+    assert_eq!(check(file.as_bytes()).unwrap(), report);
+}
+
+#[test]
+fn hyphens_stand_for_lines_without_meaning() {
+    let (row, thread, other, at) = (4, 5, 6, 7);
+    let tail = "rows=1\nsteps=2\nbarriers=3\ncell=4294967295\nend=report\n";
+    let kinds = [
+        (AccessKind::Rw, "rw"),
+        (AccessKind::Wr, "wr"),
+        (AccessKind::Ww, "ww"),
+    ];
+    for (kind, word) in kinds {
+        let race = Verdict::Race {
+            row,
+            thread,
+            other,
+            kind,
+            at,
+        };
+        let head = format!("verdict=race\nrow=4\nthread=5\nother=6\nkind={word}\nat=7\n");
+        assert_eq!(written(ran(race), &[u32::MAX]), head + tail);
+    }
+    let outside = Verdict::Outside { row, thread, at };
+    let diverged = Verdict::Diverged { row, thread, other };
+    for (verdict, head) in [
+        (
+            Verdict::Passed,
+            "verdict=passed\nrow=-\nthread=-\nother=-\nkind=-\nat=-\n",
+        ),
+        (
+            outside,
+            "verdict=outside\nrow=4\nthread=5\nother=-\nkind=-\nat=7\n",
+        ),
+        (
+            diverged,
+            "verdict=diverged\nrow=4\nthread=5\nother=6\nkind=-\nat=-\n",
+        ),
+        (
+            Verdict::Spent { row },
+            "verdict=spent\nrow=4\nthread=-\nother=-\nkind=-\nat=-\n",
+        ),
+    ] {
+        assert_eq!(written(ran(verdict), &[u32::MAX]), head.to_string() + tail);
+    }
+}
+
+#[test]
+fn refusals_have_a_report_without_cells() {
+    let subject = Subject::Refused(Refusal {
+        number: 11,
+        place: 1,
+    });
+    let report = "refused=11\nplace=1\nend=report\n";
+    assert_eq!(written(subject, &[]), report);
+    assert_eq!(written(subject, &[0; 1_025]), report);
+    let short = write_report(subject, &[], &mut [0; 29]).unwrap_err();
+    assert_eq!((short.number, short.place), (22, report.len() as u32));
+}
+
+#[test]
+fn r23_comes_before_22() {
+    for cells in [0, 1_025] {
+        let refusal = write_report(ran(Verdict::Passed), &vec![0; cells], &mut []).unwrap_err();
+        assert_eq!((refusal.number, refusal.place), (23, 0));
+    }
+}
+
+#[test]
+fn r22_names_the_length_needed() {
+    let subject = ran(Verdict::Spent { row: 4 });
+    for cells in [1, 1_024] {
+        let cells = vec![u32::MAX; cells];
+        let refusal = write_report(subject, &cells, &mut []).unwrap_err();
+        assert_eq!(refusal.number, 22);
+        let needed = refusal.place as usize;
+        assert!(needed <= 17_408);
+        let mut out = vec![b'?'; needed - 1];
+        assert_eq!(write_report(subject, &cells, &mut out), Err(refusal));
+        assert!(out.iter().all(|&byte| byte == b'?'));
+        out.push(b'?');
+        assert_eq!(write_report(subject, &cells, &mut out), Ok(needed));
+        assert!(out.ends_with(b"end=report\n"));
+    }
+}
+
+#[test]
+fn the_lent_log_is_packed_and_the_rest_kept() {
+    let (mut cells, mut log) = (vec![5; 1_024], vec![6; 2_048]);
+    let mut out = vec![b'?'; 20_000];
+    let len = check_file(P1.as_bytes(), &mut cells, &mut log, &mut out).unwrap();
+    assert_eq!(&out[..len], P1_REPORT.as_bytes());
+    assert!(out[len..].iter().all(|&byte| byte == b'?'));
+    assert_eq!(&cells[..4], [2, 1, 1, 5]);
+    assert!(cells[3..].iter().all(|&word| word == 5));
+    // Thread 0 read cells 1 and 0 and wrote 0; thread 1 read 2 and 1.
+    assert_eq!(&log[..6], [0b01, 0b11, 0b10, 0b01, 0, 0]);
+    assert!(log[6..].iter().all(|&word| word == 6));
+}
+
+#[test]
+fn the_widest_report_fits_the_room() {
+    let mut file = "kernel=1\nthreads=32\ncells=1024\nlimit=1000000\nrows=0\n".to_string();
+    file += &"cell=4294967295\n".repeat(1_024);
+    file += "end=kernel\n";
+    let report = check(file.as_bytes()).unwrap();
+    assert!(report.len() > 16_384 && report.len() <= 17_408);
+}

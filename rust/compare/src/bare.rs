@@ -1,0 +1,64 @@
+//! Bare launches.
+
+use checker::{Outcome, Verdict};
+use generator::BareLaunch;
+
+use crate::checkers::Numbers;
+use crate::difference::{judge, Difference, Left, Lent};
+use crate::tally::refused;
+use crate::Checker;
+
+pub(crate) fn compare(
+    seed: u64,
+    ours: &impl Checker,
+    theirs: &impl Checker,
+) -> Result<String, Box<Difference>> {
+    let launch = generator::bare(seed);
+    let before = Lent {
+        cells: launch.lent_cells.clone(),
+        log: launch.lent_log.clone(),
+        output: Vec::new(),
+    };
+    let ours = run(ours, &launch, &before);
+    let theirs = run(theirs, &launch, &before);
+    judge(seed, || show(&launch), &before, &ours, &theirs)?;
+    Ok(ours.answer.map_or_else(refused, name))
+}
+
+fn run(checker: &impl Checker, launch: &BareLaunch, before: &Lent) -> Left<Outcome> {
+    let numbers = Numbers {
+        threads: launch.threads,
+        cells: launch.cells,
+        limit: launch.limit,
+    };
+    Left::by(before, |Lent { cells, log, .. }| {
+        checker.bare_launch(&launch.table, numbers, cells, log)
+    })
+}
+
+/// As a report's first line has it.
+fn name(outcome: Outcome) -> String {
+    let verdict = match outcome.verdict {
+        Verdict::Passed => "passed",
+        Verdict::Race { .. } => "race",
+        Verdict::Outside { .. } => "outside",
+        Verdict::Diverged { .. } => "diverged",
+        Verdict::Spent { .. } => "spent",
+    };
+    format!("verdict={verdict}")
+}
+
+fn show(launch: &BareLaunch) -> String {
+    let BareLaunch {
+        threads,
+        cells,
+        limit,
+        lent_cells,
+        ..
+    } = launch;
+    let rows: String = (launch.table.chunks(4).enumerate())
+        .map(|(row, bytes)| format!("row {row}: {bytes:?}\n"))
+        .collect();
+    let log = launch.lent_log.len();
+    format!("threads {threads}, cells {cells}, limit {limit}, {log} words of log, lent cells {lent_cells:?}\n{rows}")
+}

@@ -1,0 +1,119 @@
+//! What both checkers left, and how it is shown where it differs.
+
+use std::fmt;
+
+use checker::Refusal;
+
+/// The buffers that an entry is lent. An entry without one of them has it empty.
+#[derive(Clone, Debug, Default, PartialEq, Eq)]
+pub(crate) struct Lent {
+    pub cells: Vec<u32>,
+    pub log: Vec<u32>,
+    pub output: Vec<u8>,
+}
+
+/// An answer, and the lent buffers after it.
+#[derive(Clone, Debug, PartialEq, Eq)]
+pub(crate) struct Left<T> {
+    pub answer: Result<T, Refusal>,
+    pub lent: Lent,
+}
+
+impl<T> Left<T> {
+    /// Calls an entry with buffers of its own.
+    pub(crate) fn by(lent: &Lent, entry: impl FnOnce(&mut Lent) -> Result<T, Refusal>) -> Self {
+        let mut lent = lent.clone();
+        let answer = entry(&mut lent);
+        Self { answer, lent }
+    }
+}
+
+/// A launch on which two checkers differ, or on which both changed a buffer that a refusal keeps.
+#[derive(Debug)]
+pub struct Difference {
+    seed: u64,
+    launch: String,
+    what: String,
+}
+
+impl fmt::Display for Difference {
+    fn fmt(&self, f: &mut fmt::Formatter) -> fmt::Result {
+        let Self { seed, launch, what } = self;
+        write!(
+            f,
+            "seed {seed} differs (`compare {seed} 1` repeats it)\n\n{launch}\n{what}"
+        )
+    }
+}
+
+/// Agreement, or the difference with the launch as `launch` shows it.
+pub(crate) fn judge<T: PartialEq + fmt::Debug>(
+    seed: u64,
+    launch: impl FnOnce() -> String,
+    before: &Lent,
+    ours: &Left<T>,
+    theirs: &Left<T>,
+) -> Result<(), Box<Difference>> {
+    let kept = ours.answer.is_ok() || ours.lent == *before;
+    if ours == theirs && kept {
+        return Ok(());
+    }
+    let what = format!(
+        "ours:   {:?}\ntheirs: {:?}\n{}{}{}{}{}",
+        ours.answer,
+        theirs.answer,
+        words("cell", &before.cells, &ours.lent.cells, &theirs.lent.cells),
+        words("log word", &before.log, &ours.lent.log, &theirs.lent.log),
+        words(
+            "output byte",
+            &before.output,
+            &ours.lent.output,
+            &theirs.lent.output
+        ),
+        report("ours", &ours.lent.output),
+        report("theirs", &theirs.lent.output),
+    );
+    let launch = launch();
+    Err(Box::new(Difference { seed, launch, what }))
+}
+
+/// The places where a buffer differs, the first few of them.
+fn words<W: PartialEq + fmt::Display>(
+    name: &str,
+    before: &[W],
+    ours: &[W],
+    theirs: &[W],
+) -> String {
+    const SHOWN: usize = 10;
+    let places = (0..before.len()).filter(|&i| ours[i] != theirs[i]);
+    let line = |i: usize| {
+        let (was, our, their) = (&before[i], &ours[i], &theirs[i]);
+        format!("{name} {i}: ours {our}, theirs {their}, before {was}\n")
+    };
+    let shown: String = places.clone().take(SHOWN).map(line).collect();
+    match places.count().saturating_sub(SHOWN) {
+        0 => shown,
+        more => format!("{shown}and {more} more\n"),
+    }
+}
+
+/// A report up to where the output was left as it was; nothing where the entry writes none.
+fn report(whose: &str, output: &[u8]) -> String {
+    if output.is_empty() {
+        return String::new();
+    }
+    let end = output.iter().position(|byte| !byte.is_ascii());
+    let text = lines(&output[..end.unwrap_or(output.len())]);
+    format!("\nreport, {whose}:\n{text}")
+}
+
+/// Bytes as lines of text, with what is not text escaped.
+pub(crate) fn lines(bytes: &[u8]) -> String {
+    bytes
+        .split_inclusive(|&byte| byte == b'\n')
+        .map(|line| match line.strip_suffix(b"\n") {
+            Some(line) => format!("{}\n", line.escape_ascii()),
+            None => format!("{} (no line end)\n", line.escape_ascii()),
+        })
+        .collect()
+}

@@ -1,0 +1,78 @@
+//! Launch files through the whole-file entry.
+
+use checker::{LENT_CELLS, LENT_LOG, REPORT_ROOM};
+use generator::Rng;
+
+use crate::difference::{judge, lines, Difference, Left, Lent};
+use crate::tally::refused;
+use crate::{junk, Checker};
+
+pub(crate) fn compare(
+    seed: u64,
+    ours: &impl Checker,
+    theirs: &impl Checker,
+) -> Result<String, Box<Difference>> {
+    let file = generator::launch(seed);
+    let before = lend(seed);
+    let ours = check(ours, &file, &before);
+    let theirs = check(theirs, &file, &before);
+    judge(seed, || show(&file, &before), &before, &ours, &theirs)?;
+    Ok(name(&ours))
+}
+
+fn check(checker: &impl Checker, file: &[u8], before: &Lent) -> Left<usize> {
+    Left::by(before, |Lent { cells, log, output }| {
+        checker.check_file(file, cells, log, output)
+    })
+}
+
+/// Buffers full of junk, a wrong one in about one launch of eight.
+fn lend(seed: u64) -> Lent {
+    let mut rng = Rng::new(seed, 10);
+    let mut sizes = [
+        LENT_CELLS,
+        LENT_LOG,
+        rng.pick(&[REPORT_ROOM, REPORT_ROOM, 20_000]),
+    ];
+    if rng.one_in(8) {
+        // Mostly one that is wrong; now and then all, so that the refusals' order is seen.
+        let chosen = rng.index(4);
+        for (which, size) in sizes.iter_mut().enumerate() {
+            if chosen == which || chosen == 3 {
+                *size = wrong_size(&mut rng, which);
+            }
+        }
+    }
+    let [cells, log, output] = sizes;
+    Lent {
+        cells: junk::words(seed, cells),
+        log: junk::words(!seed, log),
+        output: junk::bytes(seed, output),
+    }
+}
+
+fn wrong_size(rng: &mut Rng, which: usize) -> usize {
+    match which {
+        0 => rng.pick(&[1_023, 1_025, 0]),
+        1 => rng.pick(&[2_047, 2_049, 0, 1_024]),
+        _ => rng.pick(&[0, 1, 17_407]),
+    }
+}
+
+/// The report's first line, or the refusal.
+fn name(left: &Left<usize>) -> String {
+    match left.answer {
+        Ok(_) => {
+            let first = left.lent.output.split(|&byte| byte == b'\n').next();
+            first.unwrap_or(&[]).escape_ascii().to_string()
+        }
+        Err(refusal) => refused(refusal),
+    }
+}
+
+fn show(file: &[u8], lent: &Lent) -> String {
+    let Lent { cells, log, output } = lent;
+    let (cells, log, output) = (cells.len(), log.len(), output.len());
+    let lines = lines(file);
+    format!("lent {cells} cells, {log} words of log, {output} bytes of output; the file:\n{lines}")
+}

@@ -1,0 +1,105 @@
+//! The report writer alone.
+
+use checker::{AccessKind, Outcome, Refusal, Subject, Verdict, REPORT_ROOM};
+use generator::Rng;
+
+use crate::difference::{judge, Difference, Left, Lent};
+use crate::tally::refused;
+use crate::{junk, Checker};
+
+pub(crate) fn compare(
+    seed: u64,
+    ours: &impl Checker,
+    theirs: &impl Checker,
+) -> Result<String, Box<Difference>> {
+    let mut rng = Rng::new(seed, 11);
+    let subject = subject(&mut rng);
+    let cells = cells(&mut rng);
+    let before = Lent {
+        output: junk::bytes(seed, room(&mut rng, theirs, subject, &cells)),
+        ..Lent::default()
+    };
+    let ours = write(ours, subject, &cells, &before);
+    let theirs = write(theirs, subject, &cells, &before);
+    let show = || show(subject, &cells, &before);
+    judge(seed, show, &before, &ours, &theirs)?;
+    Ok(ours
+        .answer
+        .map_or_else(refused, |_| "report=written".to_string()))
+}
+
+fn write(checker: &impl Checker, subject: Subject, cells: &[u32], before: &Lent) -> Left<usize> {
+    Left::by(before, |lent| {
+        checker.write_report(subject, cells, &mut lent.output)
+    })
+}
+
+/// Exactly as long as the report, one byte shorter, empty, or longer.
+fn room(rng: &mut Rng, checker: &impl Checker, subject: Subject, cells: &[u32]) -> usize {
+    let mut output = vec![0; REPORT_ROOM];
+    let needed = checker.write_report(subject, cells, &mut output);
+    let needed = needed.unwrap_or(REPORT_ROOM);
+    match rng.below(8) {
+        0..=2 => needed,
+        3..=4 => needed - 1,
+        5 => 0,
+        6 => needed + 1 + rng.index(100),
+        _ => REPORT_ROOM,
+    }
+}
+
+fn subject(rng: &mut Rng) -> Subject {
+    if rng.one_in(5) {
+        let (number, place) = (digits(rng), digits(rng));
+        return Subject::Refused(Refusal { number, place });
+    }
+    Subject::Ran(Outcome {
+        verdict: verdict(rng),
+        rows: digits(rng),
+        steps: digits(rng),
+        barriers: digits(rng),
+    })
+}
+
+fn verdict(rng: &mut Rng) -> Verdict {
+    let [row, thread, other, at] = std::array::from_fn(|_| digits(rng));
+    let kind = rng.pick(&[AccessKind::Rw, AccessKind::Wr, AccessKind::Ww]);
+    match rng.below(7) {
+        0 => Verdict::Passed,
+        1 => Verdict::Outside { row, thread, at },
+        2 => Verdict::Diverged { row, thread, other },
+        3 => Verdict::Spent { row },
+        _ => Verdict::Race {
+            row,
+            thread,
+            other,
+            kind,
+            at,
+        },
+    }
+}
+
+fn cells(rng: &mut Rng) -> Vec<u32> {
+    let some = 2 + rng.index(100);
+    let many = 2 + rng.index(1_023);
+    let len = rng.pick(&[0, 1, some, some, many, 1_024, 1_025]);
+    (0..len).map(|_| digits(rng)).collect()
+}
+
+/// A word of 1 to 10 digits, each number of digits as likely as another; now and then the least or the greatest of them.
+fn digits(rng: &mut Rng) -> u32 {
+    let more = rng.below(10);
+    let low = if more == 0 { 0 } else { 10_u32.pow(more) };
+    let high = 10_u64.pow(more + 1) - 1;
+    let high = u32::try_from(high).unwrap_or(u32::MAX);
+    match rng.below(8) {
+        0 => low,
+        1 => high,
+        _ => rng.range(low, high),
+    }
+}
+
+fn show(subject: Subject, cells: &[u32], lent: &Lent) -> String {
+    let room = lent.output.len();
+    format!("{subject:?}, {room} bytes of output, cells {cells:?}\n")
+}

@@ -1,0 +1,125 @@
+//! Launches at the edges: full tables, all cells, edge words, far shifts.
+
+use crate::asm::*;
+use crate::plan::Plan;
+use crate::rng::Rng;
+
+const EXTREMES: [fn(&mut Rng) -> Plan; 5] =
+    [word_table, built_words, full_table, all_cells, nearly_empty];
+
+/// One of the extremes.
+pub fn extreme(rng: &mut Rng) -> Plan {
+    rng.pick(&EXTREMES)(rng)
+}
+
+fn edge_words(rng: &mut Rng, count: u32) -> Vec<u32> {
+    (0..count).map(|_| rng.edge()).collect()
+}
+
+/// Each thread works out ops on two edge words of its own, and keeps the
+/// results in cells of its own.
+fn word_table(rng: &mut Rng) -> Plan {
+    let threads = rng.threads();
+    let ops = rng.range(1, 11);
+    let some_only = rng.one_in(2);
+    let mut rows = vec![tid(0), count(1), add(3, 0, 1), load(2, 0), load(4, 3)];
+    for _ in 0..ops {
+        let op = rng.range(4, 14) as u8;
+        rows.push(add(3, 3, 1));
+        if some_only {
+            let test = [rng.range(4, 14) as u8, 6, 2, 4];
+            let otherwise = [rng.range(4, 14) as u8, 5, 4, 2];
+            rows.extend([test, begin_if(6), [op, 5, 2, 4], ELSE, otherwise, ENDIF]);
+        } else {
+            rows.push([op, 5, 2, 4]);
+        }
+        rows.push(store(3, 5));
+    }
+    let cells = edge_words(rng, threads * (2 + ops));
+    Plan::new(rng, threads, rows, cells)
+}
+
+/// Big words built from SET, shifted by counts at the edges.
+fn built_words(rng: &mut Rng) -> Plan {
+    let threads = rng.threads();
+    let (low, high) = (rng.word(), rng.word());
+    let mut rows = vec![
+        tid(0),
+        set(1, low),
+        set(2, high),
+        set(3, 32_768),
+        mul(2, 2, 3),
+        add(2, 2, 2),
+        add(1, 1, 2), // low + 2^16 * high
+    ];
+    for _ in 0..rng.range(1, 8) {
+        let shift = rng.pick(&[0, 1, 30, 31, 32, 33, 65_535]);
+        let op = rng.pick(&[10, 11]);
+        rows.push(set(4, shift));
+        if rng.one_in(3) {
+            rows.extend([set(5, 1), sub(4, 15, 5)]); // 2^32 - 1
+        }
+        rows.push([op, 6, 1, 4]);
+        rows.push([rng.range(4, 14) as u8, 1, 6, 1]);
+    }
+    rows.push(store(0, 1));
+    let cells = edge_words(rng, threads);
+    Plan::new(rng, threads, rows, cells)
+}
+
+/// As many rows as there may be, or one fewer.
+fn full_table(rng: &mut Rng) -> Plan {
+    let threads = rng.threads();
+    let rows = rng.pick(&[255, 256, 256]);
+    let mut table = vec![tid(0), set(1, 2), begin_while(1)];
+    while table.len() < rows - 3 {
+        let (d, a, b) = (rng.range(2, 15), rng.below(16), rng.below(16));
+        let regs = [d as u8, a as u8, b as u8];
+        table.push(match rng.below(12) {
+            0 => BARRIER,
+            1 => load(regs[0], 0),
+            2 => store(0, regs[1]),
+            3 => [1, regs[0], rng.byte(), rng.byte()],
+            _ => [rng.range(4, 14) as u8, regs[0], regs[1], regs[2]],
+        });
+    }
+    table.extend([set(2, 1), sub(1, 1, 2), ENDWHILE]);
+    let cells = edge_words(rng, threads);
+    Plan::new(rng, threads, table, cells)
+}
+
+/// 1,024 cells, each written by one thread in a strided loop.
+fn all_cells(rng: &mut Rng) -> Plan {
+    let threads = rng.threads();
+    let count_cells = rng.pick(&[1_023, 1_024, 1_024]);
+    let end = rng.pick(&[count_cells, count_cells, count_cells + 1]);
+    let rows = vec![
+        tid(0),
+        count(1),
+        set(2, end),
+        lt(3, 0, 2),
+        begin_while(3),
+        load(4, 0),
+        mul(4, 4, 4),
+        store(0, 4),
+        add(0, 0, 1),
+        lt(3, 0, 2),
+        ENDWHILE,
+    ];
+    let cells = edge_words(rng, count_cells);
+    Plan::new(rng, threads, rows, cells)
+}
+
+/// No row or one row, one cell.
+fn nearly_empty(rng: &mut Rng) -> Plan {
+    let threads = rng.threads();
+    let rows = match rng.below(5) {
+        0 => vec![],
+        1 => vec![BARRIER],
+        2 => vec![store(0, 0)],
+        3 => vec![load(15, 15)],
+        _ => vec![tid(15)],
+    };
+    let cells = edge_words(rng, 1);
+    Plan::new(rng, threads, rows, cells)
+}

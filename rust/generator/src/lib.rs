@@ -1,0 +1,56 @@
+//! Launches from seeds: sound ones of many kinds, and damaged ones. The same
+//! seed gives the same launch everywhere.
+
+mod asm;
+mod bare;
+mod damage;
+mod extremes;
+mod patterns;
+mod plan;
+mod random;
+mod rng;
+mod small;
+
+pub use bare::BareLaunch;
+pub use plan::Plan;
+pub use rng::Rng;
+pub use small::SmallLaunch;
+
+/// The bytes of one launch file: a structured kernel, a random one, one at the
+/// edges, a damaged file, or noise.
+pub fn launch(seed: u64) -> Vec<u8> {
+    let mut rng = Rng::new(seed, 1);
+    match rng.below(100) {
+        0..=1 => damage::noise(&mut rng),
+        2..=34 => {
+            let plan = any_plan(&mut rng);
+            damage::damaged(&mut rng, plan)
+        }
+        _ => any_plan(&mut rng).file(),
+    }
+}
+
+/// A sound launch of any kind; a few of them are nested too deep.
+pub fn plan(seed: u64) -> Plan {
+    any_plan(&mut Rng::new(seed, 2))
+}
+
+/// One bare launch, with right and wrong buffers.
+pub fn bare(seed: u64) -> BareLaunch {
+    let mut rng = Rng::new(seed, 3);
+    let plan = any_plan(&mut rng);
+    bare::bare_of(&mut rng, plan)
+}
+
+/// One small launch for the explorer.
+pub fn small(seed: u64) -> SmallLaunch {
+    small::small_launch(&mut Rng::new(seed, 4))
+}
+
+fn any_plan(rng: &mut Rng) -> Plan {
+    match rng.below(100) {
+        0..=44 => patterns::pattern(rng),
+        45..=84 => random::random(rng),
+        _ => extremes::extreme(rng),
+    }
+}

@@ -1,0 +1,355 @@
+//! Kernels structured like real ones, each with its usual mistakes.
+//!
+//! R0 is the thread's number and R1 is 1 throughout; R15 stays 0.
+
+use crate::asm::*;
+use crate::plan::Plan;
+use crate::rng::Rng;
+
+const PATTERNS: [fn(&mut Rng) -> Plan; 12] = [
+    reduction,
+    scan,
+    stencil,
+    shared_histogram,
+    ordered_histogram,
+    private_histogram,
+    nested_loops,
+    two_loops,
+    uneven_trips,
+    guarded_barrier,
+    reaching_the_end,
+    rotating_counters,
+];
+
+/// One of the patterns.
+pub fn pattern(rng: &mut Rng) -> Plan {
+    rng.pick(&PATTERNS)(rng)
+}
+
+fn words(rng: &mut Rng, count: u32) -> Vec<u32> {
+    (0..count).map(|_| rng.word()).collect()
+}
+
+/// At least `least` cells, now and then as many as there may be.
+fn cells(rng: &mut Rng, least: u32) -> Vec<u32> {
+    let count = match rng.below(12) {
+        0 => 1_024,
+        1 => least + 1,
+        2 if least > 1 => least - 1, // the last address is outside
+        3 => rng.range(least, 1_024),
+        _ => least,
+    };
+    words(rng, count)
+}
+
+/// Often a power of two, as trees like it.
+fn tree_threads(rng: &mut Rng) -> u32 {
+    match rng.below(4) {
+        0 => rng.threads(),
+        _ => rng.pick(&[2, 4, 8, 16, 32]),
+    }
+}
+
+/// A BARRIER, left out in about one of `times` kernels.
+fn barrier_unless(rng: &mut Rng, times: u32) -> Vec<Row> {
+    if rng.one_in(times) {
+        vec![]
+    } else {
+        vec![BARRIER]
+    }
+}
+
+/// A sum over a tree: halves the stride until it is 0.
+fn reduction(rng: &mut Rng) -> Plan {
+    let threads = tree_threads(rng);
+    let stride = threads.div_ceil(2);
+    let mut rows = vec![
+        tid(0),
+        set(1, 1),
+        set(2, stride),
+        begin_while(2),
+        lt(3, 0, 2),
+        begin_if(3),
+        add(4, 0, 2),
+        load(5, 4),
+        load(6, 0),
+        add(6, 6, 5),
+        store(0, 6),
+    ];
+    // A barrier inside the IF is a mistake of its own.
+    if rng.one_in(8) {
+        rows.extend([BARRIER, ENDIF]);
+    } else {
+        rows.push(ENDIF);
+        rows.extend(barrier_unless(rng, 4));
+    }
+    rows.extend([shr(2, 2, 1), ENDWHILE]);
+    let cells = cells(rng, threads);
+    Plan::new(rng, threads, rows, cells)
+}
+
+/// A prefix sum: adds the cell at a doubling distance to the left.
+fn scan(rng: &mut Rng) -> Plan {
+    let threads = rng.threads();
+    let mut rows = vec![
+        tid(0),
+        set(1, 1),
+        count(2),
+        set(3, 1),
+        lt(9, 3, 2),
+        begin_while(9),
+        lt(4, 0, 3),
+        eq(4, 4, 15),
+        load(6, 0),
+        begin_if(4),
+        sub(5, 0, 3),
+        load(7, 5),
+        add(6, 6, 7),
+        ENDIF,
+    ];
+    rows.extend(barrier_unless(rng, 6));
+    rows.push(store(0, 6));
+    rows.extend(barrier_unless(rng, 6));
+    rows.extend([add(3, 3, 3), lt(9, 3, 2), ENDWHILE]);
+    let cells = cells(rng, threads);
+    Plan::new(rng, threads, rows, cells)
+}
+
+/// Each cell from itself and its right neighbour, from one buffer to the
+/// other and back.
+fn stencil(rng: &mut Rng) -> Plan {
+    let threads = rng.threads();
+    let rounds = rng.range(1, 6);
+    let one_buffer = rng.one_in(6);
+    let mut rows = vec![
+        tid(0),
+        set(1, 1),
+        count(2),
+        set(3, rounds),
+        add(4, 0, 15), // from
+        add(5, 0, if one_buffer { 15 } else { 2 }),
+        add(10, 0, 1),
+        eq(11, 10, 2), // the last thread has no right neighbour
+        begin_while(3),
+        load(6, 4),
+        begin_if(11),
+        add(7, 6, 15),
+        ELSE,
+        add(8, 4, 1),
+        load(7, 8),
+        ENDIF,
+        add(6, 6, 7),
+        store(5, 6),
+    ];
+    rows.extend(barrier_unless(rng, 5));
+    rows.extend([
+        add(9, 4, 15),
+        add(4, 5, 15),
+        add(5, 9, 15),
+        sub(3, 3, 1),
+        ENDWHILE,
+    ]);
+    let cells = cells(rng, 2 * threads);
+    Plan::new(rng, threads, rows, cells)
+}
+
+/// All threads count into shared bins: races as soon as two meet.
+fn shared_histogram(rng: &mut Rng) -> Plan {
+    let threads = rng.threads();
+    let bins = 1 << rng.range(0, 5);
+    let stride = rng.pick(&[0, 1, 1, 1, 3, 5]);
+    let rows = vec![
+        tid(0),
+        set(1, 1),
+        set(2, stride),
+        set(3, bins - 1),
+        mul(4, 0, 2),
+        and(4, 4, 3),
+        load(5, 4),
+        add(5, 5, 1),
+        store(4, 5),
+    ];
+    let cells = cells(rng, bins);
+    Plan::new(rng, threads, rows, cells)
+}
+
+/// The threads take turns, with a barrier after each turn.
+fn ordered_histogram(rng: &mut Rng) -> Plan {
+    let threads = rng.threads();
+    let bins = 1 << rng.range(0, 3);
+    let mut rows = vec![
+        tid(0),
+        set(1, 1),
+        count(2),
+        set(3, bins - 1),
+        and(4, 0, 3),
+        begin_while(2),
+        sub(2, 2, 1),
+        eq(6, 0, 2),
+        begin_if(6),
+        load(5, 4),
+        add(5, 5, 1),
+        store(4, 5),
+        ENDIF,
+    ];
+    rows.extend(barrier_unless(rng, 5));
+    rows.push(ENDWHILE);
+    let cells = cells(rng, bins);
+    Plan::new(rng, threads, rows, cells)
+}
+
+/// Bins of its own for each thread, summed up by thread 0.
+fn private_histogram(rng: &mut Rng) -> Plan {
+    let threads = rng.threads();
+    let mut rows = vec![tid(0), set(1, 1), load(5, 0), add(5, 5, 1), store(0, 5)];
+    rows.extend(barrier_unless(rng, 4));
+    rows.extend([
+        eq(2, 0, 15),
+        begin_if(2),
+        count(3),
+        begin_while(3),
+        sub(3, 3, 1),
+        load(5, 3),
+        add(6, 6, 5),
+        ENDWHILE,
+        store(15, 6),
+        ENDIF,
+    ]);
+    let cells = cells(rng, threads);
+    Plan::new(rng, threads, rows, cells)
+}
+
+/// Loops in loops, a barrier in the inner one, the outer one or both.
+fn nested_loops(rng: &mut Rng) -> Plan {
+    let threads = rng.threads();
+    let (outer, inner) = (rng.below(6), rng.below(6));
+    let mut rows = vec![
+        tid(0),
+        set(1, 1),
+        set(2, outer),
+        begin_while(2),
+        set(3, inner),
+        begin_while(3),
+        load(4, 0),
+        add(4, 4, 3),
+        store(0, 4),
+    ];
+    rows.extend(barrier_unless(rng, 3));
+    rows.extend([sub(3, 3, 1), ENDWHILE]);
+    rows.extend(barrier_unless(rng, 2));
+    rows.extend([sub(2, 2, 1), ENDWHILE]);
+    let cells = cells(rng, threads);
+    Plan::new(rng, threads, rows, cells)
+}
+
+/// A barrier in two loops whose trip counts are exchanged between threads:
+/// all go there equally often, with unequal loop counts.
+fn two_loops(rng: &mut Rng) -> Plan {
+    let threads = rng.threads();
+    let (x, y) = (rng.range(1, 5), rng.range(1, 5));
+    let rows = vec![
+        tid(0),
+        set(1, 1),
+        and(5, 0, if rng.one_in(6) { 15 } else { 1 }),
+        begin_if(5),
+        set(2, x),
+        set(3, y),
+        ELSE,
+        set(2, y),
+        set(3, x),
+        ENDIF,
+        begin_while(2),
+        add(4, 3, 15),
+        begin_while(4),
+        BARRIER,
+        sub(4, 4, 1),
+        ENDWHILE,
+        sub(2, 2, 1),
+        ENDWHILE,
+    ];
+    let cells = cells(rng, 1);
+    Plan::new(rng, threads, rows, cells)
+}
+
+/// A loop as long as the thread's number, with or without a barrier in it.
+fn uneven_trips(rng: &mut Rng) -> Plan {
+    let threads = rng.threads();
+    let mut rows = vec![
+        tid(0),
+        set(1, 1),
+        add(2, 0, rng.pick(&[1, 15])),
+        begin_while(2),
+        load(4, 0),
+        add(4, 4, 2),
+        store(0, 4),
+    ];
+    if rng.one_in(2) {
+        rows.push(BARRIER);
+    }
+    rows.extend([sub(2, 2, 1), ENDWHILE, BARRIER, load(5, 15)]);
+    let cells = cells(rng, threads);
+    Plan::new(rng, threads, rows, cells)
+}
+
+/// Threads from some number on skip the work, and the barrier with it.
+fn guarded_barrier(rng: &mut Rng) -> Plan {
+    let threads = rng.threads();
+    let busy = rng.pick(&[0, 1, threads - 1, threads]);
+    let mut rows = vec![
+        tid(0),
+        set(1, 1),
+        set(2, busy),
+        lt(3, 0, 2),
+        begin_if(3),
+        store(0, 0),
+        BARRIER,
+        load(4, 15),
+    ];
+    if rng.one_in(2) {
+        rows.extend([ELSE, BARRIER]);
+    }
+    rows.push(ENDIF);
+    let cells = cells(rng, threads);
+    Plan::new(rng, threads, rows, cells)
+}
+
+/// The last thread's address is the last cell, or the one behind it.
+fn reaching_the_end(rng: &mut Rng) -> Plan {
+    let threads = rng.threads();
+    let spare = rng.pick(&[0, 0, 1, 3, 100, 1_024 - threads]);
+    let behind = rng.pick(&[0, 0, 1, 2]);
+    let mut rows = vec![tid(0), set(1, 1), set(2, spare + behind), add(3, 0, 2)];
+    if rng.one_in(4) {
+        rows.extend([sub(4, 15, 3), sub(3, 15, 4)]); // the same by way of below 0
+    }
+    rows.push(if rng.one_in(2) {
+        load(5, 3)
+    } else {
+        store(3, 0)
+    });
+    if rng.one_in(3) {
+        rows.extend([sub(3, 15, 1), load(5, 3)]); // cell number 2^32 - 1
+    }
+    let cells = words(rng, threads + spare);
+    Plan::new(rng, threads, rows, cells)
+}
+
+/// Each thread stores one cell further in each interval, around a ring.
+fn rotating_counters(rng: &mut Rng) -> Plan {
+    let threads = tree_threads(rng).next_power_of_two();
+    let mut rows = vec![
+        tid(0),
+        set(1, 1),
+        count(2),
+        sub(3, 2, 1),
+        add(4, 0, 15),
+        begin_while(2),
+        load(5, 4),
+        add(5, 5, 0),
+        store(4, 5),
+    ];
+    rows.extend(barrier_unless(rng, 4));
+    rows.extend([add(4, 4, 1), and(4, 4, 3), sub(2, 2, 1), ENDWHILE]);
+    let cells = cells(rng, threads);
+    Plan::new(rng, threads, rows, cells)
+}

@@ -1,0 +1,243 @@
+//! Small launches for the explorer, of which every run is played.
+
+use crate::asm::*;
+use crate::rng::Rng;
+
+/// A launch of few threads, rows and cells; its table is well-formed.
+#[derive(Clone, Debug, PartialEq, Eq)]
+pub struct SmallLaunch {
+    /// Four bytes a row.
+    pub table: Vec<u8>,
+    /// 2 or 3 threads.
+    pub threads: u32,
+    /// 1 to 3 cells.
+    pub cells: Vec<u32>,
+}
+
+/// A small launch: rows at random, or a short loop with barriers and accesses.
+pub fn small_launch(rng: &mut Rng) -> SmallLaunch {
+    let threads = rng.pick(&[2, 2, 2, 3]);
+    let count = rng.range(1, 3);
+    let rows = match rng.below(20) {
+        0..=2 => short_loop(rng),
+        3..=4 => exchange(rng),
+        5..=7 => two_arms(rng),
+        8 => turns(rng),
+        9 => two_loops(rng),
+        _ => loose_rows(rng),
+    };
+    let cells = (0..count).map(|_| rng.below(3)).collect();
+    SmallLaunch {
+        table: rows.concat(),
+        threads,
+        cells,
+    }
+}
+
+/// Up to 7 rows at random, mostly with the thread's number in R0.
+fn loose_rows(rng: &mut Rng) -> Vec<Row> {
+    let mut rows = vec![];
+    let mut budget = rng.below(7);
+    if rng.percent(75) {
+        rows.push(tid(0));
+    }
+    if rng.one_in(3) {
+        rows.push(set(1, rng.range(1, 2)));
+    }
+    while budget > 0 {
+        item(rng, &mut rows, &mut budget, 0);
+    }
+    rows
+}
+
+fn item(rng: &mut Rng, rows: &mut Vec<Row>, budget: &mut u32, depth: u32) {
+    let room = *budget >= 2 && depth < 2;
+    *budget = budget.saturating_sub(1);
+    let a = register(rng);
+    match rng.below(12) {
+        0 if room => {
+            *budget -= 1;
+            rows.push(begin_if(a));
+            body(rng, rows, budget, depth + 1);
+            if rng.one_in(2) {
+                rows.push(ELSE);
+                body(rng, rows, budget, depth + 1);
+            }
+            rows.push(ENDIF);
+        }
+        1..=3 if room => {
+            *budget -= 1;
+            rows.push(begin_while(a));
+            body(rng, rows, budget, depth + 1);
+            if rng.percent(45) {
+                rows.push(quench(rng, a));
+            }
+            rows.push(ENDWHILE);
+        }
+        4 | 5 => rows.push(BARRIER),
+        6 | 7 => rows.push(store(a, register(rng))),
+        8 => rows.push(load(register(rng), a)),
+        _ => rows.push(plain(rng)),
+    }
+}
+
+fn body(rng: &mut Rng, rows: &mut Vec<Row>, budget: &mut u32, depth: u32) {
+    for _ in 0..rng.below(3) {
+        if *budget > 0 {
+            item(rng, rows, budget, depth);
+        }
+    }
+}
+
+fn register(rng: &mut Rng) -> u8 {
+    rng.pick(&[0, 0, 0, 1, 1, 2])
+}
+
+fn plain(rng: &mut Rng) -> Row {
+    let (d, a, b) = (register(rng), register(rng), register(rng));
+    match rng.below(6) {
+        0 => tid(d),
+        1 => set(d, rng.below(3)),
+        2 => count(d),
+        _ => [rng.range(4, 14) as u8, d, a, b],
+    }
+}
+
+/// A row that may bring a loop on Ra to its end.
+fn quench(rng: &mut Rng, a: u8) -> Row {
+    match rng.below(5) {
+        0 => set(a, 0),
+        1 => sub(a, a, 1),
+        2 => lt(a, 1, a),
+        3 => load(a, 2),
+        _ => sub(a, a, a),
+    }
+}
+
+/// A loop of a few trips, the same for all threads or not.
+fn short_loop(rng: &mut Rng) -> Vec<Row> {
+    let trips = if rng.one_in(2) {
+        set(2, rng.range(1, 3))
+    } else {
+        add(2, 0, rng.pick(&[0, 1]))
+    };
+    let mut rows = vec![tid(0), set(1, 1), trips, begin_while(2)];
+    for _ in 0..rng.range(1, 2) {
+        rows.push(match rng.below(5) {
+            0 => load(3, 0),
+            1 => store(0, 2),
+            2 => load(3, 1),
+            _ => BARRIER,
+        });
+    }
+    if !rng.one_in(5) {
+        rows.push(sub(2, 2, 1)); // else some thread's loop is endless
+    }
+    rows.push(ENDWHILE);
+    if rng.one_in(3) {
+        rows.push(store(0, 3));
+    }
+    rows
+}
+
+/// Each thread stores its cell and loads its neighbour's.
+fn exchange(rng: &mut Rng) -> Vec<Row> {
+    let mut rows = vec![tid(0), set(1, 1), store(0, rng.pick(&[0, 1]))];
+    rows.extend(maybe_barrier(rng));
+    rows.push(if rng.one_in(3) {
+        sub(2, 1, 0)
+    } else {
+        [9, 2, 0, 1] // R2 = R0 xor 1
+    });
+    rows.push(load(3, 2));
+    rows.extend(maybe_barrier(rng));
+    rows.push(store(rng.pick(&[0, 2]), 3));
+    rows
+}
+
+/// A barrier, none, or one that all threads pass or skip together.
+fn maybe_barrier(rng: &mut Rng) -> Vec<Row> {
+    match rng.below(8) {
+        0 => vec![],
+        1 => vec![begin_if(1), BARRIER, ENDIF],
+        2 => vec![begin_if(5), BARRIER, ENDIF],
+        3 => vec![begin_while(5), BARRIER, ENDWHILE],
+        _ => vec![BARRIER],
+    }
+}
+
+/// An IF with accesses, loops or barriers in its arms.
+fn two_arms(rng: &mut Rng) -> Vec<Row> {
+    let test = match rng.below(3) {
+        0 => tid(1),
+        1 => set(1, rng.below(2)),
+        _ => load(1, 2),
+    };
+    let mut rows = vec![tid(0), test, begin_if(1)];
+    arm(rng, &mut rows);
+    rows.push(ELSE);
+    arm(rng, &mut rows);
+    rows.push(ENDIF);
+    if rng.one_in(3) {
+        rows.push(BARRIER);
+    }
+    rows
+}
+
+fn arm(rng: &mut Rng, rows: &mut Vec<Row>) {
+    // R2 is 0 here: all threads mean the same cell by it.
+    let at = rng.pick(&[0, 2]);
+    match rng.below(8) {
+        0 => rows.push(BARRIER),
+        1 | 2 => rows.push(store(at, 1)),
+        3 | 4 => rows.push(load(3, at)),
+        5 => rows.extend([store(at, 0), load(3, at)]),
+        6 => rows.extend([begin_while(0), BARRIER, sub(0, 0, 0), ENDWHILE]),
+        _ => {}
+    }
+}
+
+/// A loop in which each thread comes to the barrier once, maybe not in the
+/// same trip: at one row, with unequal loop counts.
+fn turns(rng: &mut Rng) -> Vec<Row> {
+    let test = if rng.one_in(2) {
+        eq(3, 0, 2)
+    } else {
+        eq(3, 1, 2)
+    };
+    let trips = rng.range(1, 2);
+    let mut rows = vec![tid(0), set(1, 1), set(2, trips), begin_while(2)];
+    if rng.one_in(2) {
+        rows.push(sub(2, 2, 1));
+        rows.extend([test, begin_if(3), BARRIER, ENDIF, ENDWHILE]);
+    } else {
+        rows.extend([test, begin_if(3), BARRIER, ENDIF]);
+        rows.extend([sub(2, 2, 1), ENDWHILE]);
+    }
+    rows
+}
+
+/// A barrier in two loops, whose trip counts are exchanged between threads or
+/// the same for all.
+fn two_loops(rng: &mut Rng) -> Vec<Row> {
+    let number = if rng.percent(70) {
+        tid(0)
+    } else {
+        set(0, rng.below(2))
+    };
+    vec![
+        number,
+        set(1, 1),
+        add(3, 0, 1), // R0 + 1 trips inside
+        sub(2, 1, 0),
+        add(2, 2, 1), // 2 - R0 trips outside
+        begin_while(2),
+        add(4, 3, 15),
+        begin_while(4),
+        BARRIER,
+        sub(4, 4, 1),
+        ENDWHILE,
+        sub(2, 2, 1),
+        ENDWHILE,
+    ]
+}

@@ -1,0 +1,174 @@
+//! The answers' types, and how the library writes them as words.
+
+use crate::raw::{OutcomeWords, RefusalWords};
+
+/// An input or a buffer that is turned back, and where.
+#[derive(Clone, Copy, Debug, PartialEq, Eq, Hash, PartialOrd, Ord)]
+pub struct Refusal {
+    /// Which refusal.
+    pub number: u32,
+    /// The line from 1, the row from 0, the length needed, or 0.
+    pub place: u32,
+}
+
+/// How two accesses to one cell conflict: what the other did, then what the acting thread does.
+#[derive(Clone, Copy, Debug, PartialEq, Eq, Hash, PartialOrd, Ord)]
+pub enum AccessKind {
+    /// The other only read, the thread stores.
+    Rw,
+    /// The other wrote, the thread loads.
+    Wr,
+    /// The other wrote, the thread stores.
+    Ww,
+}
+
+/// How a run ended.
+#[derive(Clone, Copy, Debug, PartialEq, Eq, Hash)]
+pub enum Verdict {
+    /// The table's end was reached; so it is by every run of the threads.
+    Passed,
+    /// Two threads met at a cell.
+    Race {
+        /// Where the run stopped.
+        row: u32,
+        /// The acting thread.
+        thread: u32,
+        /// The lowest thread that it conflicts with.
+        other: u32,
+        /// How they conflict.
+        kind: AccessKind,
+        /// The cell.
+        at: u32,
+    },
+    /// An access outside the cells.
+    Outside {
+        /// Where the run stopped.
+        row: u32,
+        /// The acting thread.
+        thread: u32,
+        /// The number that was used.
+        at: u32,
+    },
+    /// A barrier that some threads came to, but not all.
+    Diverged {
+        /// Where the run stopped.
+        row: u32,
+        /// The lowest thread at the barrier.
+        thread: u32,
+        /// The lowest thread that is missing.
+        other: u32,
+    },
+    /// As many rows run as the limit allows.
+    Spent {
+        /// The row that was due.
+        row: u32,
+    },
+}
+
+/// A verdict with the counts of its run.
+#[derive(Clone, Copy, Debug, PartialEq, Eq, Hash)]
+pub struct Outcome {
+    /// How the run ended.
+    pub verdict: Verdict,
+    /// Rows run.
+    pub rows: u32,
+    /// Rows run, counted for each thread that was enabled.
+    pub steps: u32,
+    /// Barriers that all threads came to.
+    pub barriers: u32,
+}
+
+/// What a report is about.
+#[derive(Clone, Copy, Debug, PartialEq, Eq)]
+pub enum Subject {
+    /// A launch that ran.
+    Ran(Outcome),
+    /// A launch that was turned back.
+    Refused(Refusal),
+}
+
+impl Refusal {
+    pub(crate) fn from_words([number, place]: RefusalWords) -> Self {
+        Self { number, place }
+    }
+}
+
+impl AccessKind {
+    /// The library proves that it answers no other code.
+    fn from_code(code: u32) -> Self {
+        match code {
+            1 => Self::Rw,
+            2 => Self::Wr,
+            3 => Self::Ww,
+            _ => panic!("the library answered kind {code}"),
+        }
+    }
+
+    fn code(self) -> u32 {
+        match self {
+            Self::Rw => 1,
+            Self::Wr => 2,
+            Self::Ww => 3,
+        }
+    }
+}
+
+impl Verdict {
+    /// The library proves that it answers no other code.
+    fn from_words([code, row, thread, other, kind, at, ..]: OutcomeWords) -> Self {
+        match code {
+            1 => Self::Passed,
+            2 => Self::Race {
+                row,
+                thread,
+                other,
+                kind: AccessKind::from_code(kind),
+                at,
+            },
+            3 => Self::Outside { row, thread, at },
+            4 => Self::Diverged { row, thread, other },
+            5 => Self::Spent { row },
+            _ => panic!("the library answered verdict {code}"),
+        }
+    }
+
+    /// Verdict, row, thread, other, kind, at; 0 where a word has no meaning.
+    fn words(self) -> [u32; 6] {
+        match self {
+            Self::Passed => [1, 0, 0, 0, 0, 0],
+            Self::Race {
+                row,
+                thread,
+                other,
+                kind,
+                at,
+            } => [2, row, thread, other, kind.code(), at],
+            Self::Outside { row, thread, at } => [3, row, thread, 0, 0, at],
+            Self::Diverged { row, thread, other } => [4, row, thread, other, 0, 0],
+            Self::Spent { row } => [5, row, 0, 0, 0, 0],
+        }
+    }
+}
+
+impl Outcome {
+    pub(crate) fn from_words(words: OutcomeWords) -> Self {
+        let [.., rows, steps, barriers] = words;
+        Self {
+            verdict: Verdict::from_words(words),
+            rows,
+            steps,
+            barriers,
+        }
+    }
+
+    pub(crate) fn words(self) -> OutcomeWords {
+        let [verdict, row, thread, other, kind, at] = self.verdict.words();
+        let Self {
+            rows,
+            steps,
+            barriers,
+            ..
+        } = self;
+        [verdict, row, thread, other, kind, at, rows, steps, barriers]
+    }
+}

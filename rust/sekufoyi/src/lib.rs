@@ -1,0 +1,59 @@
+//! The verified checker for barrier kernels, for Rust. Every function takes any bytes, numbers and buffers, and answers as the
+//! specification says; where it refuses, it leaves every lent buffer as it was.
+
+mod answers;
+mod raw;
+#[cfg(test)]
+mod tests;
+
+pub use answers::{AccessKind, Outcome, Refusal, Subject, Verdict};
+
+/// Words of cells that [`check_file`] is lent.
+pub const LENT_CELLS: usize = 1_024;
+/// Words of log that [`check_file`] is lent.
+pub const LENT_LOG: usize = 2_048;
+/// Bytes of output that [`check_file`] needs at least: enough for every report.
+pub const REPORT_ROOM: usize = 17_408;
+
+/// Checks a launch file, writes its report to the start of `output` and gives the report's length.
+pub fn check_file(
+    file: &[u8],
+    cells: &mut [u32],
+    log: &mut [u32],
+    output: &mut [u8],
+) -> Result<usize, Refusal> {
+    written(raw::check_file(file, cells, log, output))
+}
+
+/// Runs a kernel table over the lent cells, which hold the launch's words before and the run's words after.
+pub fn bare_launch(
+    table: &[u8],
+    threads: u32,
+    cell_count: u32,
+    limit: u32,
+    cells: &mut [u32],
+    log: &mut [u32],
+) -> Result<Outcome, Refusal> {
+    let answer = raw::bare_launch(table, threads, cell_count, limit, cells, log);
+    if answer.ran {
+        Ok(Outcome::from_words(answer.outcome))
+    } else {
+        Err(Refusal::from_words(answer.refusal))
+    }
+}
+
+/// Writes a report to the start of `output` and gives its length. A refusal's report has no cells: they are not looked at.
+pub fn write_report(subject: Subject, cells: &[u32], output: &mut [u8]) -> Result<usize, Refusal> {
+    written(match subject {
+        Subject::Ran(outcome) => raw::write_report(&outcome.words(), cells, output),
+        Subject::Refused(Refusal { number, place }) => raw::write_refusal(number, place, output),
+    })
+}
+
+/// No report is empty: a length of 0 says that there is none.
+fn written((length, refusal): (usize, raw::RefusalWords)) -> Result<usize, Refusal> {
+    match length {
+        0 => Err(Refusal::from_words(refusal)),
+        _ => Ok(length),
+    }
+}

@@ -1,0 +1,159 @@
+//! The C functions of `include/sekufoyi.h`, and one safe call for each. All of the crate's unsafe code is here.
+#![allow(unsafe_code)]
+
+/// The words of an outcome, as the header orders them.
+pub(crate) type OutcomeWords = [u32; 9];
+
+/// A refusal's number and place; both 0 where there is none.
+pub(crate) type RefusalWords = [u32; 2];
+
+extern "C" {
+    fn sekufoyi_check_file(
+        file: *const u8,
+        file_length: usize,
+        cells: *mut u32,
+        cells_length: usize,
+        log: *mut u32,
+        log_length: usize,
+        output: *mut u8,
+        output_length: usize,
+        refusal: *mut RefusalWords,
+    ) -> usize;
+
+    fn sekufoyi_bare_launch(
+        table: *const u8,
+        table_length: usize,
+        threads: u32,
+        cell_count: u32,
+        limit: u32,
+        cells: *mut u32,
+        cells_length: usize,
+        log: *mut u32,
+        log_length: usize,
+        outcome: *mut OutcomeWords,
+        refusal: *mut RefusalWords,
+    ) -> bool;
+
+    fn sekufoyi_write_report(
+        outcome: *const OutcomeWords,
+        cells: *const u32,
+        cells_length: usize,
+        output: *mut u8,
+        output_length: usize,
+        refusal: *mut RefusalWords,
+    ) -> usize;
+
+    fn sekufoyi_write_refusal(
+        number: u32,
+        place: u32,
+        output: *mut u8,
+        output_length: usize,
+        refusal: *mut RefusalWords,
+    ) -> usize;
+}
+
+/// What stands where an answer goes before the call, so that a word the library does not write is seen.
+const UNWRITTEN: u32 = u32::MAX;
+
+/// The report's length, or the refusal.
+pub(crate) fn check_file(
+    file: &[u8],
+    cells: &mut [u32],
+    log: &mut [u32],
+    output: &mut [u8],
+) -> (usize, RefusalWords) {
+    let mut refusal = [UNWRITTEN; 2];
+    // SAFETY: each pointer comes with its slice's own length, a slice's pointer is never null, and exclusive borrows overlap
+    // nothing. The library keeps no pointer.
+    let length = unsafe {
+        sekufoyi_check_file(
+            file.as_ptr(),
+            file.len(),
+            cells.as_mut_ptr(),
+            cells.len(),
+            log.as_mut_ptr(),
+            log.len(),
+            output.as_mut_ptr(),
+            output.len(),
+            &mut refusal,
+        )
+    };
+    (length, refusal)
+}
+
+/// The answer of a bare launch: whether it ran, its outcome and its refusal.
+pub(crate) struct BareAnswer {
+    pub ran: bool,
+    pub outcome: OutcomeWords,
+    pub refusal: RefusalWords,
+}
+
+pub(crate) fn bare_launch(
+    table: &[u8],
+    threads: u32,
+    cell_count: u32,
+    limit: u32,
+    cells: &mut [u32],
+    log: &mut [u32],
+) -> BareAnswer {
+    let mut outcome = [UNWRITTEN; 9];
+    let mut refusal = [UNWRITTEN; 2];
+    // SAFETY: as in `check_file`; the outcome has the nine words and the refusal the two that are asked for. A C bool is a Rust bool.
+    let ran = unsafe {
+        sekufoyi_bare_launch(
+            table.as_ptr(),
+            table.len(),
+            threads,
+            cell_count,
+            limit,
+            cells.as_mut_ptr(),
+            cells.len(),
+            log.as_mut_ptr(),
+            log.len(),
+            &mut outcome,
+            &mut refusal,
+        )
+    };
+    BareAnswer {
+        ran,
+        outcome,
+        refusal,
+    }
+}
+
+/// The length of an outcome's report, or the refusal.
+pub(crate) fn write_report(
+    outcome: &OutcomeWords,
+    cells: &[u32],
+    output: &mut [u8],
+) -> (usize, RefusalWords) {
+    let mut refusal = [UNWRITTEN; 2];
+    // SAFETY: as in `check_file`; outcome and cells are only read, and the output, borrowed exclusively, overlaps neither.
+    let length = unsafe {
+        sekufoyi_write_report(
+            outcome,
+            cells.as_ptr(),
+            cells.len(),
+            output.as_mut_ptr(),
+            output.len(),
+            &mut refusal,
+        )
+    };
+    (length, refusal)
+}
+
+/// The length of a refusal's report, or the refusal to write it.
+pub(crate) fn write_refusal(number: u32, place: u32, output: &mut [u8]) -> (usize, RefusalWords) {
+    let mut refusal = [UNWRITTEN; 2];
+    // SAFETY: as in `check_file`: the output's pointer with its own length, and two words for the refusal.
+    let length = unsafe {
+        sekufoyi_write_refusal(
+            number,
+            place,
+            output.as_mut_ptr(),
+            output.len(),
+            &mut refusal,
+        )
+    };
+    (length, refusal)
+}
