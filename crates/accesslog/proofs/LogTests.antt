@@ -11,7 +11,7 @@ use Rattle.spec.specs.Table.{kindOf}
 use Rattle.spec.specs.Mask.{maskWord}
 use Rattle.spec.specs.Log.{conflictMask, raceKind, logged}
 use Rattle.layout.proofs.Memory.{LogIs}
-use Rattle.layout.proofs.LogBuffer.{ConflictIs, KindIs, LoggedIs, conflict-is, tested-load, tested-store, logged-load, logged-store, kind-rw, kind-ww}
+use Rattle.layout.proofs.LogBuffer.{ConflictIs, KindIs, LoggedIs, conflict-is, tested-load, tested-store, logged-load, logged-store, kind-rw, kind-ww, ConflictBy, LoggedBy}
 
 pub mem-load : (op : ℕ) (m : Mem) → op ≡ 16 → opOf op ≡ MEM m → m ≡ LOAD
 unfolding opOf opTable
@@ -22,14 +22,14 @@ unfolding opOf opTable
 mem-store op m e q = let z : MEM m ≡ MEM STORE = sym q ∙ ap opOf e in cc
 
 module _ (op k i : ℕ) (log : List ℕ) (h : i < k) where
-  pub conflict-by-load : (t w r : ℕ) → op ≡ 16 → w ≡ getD log (k + i) 0 → r ≡ bitAnd w (4294967295 - 2 ^ t) → ConflictIs op k i t log r
+  conflicts-load : (t w r : ℕ) → op ≡ 16 → w ≡ getD log (k + i) 0 → r ≡ bitAnd w (4294967295 - 2 ^ t) → ConflictIs op k i t log r
   unfolding kindOf
-  conflict-by-load t w r e ew q n v m G o few l L =
+  conflicts-load t w r e ew q n v m G o few l L =
       q ∙ conflict-is n k G log L i h few t l load w (ew ∙ tested-load n k G log L i h few t l) ∙ ap (λ x. maskWord (conflictMask G i t (kindOf x v))) (sym (mem-load op m e o))
 
-  pub conflict-by-store : (t w r : ℕ) → op ≡ 17 → w ≡ bitOr (getD log (k + i) 0) (getD log i 0) → r ≡ bitAnd w (4294967295 - 2 ^ t) → ConflictIs op k i t log r
+  conflicts-store : (t w r : ℕ) → op ≡ 17 → w ≡ bitOr (getD log (k + i) 0) (getD log i 0) → r ≡ bitAnd w (4294967295 - 2 ^ t) → ConflictIs op k i t log r
   unfolding kindOf
-  conflict-by-store t w r e ew q n v m G o few l L =
+  conflicts-store t w r e ew q n v m G o few l L =
       q ∙ conflict-is n k G log L i h few t l (store v) w (ew ∙ tested-store n k G log L i h few t l v) ∙ ap (λ x. maskWord (conflictMask G i t (kindOf x v))) (sym (mem-store op m e o))
 
   pub kind-by-load : (u : ℕ) → op ≡ 16 → KindIs op k i u log WriteRead
@@ -44,12 +44,25 @@ module _ (op k i : ℕ) (log : List ℕ) (h : i < k) where
   unfolding kindOf
   kind-by-writer u b e q z n v m G o L = sym (kind-ww n k G log L i h v u b q z) ∙ ap (λ x. raceKind G i u (kindOf x v)) (sym (mem-store op m e o))
 
-  pub logged-by-load : (t w : ℕ) → op ≡ 16 → w ≡ bitOr (getD log i 0) (2 ^ t) → LoggedIs op k i t log (set log i w)
+  logs-load : (t w : ℕ) → op ≡ 16 → w ≡ bitOr (getD log i 0) (2 ^ t) → LoggedIs op k i t log (set log i w)
   unfolding kindOf
-  logged-by-load t w e q n v m G o few l L =
+  logs-load t w e q n v m G o few l L =
       subst (λ x. LogIs n k (logged G i t (kindOf x v)) (set log i w)) (sym (mem-load op m e o)) (logged-load n k G log L i h few t l w q)
 
-  pub logged-by-store : (t w : ℕ) → op ≡ 17 → w ≡ bitOr (getD log (k + i) 0) (2 ^ t) → LoggedIs op k i t log (set log (k + i) w)
+  logs-store : (t w : ℕ) → op ≡ 17 → w ≡ bitOr (getD log (k + i) 0) (2 ^ t) → LoggedIs op k i t log (set log (k + i) w)
   unfolding kindOf
-  logged-by-store t w e q n v m G o few l L =
+  logs-store t w e q n v m G o few l L =
       subst (λ x. LogIs n k (logged G i t (kindOf x v)) (set log (k + i) w)) (sym (mem-store op m e o)) (logged-store n k G log L i h few t l v w q)
+
+  -- By the thread's bit.
+  pub conflict-by-load : (bit w r : ℕ) → op ≡ 16 → w ≡ getD log (k + i) 0 → r ≡ bitAnd w (4294967295 - bit) → ConflictBy op k i bit log r
+  conflict-by-load bit w r e ew q t h b = conflicts-load t w r e ew (q ∙ ap (λ (x : ℕ). bitAnd w (4294967295 - x)) b)
+
+  pub conflict-by-store : (bit w r : ℕ) → op ≡ 17 → w ≡ bitOr (getD log (k + i) 0) (getD log i 0) → r ≡ bitAnd w (4294967295 - bit) → ConflictBy op k i bit log r
+  conflict-by-store bit w r e ew q t h b = conflicts-store t w r e ew (q ∙ ap (λ (x : ℕ). bitAnd w (4294967295 - x)) b)
+
+  pub logged-by-load : (bit : ℕ) → op ≡ 16 → LoggedBy op k i bit log (set log i (bitOr (getD log i 0) bit))
+  logged-by-load bit e t h b = logs-load t (bitOr (getD log i 0) bit) e (ap (bitOr (getD log i 0)) b)
+
+  pub logged-by-store : (bit : ℕ) → op ≡ 17 → LoggedBy op k i bit log (set log (k + i) (bitOr (getD log (k + i) 0) bit))
+  logged-by-store bit e t h b = logs-store t (bitOr (getD log (k + i) 0) bit) e (ap (bitOr (getD log (k + i) 0)) b)

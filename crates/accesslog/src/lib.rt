@@ -2,18 +2,18 @@
 ghost use mathlib.Core.Path.{_≡_};
 ghost use Prim.Native.Nat.{_<_};
 ghost use lib.ListN.{length, replicate};
-ghost use Rattle.layout.proofs.LogBuffer.{LogAsks, ConflictIs, KindIs, LoggedIs};
+ghost use Rattle.layout.proofs.LogBuffer.{LogAsks, ConflictBy, KindIs, LoggedBy};
 
-// The access test: the threads but t whose logged accesses of cell i conflict with an access by op.
-pub fn conflict(log: &[u32], cells: usize, i: usize, t: u32, op: u8) -> u32
-    requires { ⌜ (t < 32) × LogAsks op cells i (now log) ⌝ }
-    ensures { λ r. ⌜ ConflictIs op cells i t (now (log .entry)) r ⌝ }
+// The access test: the threads but the one of this bit whose logged accesses of cell i conflict with an access by op.
+pub fn conflict(log: &[u32], cells: usize, i: usize, bit: u32, op: u8) -> u32
+    requires { ⌜ LogAsks op cells i (now log) ⌝ }
+    ensures { λ r. ⌜ ConflictBy op cells i bit (now (log .entry)) r ⌝ }
 {
     let w = log[cells + i];
     if op == 16 {
-        return masks::without_thread(w, t);
+        return masks::minus(w, bit);
     }
-    masks::without_thread(w | log[i], t)
+    masks::minus(w | log[i], bit)
 }
 
 // The kind of a race with the thread `other` at cell i.
@@ -30,15 +30,15 @@ pub fn race_kind(log: &[u32], cells: usize, i: usize, other: u32, op: u8) -> spe
     spec::AccessKind::WriteWrite
 }
 
-// Thread t enters the mask of cell i.
-pub fn enter(log: &mut [u32], cells: usize, i: usize, t: u32, op: u8)
-    requires { ⌜ (t < 32) × LogAsks op cells i (now log) ⌝ }
-    ensures { λ _. ⌜ LoggedIs op cells i t (now (log .entry)) (now (log .exit)) ⌝ }
+// The thread of this bit enters the mask of cell i.
+pub fn enter(log: &mut [u32], cells: usize, i: usize, bit: u32, op: u8)
+    requires { ⌜ LogAsks op cells i (now log) ⌝ }
+    ensures { λ _. ⌜ LoggedBy op cells i bit (now (log .entry)) (now (log .exit)) ⌝ }
 {
     if op == 16 {
-        log[i] = masks::with_thread(log[i], t);
+        log[i] = log[i] | bit;
     } else {
-        log[cells + i] = masks::with_thread(log[cells + i], t);
+        log[cells + i] = log[cells + i] | bit;
     }
 }
 

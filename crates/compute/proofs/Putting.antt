@@ -10,7 +10,7 @@ use borrow.Author.Tests.{eq-eqb, ne-eqb}
 use lib.Pow.{pow-pos, ones-split, ones-lt, high}
 use lib.ListN.{length, getD, set, length-set}
 use lib.Seq.{getD-set-same, getD-set-other}
-use Rattle.compute.specs.RowLanes.{Puts, lane, chosen}
+use Rattle.compute.specs.RowLanes.{Puts, lane, given, chosen}
 
 module _ (d : ℕ) (F : ℕ → ℕ) (regs : List ℕ) where
   pub puts-none : Puts d F regs regs 0
@@ -48,18 +48,20 @@ puts-agree d n F G regs ys zs s l P Q same t r h = by (ℕ-discrete r d)
     by (yes e) = ap (λ i. lane i ys t) e ∙ P .below s t (omega arith) ∙ same t h ∙ sym (Q .below s t h) ∙ ap (λ i. lane i zs t) (sym e)
     by (no ne) = P .above (r * 32 + t) (λ j k e. ne (omega arith)) ∙ sym (Q .above (r * 32 + t) (λ j k e. ne (omega arith)))
 
--- Every bit of 2 ^ 32 - 1 is 1.
+-- Every bit of 2 ^ n - 1 is 1.
 all-bits : (j t : ℕ) → (2 ^ (suc j + t) - 1) / 2 ^ t % 2 ≡ 1
 all-bits j t =
     ap (λ z. z / 2 ^ t % 2) (ones-split (suc j) t) ∙ ap (λ z. z % 2) (high (2 ^ suc j - 1) t (ones-lt t))
     ∙ (let e : (2 ^ suc j - 1) % 2 ≡ 1 = omega (arith, pow-pos j) in e)
 
+-- A lane, by whether it is on.
+pub given-on : (on : ℕ) (v : List ℕ) (d : ℕ) (regs : List ℕ) (t : ℕ) → on ≡ 1 → getD v t 0 ≡ given on v d regs t
+given-on on v d regs t e = sym (rw (eq-eqb on 1 e))
+
+pub given-off : (on : ℕ) (v : List ℕ) (d : ℕ) (regs : List ℕ) (t : ℕ) → (on ≡ 1 → ⊥) → lane d regs t ≡ given on v d regs t
+given-off on v d regs t n = sym (rw (ne-eqb on 1 n))
+
 module _ (v : List ℕ) (mask d : ℕ) (regs : List ℕ) (t : ℕ) where
-  pub chosen-in : mask / 2 ^ t % 2 ≡ 1 → getD v t 0 ≡ chosen v mask d regs t
-  chosen-in e = sym (rw (eq-eqb (mask / 2 ^ t % 2) 1 e))
-
-  pub chosen-off : (mask / 2 ^ t % 2 ≡ 1 → ⊥) → lane d regs t ≡ chosen v mask d regs t
-  chosen-off n = sym (rw (ne-eqb (mask / 2 ^ t % 2) 1 n))
-
-  pub chosen-all : mask ≡ 4294967295 → t < 32 → getD v t 0 ≡ chosen v mask d regs t
-  chosen-all e h = chosen-in (ap (λ z. z / 2 ^ t % 2) (e ∙ ap (λ z. 2 ^ z - 1) (let q : 32 ≡ suc (31 - t) + t = omega arith in q)) ∙ all-bits (31 - t) t)
+  pub chosen-all : (n all : ℕ) → mask ≡ all → all ≡ 2 ^ n - 1 → t < n → getD v t 0 ≡ chosen v mask d regs t
+  chosen-all n all e a h =
+      given-on (mask / 2 ^ t % 2) v d regs t (ap (λ z. z / 2 ^ t % 2) (e ∙ a ∙ ap (λ z. 2 ^ z - 1) (let q : n ≡ suc (n - 1 - t) + t = omega arith in q)) ∙ all-bits (n - 1 - t) t)

@@ -19,7 +19,7 @@ use Rattle.layout.proofs.Memory.{Regs, Memory, Did, OneTurn, ComputeAsks, Compu
 use Rattle.layout.proofs.Buffers.{regs-set}
 use Rattle.layout.proofs.Turning.{Turning, turn-start, turn-in, turn-out, turn-whole}
 use Rattle.compute.specs.RowLanes.{Puts, lane, chosen, RowLanes}
-use Rattle.compute.proofs.Putting.{puts-none, puts-old, puts-more, puts-agree, chosen-in, chosen-off}
+use Rattle.compute.proofs.Putting.{puts-none, puts-old, puts-more, puts-agree, given-on, given-off}
 
 -- Buffers that are the same where registers stand are those of the same state.
 did-alike : (n k : ℕ) (s : LockState) (o : Step) (regs regs′ cells log : List ℕ) → length regs′ ≡ 512 → ((t r : ℕ) → t < n → lane r regs′ t ≡ lane r regs t)
@@ -93,13 +93,13 @@ module _ {op n d a b k : ℕ} {regs v : List ℕ} (mask : ℕ) (A : ComputeAsks 
         ap₂ (λ i j. value c n t i j (reg z t (x .a)) (reg z t (x .b))) ea eb
         ∙ sym (B .at c o ek t (reg z t (x .a)) (reg z t (x .b)) (omega (arith, M .few))
         (λ m. reg-is t a (x .a) h ea (A .left m) z Z) (λ m. reg-is t b (x .b) h eb (A .right m) z Z))
-        ∙ chosen-in v mask d regs t q))
+        ∙ given-on (mask / 2 ^ t % 2) v d regs t q))
 
     -- A thread that is not enabled keeps its register.
     turn-off : (t : ℕ) → t < n → (mask / 2 ^ t % 2 ≡ 1 → ⊥) → after t ≡ after (suc t)
     unfolding after
     turn-off t h q =
-        sym (ap (set (after t) (d * 32 + t)) (sym (puts-old d new regs (after t) t (after-puts t (omega (arith, M .few))) ∙ chosen-off v mask d regs t q)) ∙ set-getD (after t) (d * 32 + t) 0)
+        sym (ap (set (after t) (d * 32 + t)) (sym (puts-old d new regs (after t) t (after-puts t (omega (arith, M .few))) ∙ given-off (mask / 2 ^ t % 2) v d regs t q)) ∙ set-getD (after t) (d * 32 + t) 0)
 
     step : (j t : ℕ) (rs : List ℕ) → Turning (turn c n x) n s j (t + 1) (mask / 2 ^ t / 2) rs cells log → Turning (turn c n x) n s j (suc t) (mask / 2 ^ suc t) rs cells log
     step j t rs T = subst₂ (λ i m. Turning (turn c n x) n s j i m rs cells log) (add-one t) (shr-shr mask t 1 ∙ ap (λ i. mask / 2 ^ i) (add-one t)) T
@@ -126,10 +126,10 @@ module _ {op n d a b k : ℕ} {regs v : List ℕ} (mask : ℕ) (A : ComputeAsks 
         turn-whole (turn c n x) n s (T .0) n (mask / 2 ^ n) (after n) cells log (T .1) mask (ones mask) em refl (le-refl n)
 
   -- The code's row: what it put into the lanes is v's under the mask.
-  pub row-done : {G : ℕ → ℕ} {regs′ : List ℕ} → Puts d G regs regs′ 32 → ((t : ℕ) → t < 32 → G t ≡ new t) → ComputeAll op n mask d a b k regs regs′
+  pub row-done : {G : ℕ → ℕ} {regs′ : List ℕ} → Puts d G regs regs′ 32 → ((t : ℕ) → t < n → G t ≡ new t) → ComputeAll op n mask d a b k regs regs′
   unfolding turn
   row-done {G} {regs′} P same c x o ed ea eb ek cells log s em el M =
       let size = M .regs-are .size in
       did-alike n (ones mask) s (inTurn (turn c n x) (members (s .enabled)) s) (after n) regs′ cells log (P .size ∙ size)
-      (puts-agree d n G new regs regs′ (after n) size (M .few) P (after-puts n (M .few)) (λ t h. same t (omega (arith, M .few))))
+      (puts-agree d n G new regs regs′ (after n) size (M .few) P (after-puts n (M .few)) same)
       (row-did c x o ed ea eb ek cells log s em el M)

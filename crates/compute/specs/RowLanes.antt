@@ -22,6 +22,12 @@ pub record Puts (d : ℕ) (F : ℕ → ℕ) (regs regs′ : List ℕ) (t : ℕ) 
   pub below : length regs ≡ 512 → (j : ℕ) → j < t → lane d regs′ j ≡ F j
   pub above : (i : ℕ) → ((j : ℕ) → j < t → i ≡ d * 32 + j → ⊥) → getD regs′ i 0 ≡ getD regs i 0
 
--- A lane of the mask is v's, any other is as it was.
+-- A lane that is on is v's, any other is as it was; and the same by a mask.
+abbrev pub given : (on : ℕ) (v : List ℕ) (d : ℕ) (regs : List ℕ) → ℕ → ℕ
+given on v d regs t = cond (eqb on 1) (getD v t 0) (lane d regs t)
+
+abbrev pub picked : (v on : List ℕ) (d : ℕ) (regs : List ℕ) → ℕ → ℕ
+picked v on d regs t = given (getD on t 0) v d regs t
+
 abbrev pub chosen : (v : List ℕ) (mask d : ℕ) (regs : List ℕ) → ℕ → ℕ
-chosen v mask d regs t = cond (eqb (mask / 2 ^ t % 2) 1) (getD v t 0) (lane d regs t)
+chosen v mask d regs t = given (mask / 2 ^ t % 2) v d regs t

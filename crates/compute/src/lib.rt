@@ -1,9 +1,9 @@
 // A computing row: its values in all 32 lanes, then a store under the mask.
-ghost use Prim.Native.Nat.{_<_, _≤_};
+ghost use Prim.Native.Nat.{_/_, _%_, _^_, _<_, _≤_};
 ghost use lib.ListN.{getD};
 ghost use Rattle.layout.proofs.Memory.{ComputeAsks, ComputeAll};
 ghost use Rattle.lanes.specs.Lanes.{Filled};
-ghost use Rattle.compute.specs.RowLanes.{Puts, lane, chosen, RowLanes};
+ghost use Rattle.compute.specs.RowLanes.{Puts, lane, picked, RowLanes};
 
 // Register r of all threads.
 fn lanes_of(regs: &[u32; 512], r: usize) -> [u32; 32]
@@ -32,21 +32,34 @@ fn threads() -> [u32; 32]
     v
 }
 
-// The lanes of the mask go to register d.
-fn put(regs: &mut [u32; 512], d: usize, v: [u32; 32], mask: u32)
+// Lane t holds bit t of the mask.
+fn bits_of(mask: u32) -> [u32; 32]
+    ensures { λ v. ⌜ Filled (λ t. mask / 2 ^ t % 2) v 32 ⌝ }
+{
+    let mut v: [u32; 32] = [0; 32];
+    let mut t = 0;
+    while t < 32 {
+        v[t] = (mask >> t) % 2;
+        t += 1;
+    }
+    v
+}
+
+// The lanes in which `on` is 1 go to register d. That the bits were spread before keeps this loop straight.
+fn put(regs: &mut [u32; 512], d: usize, v: [u32; 32], on: [u32; 32])
     requires { ⌜ d < 16 ⌝ }
-    ensures { λ _. ⌜ Puts d (chosen v mask d (now (regs .entry))) (now (regs .entry)) (now (regs .exit)) 32 ⌝ }
+    ensures { λ _. ⌜ Puts d (picked v on d (now (regs .entry))) (now (regs .entry)) (now (regs .exit)) 32 ⌝ }
 {
     let mut t = 0;
     while t < 32 {
         let i = d * 32 + t;
         let old = regs[i];
-        regs[i] = if (mask >> t) % 2 == 1 { v[t] } else { old };
+        regs[i] = if on[t] == 1 { v[t] } else { old };
         t += 1;
     }
 }
 
-// Where all 32 threads are enabled: without the test.
+// Where all threads are enabled: without the test. Lanes behind the last thread hold nothing.
 fn put_all(regs: &mut [u32; 512], d: usize, v: [u32; 32])
     requires { ⌜ d < 16 ⌝ }
     ensures { λ _. ⌜ Puts d (λ t. getD v t 0) (now (regs .entry)) (now (regs .exit)) 32 ⌝ }
@@ -90,9 +103,9 @@ pub fn compute_row(
     ensures { λ _. ⌜ ComputeAll op n mask d a b k (now (regs .entry)) (now (regs .exit)) ⌝ }
 {
     let v = value_lanes(regs, n, op, a, b, k);
-    if mask == 4294967295 {
+    if mask == masks::all(n) {
         put_all(regs, d, v);
     } else {
-        put(regs, d, v, mask);
+        put(regs, d, v, bits_of(mask));
     }
 }

@@ -1,35 +1,7 @@
 // The rows of constructs, and BARRIER. Masks are saved on entry, with the construct's row beside them.
 ghost use mathlib.Core.Path.{_≡_};
 ghost use Prim.Native.Nat.{_<_, _≤_};
-ghost use Rattle.layout.proofs.Memory.{HoldingIs};
 ghost use Rattle.layout.proofs.Represents.{Room, Becomes, ifOn, ElseBecomes, EndifBecomes, RoomForWhile, EnteredWhile, WhileBecomes, EndwhileBecomes, DepthAsks, ConstructDone, BarrierDone, movedOn};
-
-fn index(t: u32) -> usize
-    ensures { λ r. ⌜ r ≡ t ⌝ }
-{
-    t as usize
-}
-
-// Those of the mask whose register a is nonzero.
-fn holding(regs: &[u32; 512], n: u32, mask: u32, a: usize) -> u32
-    requires { ⌜ (n ≤ 32) × (a < 16) ⌝ }
-    ensures { λ r. ⌜ HoldingIs n mask a (now (regs .entry)) r ⌝ }
-{
-    let mut m = mask;
-    let mut t: u32 = 0;
-    let mut h: u32 = 0;
-    while t < n {
-        if m % 2 == 1 {
-            let j = index(t);
-            if regs[a * 32 + j] != 0 {
-                h = masks::with_thread(h, t);
-            }
-        }
-        m = m / 2;
-        t += 1;
-    }
-    h
-}
 
 fn if_row(
     regs: &[u32; 512],
@@ -47,7 +19,7 @@ fn if_row(
     let mask = s.mask;
     saved[depth] = mask;
     openers[depth] = row;
-    let h = holding(regs, n, mask, a);
+    let h = truth::holding(regs, mask, a);
     layout::State {
         row: row + 1,
         mask: h,
@@ -126,7 +98,7 @@ fn while_row(
     let mask = s.mask;
     let depth = enter_while(saved, openers, s);
     let k = masks::count(mask);
-    let h = holding(regs, n, mask, a);
+    let h = truth::holding(regs, mask, a);
     if h == 0 {
         let m = saved[depth - 1];
         return layout::State {

@@ -3,7 +3,6 @@ pub mod Lists
 pub mod Buffers
 pub mod LogBuffer
 pub mod Turning
-pub mod Holding
 pub mod Represents
 pub mod Saving
 pub mod PlainRows

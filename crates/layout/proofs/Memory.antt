@@ -1,10 +1,11 @@
 -- How the code's registers, cells and log stand for those of the lock-step run, and what a thread's turn and a row's turns do to them. Assumes nothing.
 use mathlib.Core.Path.{_≡_}
-use mathlib.Core.List.{List, []}
-use Prim.Native.Nat.{ℕ, _+_, _*_, _<_, _≤_}
+use mathlib.Core.List.{List, [], _∷_}
+use mathlib.Core.Bool.{not}
+use Prim.Native.Nat.{ℕ, zero, suc, _+_, _*_, _<_, _≤_}
 use lib.ListN.{length, getD, set}
 use lib.Count.{ones}
-use Rattle.spec.specs.Mask.{Mask, maskWord, members, holding}
+use Rattle.spec.specs.Mask.{Mask, maskWord, members, holding, nonzero}
 use Rattle.spec.specs.Log.{Log, logWords}
 use Rattle.spec.specs.Op.{Calc, CALC, Mem, MEM, opOf, value}
 use Rattle.spec.specs.Table.{Row}
@@ -74,9 +75,17 @@ AllTurns f n mask regs cells log r k regs′ cells′ log′ =
     (s : LockState) → mask ≡ maskWord (s .enabled) → length (s .enabled) ≡ n → Memory n s regs cells log
     → Did n k s (inTurn f (members (s .enabled)) s) r regs′ cells′ log′
 
+-- The k lanes from i on, by whether register a is 0 in them; and the first k as a word.
+unfoldable pub zeros : (a : ℕ) (regs : List ℕ) (i k : ℕ) → Mask
+zeros a regs i zero = []
+zeros a regs i (suc k) = not (nonzero (getD regs (a * 32 + i) 0)) ∷ zeros a regs (suc i) k
+
+abbrev pub ZerosAre : (a : ℕ) (regs : List ℕ) (k z : ℕ) → Type 0
+ZerosAre a regs k z = z ≡ maskWord (zeros a regs 0 k)
+
 -- Those of a mask whose register a is true.
-abbrev pub HoldingIs : (n mask a : ℕ) → (regs : List ℕ) → ℕ → Type 0
-HoldingIs n mask a regs r = (m : Mask) (rs : List (List ℕ)) → mask ≡ maskWord m → length m ≡ n → Regs n rs regs → r ≡ maskWord (holding a m rs)
+abbrev pub HoldingIs : (mask a : ℕ) → (regs : List ℕ) → ℕ → Type 0
+HoldingIs mask a regs r = (n : ℕ) (m : Mask) (rs : List (List ℕ)) → n ≤ 32 → mask ≡ maskWord m → length m ≡ n → Regs n rs regs → r ≡ maskWord (holding a m rs)
 
 -- What a computing row asks of its bytes: ops 1 to 3 read no register.
 pub record ComputeAsks (op d a b : ℕ) : Type 0 where

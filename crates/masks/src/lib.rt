@@ -16,20 +16,6 @@ pub fn count(m: u32) -> u32
     u32::count_ones(m)
 }
 
-pub fn with_thread(m: u32, t: u32) -> u32
-    requires { ⌜ t < 32 ⌝ }
-    ensures { λ r. ⌜ r ≡ bitOr m (2 ^ t) ⌝ }
-{
-    m | (1 << t)
-}
-
-pub fn without_thread(m: u32, t: u32) -> u32
-    requires { ⌜ t < 32 ⌝ }
-    ensures { λ r. ⌜ r ≡ bitAnd m (4294967295 - 2 ^ t) ⌝ }
-{
-    m & !(1 << t)
-}
-
 pub fn bit(m: u32, t: u32) -> u32
     requires { ⌜ t < 32 ⌝ }
     ensures { λ r. ⌜ r ≡ bitAnd m (2 ^ t) ⌝ }

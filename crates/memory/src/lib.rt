@@ -1,6 +1,6 @@
 // LOAD (16) and STORE (17): one path for both.
 ghost use mathlib.Core.Path.{_≡_};
-ghost use Prim.Native.Nat.{_+_, _*_, _<_, _≤_};
+ghost use Prim.Native.Nat.{_+_, _*_, _^_, _<_, _≤_};
 ghost use lib.ListN.{length};
 ghost use Rattle.layout.proofs.Memory.{AccessAsks, AccessOne, AccessAll, Transferred, CellRegister};
 
@@ -38,17 +38,18 @@ fn cell_register(op: u8, d: usize, a: usize) -> usize
     if op == 16 { a } else { d }
 }
 
-// Thread t's access.
+// Thread t's access. The thread's bit is handed down, so that it is not shifted into place for each access.
 fn access_one(
     regs: &mut [u32; 512],
     cells: &mut [u32],
     log: &mut [u32],
     t: u32,
+    bit: u32,
     op: u8,
     d: usize,
     a: usize,
 ) -> layout::Access
-    requires { ⌜ (t < 32) × AccessAsks op d a (now cells) (now log) ⌝ }
+    requires { ⌜ (t < 32) × AccessAsks op d a (now cells) (now log) × (bit ≡ 2 ^ t) ⌝ }
     ensures { λ r. ⌜ AccessOne op t d a (now (regs .entry)) (now (cells .entry)) (now (log .entry)) r (now (regs .exit)) (now (cells .exit)) (now (log .exit)) ⌝ }
 {
     let j = index(t);
@@ -59,9 +60,9 @@ fn access_one(
     if n <= i {
         return layout::Access::Stop(spec::Verdict::Outside(t, x));
     }
-    let others = accesslog::conflict(log, n, i, t, op);
+    let others = accesslog::conflict(log, n, i, bit, op);
     if others == 0 {
-        accesslog::enter(log, n, i, t, op);
+        accesslog::enter(log, n, i, bit, op);
         transfer(regs, cells, j, i, op, d, a);
         return layout::Access::Done;
     }
@@ -87,9 +88,10 @@ pub fn access_row(
     let mut m = mask;
     let mut t: u32 = 0;
     let mut k: u32 = 0;
+    let mut bit: u32 = 1;
     while t < n {
         if m % 2 == 1 {
-            match access_one(regs, cells, log, t, op, d, a) {
+            match access_one(regs, cells, log, t, bit, op, d, a) {
                 layout::Access::Done => {}
                 layout::Access::Stop(v) => {
                     return layout::Turns {
@@ -101,6 +103,7 @@ pub fn access_row(
             k += 1;
         }
         m = m / 2;
+        bit = bit << 1;
         t += 1;
     }
     layout::Turns {

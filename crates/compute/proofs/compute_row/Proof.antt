@@ -1,7 +1,9 @@
 -- `compute::compute_row` does what the turns of the row's enabled threads do, one after the other. Assumes nothing.
-use mathlib.Core.Path.{refl}
+use mathlib.Core.Path.{ap}
+use Prim.Native.Nat.{ℕ}
 use native.Mathlib.Omega.{arith}
 use borrow.Author.Needs.{needs}
+use Rattle.compute.specs.RowLanes.{given}
 use Rattle.compute.proofs.Putting.{chosen-all}
 use Rattle.compute.proofs.Turns.{row-done}
 use Rattle.compute.proofs.compute_row.Statement.{statement}
@@ -10,24 +12,40 @@ use Rattle.compute.proofs.compute_row.Tie as tie
 value-lanes-requires : tie.Need-value-lanes-requires
 value-lanes-requires c κs = search needs
 
+all-requires : tie.Need-all-requires
+all-requires c κs = search needs
+
 put-all-requires : tie.Need-put-all-requires
 put-all-requires c κs = search needs
+
+bits-of-requires : tie.Need-bits-of-requires
+bits-of-requires c κs = search needs
 
 put-requires : tie.Need-put-requires
 put-requires c κs = search needs
 
 returns : tie.Need-returns
 returns c =
-    let s = c .before .before .before .before .before in
+    let s = c .before .before .before .before .before .before in
     let g = s .args in
-    let v = c .before .before .before .value-lanes in
-    row-done (g .mask) (s .pre .1) (v .ensures) (c .put-all .ensures) (λ t. chosen-all (v .result) (g .mask) (g .d) (g .regs .now) t (omega arith))
+    let v = c .before .before .before .before .value-lanes in
+    row-done (g .mask) (s .pre .1) (v .ensures) (c .put-all .ensures) (λ t. chosen-all (v .result) (g .mask) (g .d) (g .regs .now) t (g .n) (c .before .before .before .all .result) (c .before .before .if1 .taken) (c .before .before .before .all .ensures))
 
 returns-2 : tie.Need-returns-2
 returns-2 c =
-    let s = c .before .before .before .before .before in
-    row-done (s .args .mask) (s .pre .1) (c .before .before .before .value-lanes .ensures) (c .put .ensures) (λ t h. refl)
+    let s = c .before .before .before .before .before .before .before in
+    let g = s .args in
+    let v = c .before .before .before .before .before .value-lanes in
+    row-done (g .mask) (s .pre .1) (v .ensures) (c .put .ensures) (λ t h. ap (λ (on : ℕ). given on (v .result) (g .d) (g .regs .now) t) (c .before .bits-of .ensures .below t (omega (arith, h, s .pre .0))))
 
 pub compute-row-spec : {M : Type 1} → statement M
 compute-row-spec =
-    tie.close (tie.spec value-lanes-requires put-all-requires put-requires returns returns-2)
+    tie.close
+    (tie.spec
+    value-lanes-requires
+    all-requires
+    put-all-requires
+    bits-of-requires
+    put-requires
+    returns
+    returns-2)

@@ -40,7 +40,7 @@ returns : tie.Need-returns
 returns c =
     let g = c .before .before .before .before .args in (
       record { rows-one = refl; steps-some = omega (arith, c .before .count .ensures); barriers-one = omega arith },
-      λ cells log z R. if-done (g .n) z (g .s) (g .regs .now) cells log (g .saved .now) (g .openers .now) R (g .a) (c .before .before .before .holding .result) (c .before .count .result) (g .s .depth) (g .s .row) (g .s .mask) refl refl refl (c .before .before .before .before .pre .3) (c .before .before .before .holding .ensures (z .enabled) (z .regs) (R .enabled-is) (R .enabled-size) (R .memory .regs-are)) (c .before .count .ensures .0),
+      λ cells log z R. if-done (g .n) z (g .s) (g .regs .now) cells log (g .saved .now) (g .openers .now) R (g .a) (c .before .before .before .holding .result) (c .before .count .result) (g .s .depth) (g .s .row) (g .s .mask) refl refl refl (c .before .before .before .before .pre .3) (c .before .before .before .holding .ensures (g .n) (z .enabled) (z .regs) (R .memory .few) (R .enabled-is) (R .enabled-size) (R .memory .regs-are)) (c .before .count .ensures .0),
     )
 
 pub if-row-spec : {M : Type 1} → statement M

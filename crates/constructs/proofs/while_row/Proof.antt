@@ -41,7 +41,7 @@ returns c =
     let g = c .before .before .before .before .before .before .before .before .before .args in
     let w = c .before .before .before .before .before .before .enter-while in (
       record { rows-one = refl; steps-some = omega (arith, c .before .before .before .before .before .count .ensures); barriers-one = omega arith },
-      λ T cells log z ee R. while-leaves (g .n) z (g .s) (g .regs .now) cells log (g .saved .now) (g .openers .now) R T (g .a) (c .before .before .before .before .holding .result) (c .before .before .before .before .before .count .result) (w .result) (g .s .mask) (w .last .0) (w .last .1 .0) (w .ensures) refl (c .before .before .before .before .holding .ensures (z .enabled) (z .regs) (R .enabled-is) (R .enabled-size) (R .memory .regs-are)) (c .before .before .before .before .before .count .ensures .0) (g .end) _ ee (c .before .before .before .if1 .taken) refl,
+      λ T cells log z ee R. while-leaves (g .n) z (g .s) (g .regs .now) cells log (g .saved .now) (g .openers .now) R T (g .a) (c .before .before .before .before .holding .result) (c .before .before .before .before .before .count .result) (w .result) (g .s .mask) (w .last .0) (w .last .1 .0) (w .ensures) refl (c .before .before .before .before .holding .ensures (g .n) (z .enabled) (z .regs) (R .memory .few) (R .enabled-is) (R .enabled-size) (R .memory .regs-are)) (c .before .before .before .before .before .count .ensures .0) (g .end) _ ee (c .before .before .before .if1 .taken) refl,
     )
 
 add-t23 : tie.Need-add-t23
@@ -58,7 +58,7 @@ returns-2 c =
     let g = c .before .before .before .before .before .before .before .before .args in
     let w = c .before .before .before .before .before .enter-while in (
       record { rows-one = refl; steps-some = omega (arith, c .before .before .before .before .count .ensures); barriers-one = omega arith },
-      λ T cells log z ee R. while-stays (g .n) z (g .s) (g .regs .now) cells log (g .saved .now) (g .openers .now) R T (g .a) (c .before .before .before .holding .result) (c .before .before .before .before .count .result) (w .result) (g .s .mask) (w .last .0) (w .last .1 .0) (w .ensures) refl (c .before .before .before .holding .ensures (z .enabled) (z .regs) (R .enabled-is) (R .enabled-size) (R .memory .regs-are)) (c .before .before .before .before .count .ensures .0) (g .s .row) refl (c .before .before .if1 .left),
+      λ T cells log z ee R. while-stays (g .n) z (g .s) (g .regs .now) cells log (g .saved .now) (g .openers .now) R T (g .a) (c .before .before .before .holding .result) (c .before .before .before .before .count .result) (w .result) (g .s .mask) (w .last .0) (w .last .1 .0) (w .ensures) refl (c .before .before .before .holding .ensures (g .n) (z .enabled) (z .regs) (R .memory .few) (R .enabled-is) (R .enabled-size) (R .memory .regs-are)) (c .before .before .before .before .count .ensures .0) (g .s .row) refl (c .before .before .if1 .left),
     )
 
 pub while-row-spec : {M : Type 1} → statement M

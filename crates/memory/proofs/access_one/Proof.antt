@@ -69,7 +69,7 @@ returns-2 c =
     λ n m x o h ed ea s M.
     made-did n (g .t) s (g .regs .now) (g .cells .now) (g .log .now) M h (g .op) (g .d) (g .a) (c .before .before .before .before .before .before .before .before .before .before .before .before .before .before .before .cell-register .result) (c .before .before .before .before .before .before .before .before .before .before .before .before .before .before .before .before .index .result) (c .before .before .before .before .before .before .before .before .before .before .before .before .before .index2 .result) m x o
     (c .before .before .before .before .before .before .before .before .before .before .before .before .before .before .before .before .before .before .before .pre .1 .known) (c .before .before .before .before .before .before .before .before .before .before .before .before .before .before .before .before .before .before .before .pre .1 .small) (c .before .before .before .before .before .before .before .before .before .before .before .before .before .before .before .cell-register .ensures) ed ea (c .before .before .before .before .before .before .before .before .before .before .before .before .before .before .before .before .before .before .before .pre .1 .target) (c .before .before .before .before .before .before .before .before .before .before .before .before .before .before .before .before .before .before .before .pre .1 .source) (c .before .before .before .before .before .before .before .before .before .before .before .before .before .before .before .before .index .ensures) (c .before .before .before .before .before .before .before .before .before .before .before .before .before .index2 .ensures)
-    (c .before .before .before .before .before .before .before .before .before .before .before .before .if1 .left) (c .before .before .before .before .before .before .before .before .before .before .conflict .result) (c .before .before .before .before .before .before .before .before .before .before .conflict .ensures) _ _ _ (c .before .before .before .before .before .before .before .before .before .if2 .taken) (c .before .before .transfer .ensures) (c .before .before .before .before .before .before .before .enter .ensures)
+    (c .before .before .before .before .before .before .before .before .before .before .before .before .if1 .left) (c .before .before .before .before .before .before .before .before .before .before .conflict .result) (c .before .before .before .before .before .before .before .before .before .before .conflict .ensures (g .t) (c .before .before .before .before .before .before .before .before .before .before .before .before .before .before .before .before .before .before .before .pre .0) (c .before .before .before .before .before .before .before .before .before .before .before .before .before .before .before .before .before .before .before .pre .2)) _ _ _ (c .before .before .before .before .before .before .before .before .before .if2 .taken) (c .before .before .transfer .ensures) (c .before .before .before .before .before .before .before .enter .ensures (g .t) (c .before .before .before .before .before .before .before .before .before .before .before .before .before .before .before .before .before .before .before .pre .0) (c .before .before .before .before .before .before .before .before .before .before .before .before .before .before .before .before .before .before .before .pre .2))
 
 -- src/lib.rt:107:9
 lowest-requires : tie.Need-lowest-requires
@@ -90,7 +90,7 @@ returns-3 c =
     λ n m x o h ed ea s M.
     race-did n (g .t) s (g .regs .now) (g .cells .now) (g .log .now) M h (g .op) (g .d) (g .a) (c .before .before .before .before .before .before .before .before .before .cell-register .result) (c .before .before .before .before .before .before .before .before .before .before .index .result) (c .before .before .before .before .before .before .before .index2 .result) m x o
     (c .before .before .before .before .before .before .before .before .before .before .before .before .before .pre .1 .known) (c .before .before .before .before .before .before .before .before .before .before .before .before .before .pre .1 .small) (c .before .before .before .before .before .before .before .before .before .cell-register .ensures) ed ea (c .before .before .before .before .before .before .before .before .before .before .before .before .before .pre .1 .target) (c .before .before .before .before .before .before .before .before .before .before .before .before .before .pre .1 .source) (c .before .before .before .before .before .before .before .before .before .before .index .ensures) (c .before .before .before .before .before .before .before .index2 .ensures)
-    (c .before .before .before .before .before .before .if1 .left) (c .before .before .before .before .conflict .result) (c .before .before .before .before .conflict .ensures) _ _ _ (sym (c .before .before .before .before .before .before .before .index2 .ensures)) (c .before .before .before .if2 .left) (c .before .before .lowest .ensures .0) (c .race-kind .ensures)
+    (c .before .before .before .before .before .before .if1 .left) (c .before .before .before .before .conflict .result) (c .before .before .before .before .conflict .ensures (g .t) (c .before .before .before .before .before .before .before .before .before .before .before .before .before .pre .0) (c .before .before .before .before .before .before .before .before .before .before .before .before .before .pre .2)) _ _ _ (sym (c .before .before .before .before .before .before .before .index2 .ensures)) (c .before .before .before .if2 .left) (c .before .before .lowest .ensures .0) (c .race-kind .ensures)
 
 pub access-one-spec : {M : Type 1} → statement M
 access-one-spec =

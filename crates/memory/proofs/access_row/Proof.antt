@@ -1,7 +1,8 @@
+-- `memory::access_row` does the turns of the enabled threads, one after the other. Assumes nothing.
 use borrow.Author.Needs.{needs}
 use mathlib.Core.Path.{_≡_, refl, ap, _∙_, subst}
 use mathlib.Core.Logic.{⊎-elim}
-use Prim.Native.Nat.{_≤_, _-_}
+use Prim.Native.Nat.{_-_, _^_, _≤_, _<_}
 use native.Mathlib.Omega.{arith}
 use lib.ListN.{length}
 use Rattle.spec.specs.Op.{Mem, MEM, opOf}
@@ -9,19 +10,20 @@ use Rattle.spec.specs.Table.{Row}
 use Rattle.spec.specs.LockStep.{accessTurn}
 use Rattle.layout.proofs.Memory.{OneTurn}
 use Rattle.layout.proofs.Turning.{Turns, turn-start, turn-whole, go-in, go-out, go-stop}
+use Rattle.masks.proofs.Bits.{next-bit}
 use Rattle.memory.proofs.access_row.Statement.{statement}
 use Rattle.memory.proofs.access_row.Tie as tie
 
 abbrev Inv-loop : tie.InvT-loop
-Inv-loop regs₀ cells₀ log₀ n mask op d a m₀ t₀ k₀ regs cells log m t k =
+Inv-loop regs₀ cells₀ log₀ n mask op d a m₀ t₀ k₀ bit₀ regs cells log m t k bit =
     (t ≤ n) × (k ≤ t) × (length cells ≡ length cells₀) × (length log ≡ length log₀)
     × ((y : Mem) (x : Row) → opOf op ≡ MEM y → x .d ≡ d → x .a ≡ a
     → Turns (accessTurn (record { threads = n; cells = length cells₀ }) y x) n mask regs₀ cells₀ log₀ k t m regs cells log)
+    × (t < 32 → bit ≡ 2 ^ t)
 
 abbrev μ-loop : tie.MeasureT-loop
-μ-loop regs₀ cells₀ log₀ n mask op d a m₀ t₀ k₀ regs cells log m t k = n - t
+μ-loop regs₀ cells₀ log₀ n mask op d a m₀ t₀ k₀ bit₀ regs cells log m t k bit = n - t
 
--- src/lib.rt:129:5
 loop-holds : tie.Need-loop-holds Inv-loop μ-loop
 loop-holds c =
     let g = c .before .before .args in (
@@ -31,31 +33,27 @@ loop-holds c =
       refl,
       λ y x o ed ea s e l M.
           turn-start (accessTurn (record { threads = g .n; cells = length (g .cells .now) }) y x) (g .n) s (g .mask) (g .regs .now) (g .cells .now) (g .log .now) e l M,
+      λ h. refl,
     )
 
--- src/lib.rt:131:19
 access-one-requires : tie.Need-access-one-requires Inv-loop μ-loop
 access-one-requires c κs =
     let p = c .before .before .before .before .before .before .before .before .pre .1 in
     let i = c .before .before .before .before .before .loop .inv in
-    (omega (arith, c .before .before .before .before .before .before .before .before .pre .0), record { known = p .known; small = p .small; target = p .target; source = p .source; twice = omega (arith, i .2, i .3, p .twice); cells-few = omega (arith, i .2, p .cells-few) })
+    (omega (arith, c .before .before .before .before .before .before .before .before .pre .0), record { known = p .known; small = p .small; target = p .target; source = p .source; twice = omega (arith, i .2, i .3, p .twice); cells-few = omega (arith, i .2, p .cells-few) }, i .5 (omega (arith, c .before .before .before .before .before .before .before .before .pre .0)))
 
 enum-told : tie.Need-enum-told Inv-loop μ-loop
 enum-told c = search needs
 
--- src/lib.rt:133:38
 enum-known-v : tie.Need-enum-known-v Inv-loop μ-loop
 enum-known-v c = search needs
 
--- src/lib.rt:134:21
 same-length : tie.Need-same-length Inv-loop μ-loop
 same-length c = c .before .before .before .before .before .before .before .access-one .kept .1 .0 ∙ c .before .before .before .before .before .before .before .before .before .before .before .before .before .loop .inv .2
 
--- src/lib.rt:134:21
 same-length-2 : tie.Need-same-length-2 Inv-loop μ-loop
 same-length-2 c = c .before .before .before .before .before .before .before .access-one .kept .1 .1 .0 ∙ c .before .before .before .before .before .before .before .before .before .before .before .before .before .loop .inv .3
 
--- src/lib.rt:134:21
 returns : tie.Need-returns Inv-loop μ-loop
 returns c =
     let g = c .before .before .before .before .before .before .before .before .before .before .before .before .before .before .before .before .args in
@@ -68,19 +66,15 @@ returns c =
           (subst (λ k. OneTurn (accessTurn (record { threads = g .n; cells = k }) y x) (g .n) (l .t) (l .regs) (l .cells) (l .log) (a .result) (a .last .0) (a .last .1 .0) (a .last .1 .1 .0)) (l .inv .2) (a .ensures (g .n) y x o h ed ea)) (c .before .v .given .1),
     )
 
--- src/lib.rt:140:13
 add-k : tie.Need-add-k Inv-loop μ-loop
 add-k c = search needs
 
--- src/lib.rt:143:9
 add-t : tie.Need-add-t Inv-loop μ-loop
 add-t c = search needs
 
--- src/lib.rt:129:5
 loop-less : tie.Need-loop-less Inv-loop μ-loop
 loop-less c = omega (arith, c .before .loop-test .taken)
 
--- src/lib.rt:129:5
 loop-again : tie.Need-loop-again Inv-loop μ-loop
 loop-again c =
     let g = c .before .before .before .before .before .args in
@@ -95,6 +89,7 @@ loop-again c =
       λ y x o ed ea s e q M.
           go-in (accessTurn (record { threads = g .n; cells = length (g .cells .now) }) y x) (g .n) s (l .k) (l .t) (l .m) (l .regs) (l .cells) (l .log) (l .inv .4 y x o ed ea s e q M) (w .4 .result) (w .4 .last .0) (w .4 .last .1 .0) (w .4 .last .1 .1 .0) _ _ _ _ h (w .0 .taken)
           (subst (λ k. OneTurn (accessTurn (record { threads = g .n; cells = k }) y x) (g .n) (l .t) (l .regs) (l .cells) (l .log) (w .4 .result) (w .4 .last .0) (w .4 .last .1 .0) (w .4 .last .1 .1 .0)) (l .inv .2) (w .4 .ensures (g .n) y x o h ed ea)) (w .10 .given .1) (w .11) (w .12) (w .13) (w .14),
+      next-bit (l .t) (l .bit) (l .inv .5),
     ))
     (λ w. (
       omega (arith, h),
@@ -103,22 +98,19 @@ loop-again c =
       ap length (w .3) ∙ l .inv .3,
       λ y x o ed ea s e q M.
           go-out (accessTurn (record { threads = g .n; cells = length (g .cells .now) }) y x) (g .n) s (l .k) (l .t) (l .m) (l .regs) (l .cells) (l .log) (l .inv .4 y x o ed ea s e q M) _ _ _ _ h (w .0 .left) (w .1) (w .2) (w .3) (w .4),
+      next-bit (l .t) (l .bit) (l .inv .5),
     ))
     (c .if1 .came)
 
--- src/lib.rt:147:16
 count-requires : tie.Need-count-requires Inv-loop μ-loop
 count-requires c κs = search needs
 
--- src/lib.rt:113:1
 same-length-3 : tie.Need-same-length-3 Inv-loop μ-loop
 same-length-3 c = c .before .before .loop .inv .2
 
--- src/lib.rt:113:1
 same-length-4 : tie.Need-same-length-4 Inv-loop μ-loop
 same-length-4 c = c .before .before .loop .inv .3
 
--- src/lib.rt:113:1
 returns-2 : tie.Need-returns-2 Inv-loop μ-loop
 returns-2 c =
     let g = c .before .before .before .before .before .args in

@@ -1,0 +1,19 @@
+-- `truth::holding` meets its contract. Assumes nothing.
+use borrow.Author.Needs.{needs}
+use Rattle.truth.proofs.Zeros.{held}
+use Rattle.truth.proofs.holding.Statement.{statement}
+use Rattle.truth.proofs.holding.Tie as tie
+
+zero-lanes-requires : tie.Need-zero-lanes-requires
+zero-lanes-requires c κs = search needs
+
+minus-requires : tie.Need-minus-requires
+minus-requires c κs = search needs
+
+returns : tie.Need-returns
+returns c =
+    let s = c .before .before in
+    λ n on rs few em el R. held (s .args .a) (s .args .regs .now) n rs R (s .pre) (s .args .mask) _ _ on few em el (c .before .zero-lanes .ensures) (c .minus .ensures)
+
+pub holding-spec : {M : Type 1} → statement M
+holding-spec = tie.close (tie.spec zero-lanes-requires minus-requires returns)

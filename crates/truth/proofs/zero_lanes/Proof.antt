@@ -1,0 +1,76 @@
+-- `truth::zero_lanes` meets its contract. The invariant: the lanes passed are told apart. Assumes nothing.
+use mathlib.Core.Path.{_≡_, subst}
+use mathlib.Core.Logic.{⊎-elim}
+use Prim.Native.Nat.{ℕ, _-_, _≤_}
+use native.Mathlib.Omega.{arith}
+use borrow.Author.Needs.{needs}
+use Rattle.layout.proofs.Memory.{ZerosAre}
+use Rattle.truth.proofs.Zeros.{none-yet, lane-left, lane-zero}
+use Rattle.truth.proofs.zero_lanes.Statement.{statement}
+use Rattle.truth.proofs.zero_lanes.Tie as tie
+
+abbrev Inv-loop : tie.InvT-loop
+Inv-loop regs a z₀ t₀ z t = (t ≤ 32) × ZerosAre a regs t z
+
+abbrev μ-loop : tie.MeasureT-loop
+μ-loop regs a z₀ t₀ z t = 32 - t
+
+loop-holds : tie.Need-loop-holds Inv-loop μ-loop
+loop-holds c = (search needs, none-yet (c .args .a) (c .args .regs .now))
+
+mul-if1 : tie.Need-mul-if1 Inv-loop μ-loop
+mul-if1 c = search needs
+
+add-if1 : tie.Need-add-if1 Inv-loop μ-loop
+add-if1 c = search needs
+
+mul-if1-2 : tie.Need-mul-if1-2 Inv-loop μ-loop
+mul-if1-2 c = search needs
+
+element-copy-out-if1 : tie.Need-element-copy-out-if1 Inv-loop μ-loop
+element-copy-out-if1 c = search needs
+
+cast-z : tie.Need-cast-z Inv-loop μ-loop
+cast-z c = search needs
+
+shl-z : tie.Need-shl-z Inv-loop μ-loop
+shl-z c = search needs
+
+add-t : tie.Need-add-t Inv-loop μ-loop
+add-t c = search needs
+
+loop-less : tie.Need-loop-less Inv-loop μ-loop
+loop-less c = search needs
+
+loop-again : tie.Need-loop-again Inv-loop μ-loop
+loop-again c =
+    let g = c .before .before .before .before .args in
+    let l = c .before .before .before .loop in
+    let k = c .before .before .loop-test .taken in
+    ⊎-elim
+    (λ w. (omega (arith, k), lane-zero (g .a) (g .regs .now) (l .t) (l .z) (l .inv .1) (c .if1 .z) k (w .0 .taken) (w .1)))
+    (λ w. (omega (arith, k), lane-left (g .a) (g .regs .now) (l .t) (l .z) (l .inv .1) (c .if1 .z) (w .0 .left) (w .1)))
+    (c .if1 .came)
+
+returns : tie.Need-returns Inv-loop μ-loop
+returns c =
+    let l = c .before .loop in
+    subst (λ (k : ℕ). ZerosAre (c .before .before .args .a) (c .before .before .args .regs .now) k (l .z)) (let e : l .t ≡ 32 = omega (arith, l .inv .0, c .loop-test .left) in e) (l .inv .1)
+
+pub zero-lanes-spec : {M : Type 1} → statement M
+zero-lanes-spec =
+    tie.close
+    (tie.spec
+    Inv-loop
+    μ-loop
+    loop-holds
+    mul-if1
+    add-if1
+    mul-if1-2
+    element-copy-out-if1
+    cast-z
+    shl-z
+    add-t
+    loop-less
+    loop-again
+    returns)
