@@ -15,7 +15,7 @@ use Rattle.spec.specs.Answers.{refusalOf, first}
 use Rattle.spec.specs.Table.{rowsOf}
 use Rattle.spec.specs.TableCheck.{tableRefusal}
 use Rattle.spec.specs.Log.{logWords}
-use Rattle.spec.specs.LaunchFile.{Launch, Read, stop, read, Checked, refused, accepted, unlessRefused, checkedTable, fileLaunch}
+use Rattle.spec.specs.LaunchFile.{Launch, Read, stop, read, refused, accepted, unlessRefused, checkedTable, fileLaunch}
 use Rattle.spec.specs.Entries.{fileLent, andState, fileChecked, launchRun, launchReport, reportLength, ifAccepted, fileAnswer, fileCellsAfter, fileLogAfter, fileOutputAfter}
 use Rattle.spec.specs.Demands.{FileDemand3}
 use Rattle.structure.proofs.Refusals.{unless-none, orElse-none}

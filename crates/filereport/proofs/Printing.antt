@@ -13,7 +13,7 @@ use Rattle.spec.specs.declared.Subject.the-variants as subject
 use Rattle.spec.specs.Answers.{unless, orElse, first, refusalNumber, refusalPlace}
 use Rattle.spec.specs.LaunchFile.{Launch, Checked, refused, accepted, unlessRefused, fileLaunch}
 use Rattle.spec.specs.Report.{refusalReport, reportOf}
-use Rattle.spec.specs.Entries.{over, cellsReported, writerRefusal, writtenOf, writerAnswer, writerBuffer, keptIf, fileLent, andState, fileChecked, launchReport, reportLength, ifAccepted, fileAnswer, fileOutputAfter, printed, checkPrints}
+use Rattle.spec.specs.Entries.{over, writerRefusal, writtenOf, writerAnswer, writerBuffer, keptIf, fileLent, andState, fileChecked, launchReport, reportLength, ifAccepted, fileAnswer, fileOutputAfter, printed, checkPrints}
 use Rattle.reportlines.proofs.Writing.{over-length}
 use Rattle.report.specs.Whole.{FitsOutput}
 use Rattle.report.proofs.Entry.{no-cells-asked, fitting}

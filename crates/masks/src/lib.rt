@@ -1,7 +1,7 @@
 // Masks of threads as words: bit t is thread t's.
 ghost use mathlib.Core.Path.{_≡_};
 ghost use Prim.Native.Nat.{_-_, _<_, _≤_, _^_};
-ghost use lib.Bits.{bitAnd, bitOr};
+ghost use lib.Bits.{bitAnd};
 ghost use lib.Count.{ones, trailingZeros};
 
 pub fn lowest(m: u32) -> u32

@@ -14,8 +14,6 @@ use Rattle.spec.specs.declared.Answer.{Answer}
 use Rattle.spec.specs.declared.Answer.the-variants as answer
 use Rattle.spec.specs.declared.Written.{Written}
 use Rattle.spec.specs.declared.Written.the-variants as written
-use Rattle.spec.specs.declared.Subject.{Subject}
-use Rattle.spec.specs.declared.Subject.the-variants as subject
 use Rattle.spec.specs.Answers.{refusalNumber, refusalPlace}
 
 -- A refusal's number and place; two zeros where nothing was refused.

@@ -4,31 +4,24 @@ use borrow.Author.Needs.{needs}
 use Rattle.accesslog.proofs.race_kind.Statement.{statement}
 use Rattle.accesslog.proofs.race_kind.Tie as tie
 
--- src/lib.rt:34:9
 returns : tie.Need-returns
 returns c = kind-by-load _ _ _ _ (c .before .before .pre .1 .inside) _ (c .if1 .taken)
 
--- src/lib.rt:36:23
 add-bit : tie.Need-add-bit
 add-bit c = search needs
 
--- src/lib.rt:36:19
 mul-bit : tie.Need-mul-bit
 mul-bit c = search needs
 
--- src/lib.rt:36:19
 shared-slice-read-bit : tie.Need-shared-slice-read-bit
 shared-slice-read-bit c = search needs
 
--- src/lib.rt:36:8
 bit-requires : tie.Need-bit-requires
 bit-requires c κs = search needs
 
--- src/lib.rt:37:9
 returns-2 : tie.Need-returns-2
 returns-2 c = kind-by-reader _ _ _ _ (c .before .before .before .before .before .pre .1 .inside) _ _ (omega (arith, c .before .before .before .before .before .pre .1 .known, c .before .before .before .before .before .pre .1 .small)) (c .before .bit .ensures) (c .if2 .taken)
 
--- src/lib.rt:29:1
 returns-3 : tie.Need-returns-3
 returns-3 c = kind-by-writer _ _ _ _ (c .before .before .before .before .before .pre .1 .inside) _ _ (omega (arith, c .before .before .before .before .before .pre .1 .known, c .before .before .before .before .before .pre .1 .small)) (c .before .bit .ensures) (c .if2 .left)
 

@@ -2,19 +2,15 @@ use Rattle.admission.proofs.Tests.{bad-cells-lent, bad-log-lent, bad-ou
 use Rattle.admission.proofs.lent_for_file.Statement.{statement}
 use Rattle.admission.proofs.lent_for_file.Tie as tie
 
--- src/lib.rt:63:9
 returns : tie.Need-returns
 returns c = bad-cells-lent _ _ _ (c .if1 .taken)
 
--- src/lib.rt:66:9
 returns-2 : tie.Need-returns-2
 returns-2 c = bad-log-lent _ _ _ (c .before .if1 .left) (c .if2 .taken)
 
--- src/lib.rt:69:9
 returns-3 : tie.Need-returns-3
 returns-3 c = bad-output-lent _ _ _ (c .before .before .if1 .left) (c .before .if2 .left) (c .if3 .taken)
 
--- src/lib.rt:59:1
 returns-4 : tie.Need-returns-4
 returns-4 c = all-lent _ _ _ (c .before .before .if1 .left) (c .before .if2 .left) (c .if3 .left)
 

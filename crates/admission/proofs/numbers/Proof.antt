@@ -3,35 +3,27 @@ use borrow.Author.Needs.{needs}
 use Rattle.admission.proofs.numbers.Statement.{statement}
 use Rattle.admission.proofs.numbers.Tie as tie
 
--- src/lib.rt:22:9
 returns : tie.Need-returns
 returns c = odd-length _ _ _ _ (c .if1 .taken)
 
--- src/lib.rt:25:9
 returns-2 : tie.Need-returns-2
 returns-2 c = many-rows _ _ _ _ (c .before .if1 .left) (c .if2 .taken)
 
--- src/lib.rt:27:9
 within-requires : tie.Need-within-requires
 within-requires c κs = search needs
 
--- src/lib.rt:28:9
 returns-3 : tie.Need-returns-3
 returns-3 c = bad-threads _ _ _ _ (c .before .before .before .if1 .left) (c .before .before .if2 .left) _ (c .before .within .ensures) (c .if3 .taken)
 
--- src/lib.rt:30:9
 within-requires-2 : tie.Need-within-requires-2
 within-requires-2 c κs = search needs
 
--- src/lib.rt:31:9
 returns-4 : tie.Need-returns-4
 returns-4 c = bad-cells _ _ _ _ (c .before .before .before .before .before .if1 .left) (c .before .before .before .before .if2 .left) _ (c .before .before .before .within .ensures) (c .before .before .if3 .left) _ (c .before .within2 .ensures) (c .if4 .taken)
 
--- src/lib.rt:34:9
 returns-5 : tie.Need-returns-5
 returns-5 c = bad-limit _ _ _ _ (c .before .before .before .before .before .before .if1 .left) (c .before .before .before .before .before .if2 .left) _ (c .before .before .before .before .within .ensures) (c .before .before .before .if3 .left) _ (c .before .before .within2 .ensures) (c .before .if4 .left) (c .if5 .taken)
 
--- src/lib.rt:18:1
 returns-6 : tie.Need-returns-6
 returns-6 c = all-fine _ _ _ _ (c .before .before .before .before .before .before .if1 .left) (c .before .before .before .before .before .if2 .left) _ (c .before .before .before .before .within .ensures) (c .before .before .before .if3 .left) _ (c .before .before .within2 .ensures) (c .before .if4 .left) (c .if5 .left)
 

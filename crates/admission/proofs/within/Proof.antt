@@ -5,11 +5,9 @@ use lib.Dec.{leb}
 use Rattle.admission.proofs.within.Statement.{statement}
 use Rattle.admission.proofs.within.Tie as tie
 
--- src/lib.rt:11:1
 returns : tie.Need-returns
 returns c = sym (ap (λ b. b && leb (c .before .args .x) (c .before .args .high)) (le-leb _ _ (c .if1 .taken)))
 
--- src/lib.rt:11:1
 returns-2 : tie.Need-returns-2
 returns-2 c = lt-leb _ _ (c .if1 .left) ∙ sym (ap (λ b. b && leb (c .before .args .x) (c .before .args .high)) (lt-leb _ _ (c .if1 .left)))
 

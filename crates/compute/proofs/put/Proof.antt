@@ -2,7 +2,6 @@
 use mathlib.Core.Path.{_∙_}
 use mathlib.Core.Logic.{⊎-elim}
 use Prim.Native.Nat.{_-_}
-use native.Mathlib.Omega.{arith}
 use Rattle.compute.specs.RowLanes.{Puts, picked}
 use Rattle.compute.proofs.Putting.{putting, puts-more, puts-old, given-on, given-off}
 use Rattle.compute.proofs.put.Statement.{statement}

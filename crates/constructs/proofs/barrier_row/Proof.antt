@@ -6,31 +6,24 @@ use borrow.Author.Needs.{needs}
 use Rattle.constructs.proofs.barrier_row.Statement.{statement}
 use Rattle.constructs.proofs.barrier_row.Tie as tie
 
--- src/lib.rt:179:9
 all-requires : tie.Need-all-requires
 all-requires c κs = search needs
 
--- src/lib.rt:181:9
 clear-requires : tie.Need-clear-requires
 clear-requires c κs = search needs
 
--- src/lib.rt:183:18
 add-t10 : tie.Need-add-t10
 add-t10 c = search needs
 
--- src/lib.rt:186:19
 add-t11 : tie.Need-add-t11
 add-t11 c = search needs
 
--- src/lib.rt:188:23
 add-t12 : tie.Need-add-t12
 add-t12 c = search needs
 
--- src/lib.rt:182:9
 same-length : tie.Need-same-length
 same-length c = search needs
 
--- src/lib.rt:182:9
 returns : tie.Need-returns
 returns c =
     let g = c .before .before .before .before .before .before .before .before .before .before .args in (
@@ -38,11 +31,9 @@ returns c =
       λ regs cells saved openers z R. barrier-passes (g .n) z (g .s) regs cells (g .log .now) saved openers R (c .before .before .before .before .before .before .before .before .before .before .pre .1) (g .s .row) (g .s .mask) (c .before .before .before .before .before .before .before .before .all .result) (c .before .before .before .before .before .clear .last .0) refl refl (c .before .before .before .before .before .before .before .before .all .ensures) (c .before .before .before .before .before .before .before .if1 .taken) (c .before .before .before .before .before .clear .ensures),
     )
 
--- src/lib.rt:192:33
 moved-requires : tie.Need-moved-requires
 moved-requires c κs = search needs
 
--- src/lib.rt:192:9
 returns-2 : tie.Need-returns-2
 returns-2 c =
     let g = c .before .before .before .before .before .args in (
@@ -50,19 +41,15 @@ returns-2 c =
       λ regs cells saved openers z R. barrier-skips (g .n) z (g .s) regs cells (g .log .now) saved openers R (c .moved .result) (c .before .if2 .taken) (c .moved .ensures),
     )
 
--- src/lib.rt:195:33
 lowest-requires : tie.Need-lowest-requires
 lowest-requires c κs = search needs
 
--- src/lib.rt:195:68
 minus-requires : tie.Need-minus-requires
 minus-requires c κs = search needs
 
--- src/lib.rt:195:54
 lowest-requires-2 : tie.Need-lowest-requires-2
 lowest-requires-2 c κs = search needs
 
--- src/lib.rt:174:1
 returns-3 : tie.Need-returns-3
 returns-3 c =
     let g = c .before .before .before .before .before .before .before .args in

@@ -10,15 +10,12 @@ use borrow.Author.Needs.{needs}
 use Rattle.launch.proofs.bare_launch.Statement.{statement}
 use Rattle.launch.proofs.bare_launch.Tie as tie
 
--- src/lib.rt:74:11
 numbers-requires : tie.Need-numbers-requires
 numbers-requires c κs = search needs
 
--- src/lib.rt:75:34
 enum-known-why : tie.Need-enum-known-why
 enum-known-why c = search needs
 
--- src/lib.rt:75:42
 returns : tie.Need-returns
 returns c =
     let g = c .before .before .before .before .before .before .before .args in
@@ -27,17 +24,14 @@ returns c =
 enum-told : tie.Need-enum-told
 enum-told c = search needs
 
--- src/lib.rt:78:9
 read-table-requires : tie.Need-read-table-requires
 read-table-requires c κs =
     let g = c .before .before .before .before .before .before .args in
     readable (g .table .now) (g .threads) (g .count) (g .limit) (sym (c .before .before .numbers .ensures) ∙ ap refusalOf (c .enum-told .given .1))
 
--- src/lib.rt:82:34
 enum-known-answer : tie.Need-enum-known-answer
 enum-known-answer c = search needs
 
--- src/lib.rt:82:42
 returns-2 : tie.Need-returns-2
 returns-2 c =
     let g = c .before .before .before .before .before .before .before .before .before .before .before .args in
@@ -46,15 +40,12 @@ returns-2 c =
 enum-told-2 : tie.Need-enum-told-2
 enum-told-2 c = search needs
 
--- src/lib.rt:85:11
 lent-requires : tie.Need-lent-requires
 lent-requires c κs = search needs
 
--- src/lib.rt:86:34
 enum-known-why-2 : tie.Need-enum-known-why-2
 enum-known-why-2 c = search needs
 
--- src/lib.rt:86:42
 returns-3 : tie.Need-returns-3
 returns-3 c =
     let g = c .before .before .before .before .before .before .before .before .before .before .before .before .before .before .args in
@@ -63,7 +54,6 @@ returns-3 c =
 enum-told-3 : tie.Need-enum-told-3
 enum-told-3 c = search needs
 
--- src/lib.rt:89:23
 run-requires : tie.Need-run-requires
 run-requires c κs =
     let g = c .before .before .before .before .before .before .before .before .before .before .before .before .before .before .before .before .args in
@@ -72,15 +62,12 @@ run-requires c κs =
     let l = lent-is (g .count) _ _ (sym (c .before .before .before .before .before .lent .ensures) ∙ ap refusalOf (c .before .before .before .enum-told3 .given .1)) in
     (runnable (g .table .now) _ (readable (g .table .now) (g .threads) (g .count) (g .limit) n .1) (sym (c .before .before .before .before .before .before .before .before .before .read-table .ensures .0) ∙ ap refusalOf (c .before .before .before .before .before .before .enum-told2 .given .1)) (c .before .before .before .before .before .before .before .before .before .read-table .ensures .1), f .someThreads, f .fewThreads, f .fewRows, omega (arith, l .0, l .1), omega (arith, l .0, f .fewCells))
 
--- src/lib.rt:61:1
 same-length : tie.Need-same-length
 same-length c = search needs
 
--- src/lib.rt:61:1
 same-length-2 : tie.Need-same-length-2
 same-length-2 c = search needs
 
--- src/lib.rt:61:1
 returns-4 : tie.Need-returns-4
 returns-4 c =
     let g = c .before .before .before .before .before .before .before .before .before .before .before .before .before .before .before .before .before .before .before .before .before .args in

@@ -5,35 +5,27 @@ use borrow.Author.Needs.{needs}
 use Rattle.memory.proofs.access_one.Statement.{statement}
 use Rattle.memory.proofs.access_one.Tie as tie
 
--- src/lib.rt:93:9
 index-requires : tie.Need-index-requires
 index-requires c κs = search needs
 
--- src/lib.rt:94:9
 cell-register-requires : tie.Need-cell-register-requires
 cell-register-requires c κs = search needs
 
--- src/lib.rt:95:18
 mul-x : tie.Need-mul-x
 mul-x c = search needs
 
--- src/lib.rt:95:18
 add-x : tie.Need-add-x
 add-x c = search needs
 
--- src/lib.rt:95:13
 mul-x-2 : tie.Need-mul-x-2
 mul-x-2 c = search needs
 
--- src/lib.rt:95:13
 element-copy-out-x : tie.Need-element-copy-out-x
 element-copy-out-x c = search needs
 
--- src/lib.rt:96:9
 index-requires-2 : tie.Need-index-requires-2
 index-requires-2 c κs = search needs
 
--- src/lib.rt:99:9
 returns : tie.Need-returns
 returns c =
     let g = c .before .before .before .before .before .before .before .args in
@@ -42,27 +34,21 @@ returns c =
     (c .before .before .before .before .before .before .before .pre .1 .known) (c .before .before .before .before .before .before .before .pre .1 .small) (c .before .before .before .cell-register .ensures) ed ea (c .before .before .before .before .before .before .before .pre .1 .target) (c .before .before .before .before .before .before .before .pre .1 .source) (c .before .before .before .before .index .ensures) (c .before .index2 .ensures)
     _ (sym (c .before .index2 .ensures)) (c .if1 .taken)
 
--- src/lib.rt:101:9
 conflict-requires : tie.Need-conflict-requires
 conflict-requires c κs = search needs
 
--- src/lib.rt:103:9
 enter-requires : tie.Need-enter-requires
 enter-requires c κs = search needs
 
--- src/lib.rt:104:9
 transfer-requires : tie.Need-transfer-requires
 transfer-requires c κs = search needs
 
--- src/lib.rt:105:9
 same-length : tie.Need-same-length
 same-length c = search needs
 
--- src/lib.rt:105:9
 same-length-2 : tie.Need-same-length-2
 same-length-2 c = search needs
 
--- src/lib.rt:105:9
 returns-2 : tie.Need-returns-2
 returns-2 c =
     let g = c .before .before .before .before .before .before .before .before .before .before .before .before .before .before .before .before .before .before .before .args in
@@ -71,19 +57,15 @@ returns-2 c =
     (c .before .before .before .before .before .before .before .before .before .before .before .before .before .before .before .before .before .before .before .pre .1 .known) (c .before .before .before .before .before .before .before .before .before .before .before .before .before .before .before .before .before .before .before .pre .1 .small) (c .before .before .before .before .before .before .before .before .before .before .before .before .before .before .before .cell-register .ensures) ed ea (c .before .before .before .before .before .before .before .before .before .before .before .before .before .before .before .before .before .before .before .pre .1 .target) (c .before .before .before .before .before .before .before .before .before .before .before .before .before .before .before .before .before .before .before .pre .1 .source) (c .before .before .before .before .before .before .before .before .before .before .before .before .before .before .before .before .index .ensures) (c .before .before .before .before .before .before .before .before .before .before .before .before .before .index2 .ensures)
     (c .before .before .before .before .before .before .before .before .before .before .before .before .if1 .left) (c .before .before .before .before .before .before .before .before .before .before .conflict .result) (c .before .before .before .before .before .before .before .before .before .before .conflict .ensures (g .t) (c .before .before .before .before .before .before .before .before .before .before .before .before .before .before .before .before .before .before .before .pre .0) (c .before .before .before .before .before .before .before .before .before .before .before .before .before .before .before .before .before .before .before .pre .2)) _ _ _ (c .before .before .before .before .before .before .before .before .before .if2 .taken) (c .before .before .transfer .ensures) (c .before .before .before .before .before .before .before .enter .ensures (g .t) (c .before .before .before .before .before .before .before .before .before .before .before .before .before .before .before .before .before .before .before .pre .0) (c .before .before .before .before .before .before .before .before .before .before .before .before .before .before .before .before .before .before .before .pre .2))
 
--- src/lib.rt:107:9
 lowest-requires : tie.Need-lowest-requires
 lowest-requires c κs = search needs
 
--- src/lib.rt:108:9
 race-kind-requires : tie.Need-race-kind-requires
 race-kind-requires c κs = (c .before .lowest .ensures .1 (omega (arith, c .before .before .if2 .left)), record { known = c .before .before .before .before .before .before .before .before .before .before .before .before .pre .1 .known; small = c .before .before .before .before .before .before .before .before .before .before .before .before .pre .1 .small; twice = c .before .before .before .before .before .before .before .before .before .before .before .before .pre .1 .twice; inside = c .before .before .before .before .before .if1 .left; few = c .before .before .before .before .before .before .before .before .before .before .before .before .pre .1 .cells-few })
 
--- src/lib.rt:81:1
 same-length-3 : tie.Need-same-length-3
 same-length-3 c = search needs
 
--- src/lib.rt:81:1
 returns-3 : tie.Need-returns-3
 returns-3 c =
     let g = c .before .before .before .before .before .before .before .before .before .before .before .before .before .args in

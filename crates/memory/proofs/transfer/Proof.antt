@@ -3,63 +3,48 @@ use borrow.Author.Needs.{needs}
 use Rattle.memory.proofs.transfer.Statement.{statement}
 use Rattle.memory.proofs.transfer.Tie as tie
 
--- src/lib.rt:66:28
 mul-regs : tie.Need-mul-regs
 mul-regs c = search needs
 
--- src/lib.rt:66:28
 slice-read-regs : tie.Need-slice-read-regs
 slice-read-regs c = search needs
 
--- src/lib.rt:66:14
 mul-regs-2 : tie.Need-mul-regs-2
 mul-regs-2 c = search needs
 
--- src/lib.rt:66:14
 add-regs : tie.Need-add-regs
 add-regs c = search needs
 
--- src/lib.rt:66:9
 mul-regs-3 : tie.Need-mul-regs-3
 mul-regs-3 c = search needs
 
--- src/lib.rt:66:9
 element-write-regs : tie.Need-element-write-regs
 element-write-regs c = search needs
 
--- src/lib.rt:68:25
 mul-cells : tie.Need-mul-cells
 mul-cells c = search needs
 
--- src/lib.rt:68:25
 add-cells : tie.Need-add-cells
 add-cells c = search needs
 
--- src/lib.rt:68:20
 mul-cells-2 : tie.Need-mul-cells-2
 mul-cells-2 c = search needs
 
--- src/lib.rt:68:20
 element-copy-out-cells : tie.Need-element-copy-out-cells
 element-copy-out-cells c = search needs
 
--- src/lib.rt:68:9
 mul-cells-3 : tie.Need-mul-cells-3
 mul-cells-3 c = search needs
 
--- src/lib.rt:68:9
 slice-write-cells : tie.Need-slice-write-cells
 slice-write-cells c = search needs
 
--- src/lib.rt:53:1
 returns : tie.Need-returns
 returns c = record { load-regs = λ e. refl; load-cells = λ e. refl; store-regs = λ n. absurd (n (c .before .if1 .taken)); store-cells = λ n. absurd (n (c .before .if1 .taken)) }
 
--- src/lib.rt:53:1
 same-length : tie.Need-same-length
 same-length c = search needs
 
--- src/lib.rt:53:1
 returns-2 : tie.Need-returns-2
 returns-2 c = record { load-regs = λ e. absurd (c .before .if1 .left e); load-cells = λ e. absurd (c .before .if1 .left e); store-regs = λ n. refl; store-cells = λ n. refl }
 

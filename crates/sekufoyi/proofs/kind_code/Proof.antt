@@ -1,5 +1,5 @@
 -- `sekufoyi::kind_code` meets its contract. Assumes nothing.
-use mathlib.Core.Path.{refl, sym, ap, ap₂, _∙_}
+use mathlib.Core.Path.{sym, ap}
 use Rattle.sekufoyi.specs.Codes.{kindCode}
 use borrow.Author.Needs.{needs}
 use Rattle.sekufoyi.proofs.kind_code.Statement.{statement}

@@ -1,5 +1,4 @@
 -- `sekufoyi::outcome_from` meets its contract. Assumes nothing.
-use mathlib.Core.Path.{refl, sym, ap, ap₂, _∙_}
 use Rattle.sekufoyi.specs.Codes.{outcomeFrom}
 use borrow.Author.Needs.{needs}
 use Rattle.sekufoyi.proofs.outcome_from.Statement.{statement}

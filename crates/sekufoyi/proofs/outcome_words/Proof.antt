@@ -1,6 +1,5 @@
 -- `sekufoyi::outcome_words` meets its contract. By the verdict. Assumes nothing.
-use mathlib.Core.Path.{refl, sym, ap, ap₂, _∙_}
-use Rattle.sekufoyi.specs.Codes.{kindCode, verdictWords, outcomeWords}
+use Rattle.sekufoyi.specs.Codes.{verdictWords, outcomeWords}
 use borrow.Author.Needs.{needs}
 use Rattle.sekufoyi.proofs.outcome_words.Statement.{statement}
 use Rattle.sekufoyi.proofs.outcome_words.Tie as tie

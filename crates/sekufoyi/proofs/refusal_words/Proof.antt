@@ -1,5 +1,5 @@
 -- `sekufoyi::refusal_words` meets its contract. Assumes nothing.
-use mathlib.Core.Path.{refl, sym, ap, ap₂, _∙_}
+use mathlib.Core.Path.{ap₂}
 use mathlib.Core.List.{[], _∷_}
 use Rattle.sekufoyi.specs.Codes.{refusalWords}
 use borrow.Author.Needs.{needs}

@@ -1,5 +1,5 @@
 -- `sekufoyi::tell_written` meets its contract. Assumes nothing.
-use mathlib.Core.Path.{refl, sym, ap, ap₂, _∙_}
+use mathlib.Core.Path.{sym, ap, _∙_}
 use Rattle.sekufoyi.specs.Codes.{lengthIn, refusalIn}
 use borrow.Author.Needs.{needs}
 use Rattle.sekufoyi.proofs.tell_written.Statement.{statement}

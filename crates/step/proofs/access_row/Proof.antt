@@ -7,23 +7,18 @@ use borrow.Author.Needs.{needs}
 use Rattle.step.proofs.access_row.Statement.{statement}
 use Rattle.step.proofs.access_row.Tie as tie
 
--- src/lib.rt:61:18
 access-row-requires : tie.Need-access-row-requires
 access-row-requires c κs = search needs
 
--- src/lib.rt:61:5
 after-access-requires : tie.Need-after-access-requires
 after-access-requires c κs = search needs
 
--- src/lib.rt:48:1
 same-length : tie.Need-same-length
 same-length c = search needs
 
--- src/lib.rt:48:1
 same-length-2 : tie.Need-same-length-2
 same-length-2 c = search needs
 
--- src/lib.rt:48:1
 returns : tie.Need-returns
 returns c =
     let g = c .before .before .before .before .before .before .before .before .before .before .before .args in

@@ -5,27 +5,21 @@ use borrow.Author.Needs.{needs}
 use Rattle.step.proofs.after_access.Statement.{statement}
 use Rattle.step.proofs.after_access.Tie as tie
 
--- src/lib.rt:33:50
 enum-told : tie.Need-enum-told
 enum-told c = search needs
 
--- src/lib.rt:33:50
 moved-requires : tie.Need-moved-requires
 moved-requires c κs = search needs
 
--- src/lib.rt:34:30
 enum-known-c : tie.Need-enum-known-c
 enum-known-c c = search needs
 
--- src/lib.rt:41:24
 add-t8 : tie.Need-add-t8
 add-t8 c = search needs
 
--- src/lib.rt:26:1
 returns : tie.Need-returns
 returns c = ap next.Go (c .moved .ensures) ∙ sym (ap (λ a. accessed (c .before .before .before .args .s) a (c .before .before .before .args .r .steps)) (c .before .enum-told .given .1))
 
--- src/lib.rt:26:1
 returns-2 : tie.Need-returns-2
 returns-2 c = sym (ap (λ a. accessed (c .before .before .before .before .args .s) a (c .before .before .before .before .args .r .steps)) (c .before .before .c .given .1))
 

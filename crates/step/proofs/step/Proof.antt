@@ -12,79 +12,60 @@ use borrow.Author.Needs.{needs}
 use Rattle.step.proofs.step.Statement.{statement}
 use Rattle.step.proofs.step.Tie as tie
 
--- src/lib.rt:80:20
 mul-op : tie.Need-mul-op
 mul-op c = search needs
 
--- src/lib.rt:80:14
 shared-slice-read-op : tie.Need-shared-slice-read-op
 shared-slice-read-op c = search needs
 
--- src/lib.rt:81:25
 mul-index : tie.Need-mul-index
 mul-index c = search needs
 
--- src/lib.rt:81:25
 add-index : tie.Need-add-index
 add-index c = search needs
 
--- src/lib.rt:81:19
 shared-slice-read-index : tie.Need-shared-slice-read-index
 shared-slice-read-index c = search needs
 
--- src/lib.rt:81:9
 index-requires : tie.Need-index-requires
 index-requires c κs = search needs
 
--- src/lib.rt:82:25
 mul-index-2 : tie.Need-mul-index-2
 mul-index-2 c = search needs
 
--- src/lib.rt:82:25
 add-index-2 : tie.Need-add-index-2
 add-index-2 c = search needs
 
--- src/lib.rt:82:19
 shared-slice-read-index-2 : tie.Need-shared-slice-read-index-2
 shared-slice-read-index-2 c = search needs
 
--- src/lib.rt:82:9
 index-requires-2 : tie.Need-index-requires-2
 index-requires-2 c κs = search needs
 
--- src/lib.rt:83:25
 mul-index-3 : tie.Need-mul-index-3
 mul-index-3 c = search needs
 
--- src/lib.rt:83:25
 add-index-3 : tie.Need-add-index-3
 add-index-3 c = search needs
 
--- src/lib.rt:83:19
 shared-slice-read-index-3 : tie.Need-shared-slice-read-index-3
 shared-slice-read-index-3 c = search needs
 
--- src/lib.rt:83:9
 index-requires-3 : tie.Need-index-requires-3
 index-requires-3 c κs = search needs
 
--- src/lib.rt:85:58
 constant-requires : tie.Need-constant-requires
 constant-requires c κs = search needs
 
--- src/lib.rt:85:9
 compute-row-requires : tie.Need-compute-row-requires
 compute-row-requires c κs = (c .before .before .before .before .before .before .before .before .before .before .before .before .before .pre .few, compute-asks _ _ _ _ _ _ _ (c .before .before .before .before .before .before .before .index .ensures .0) (c .before .before .before .before .before .index2 .ensures .0) (c .before .before .before .index3 .ensures .0) (c .before .before .before .before .before .before .before .before .before .before .before .before .before .pre .asks .computes (c .before .before .if1 .taken)))
 
--- src/lib.rt:86:54
 count-requires : tie.Need-count-requires
 count-requires c κs = search needs
 
--- src/lib.rt:86:33
 moved-requires : tie.Need-moved-requires
 moved-requires c κs = search needs
 
--- src/lib.rt:86:9
 returns : tie.Need-returns
 returns c =
     let g = c .before .before .before .before .before .before .before .before .before .before .before .before .before .before .before .before .args in
@@ -100,22 +81,18 @@ returns c =
           (c .moved .ensures),
     )
 
--- src/lib.rt:89:9
 access-row-requires : tie.Need-access-row-requires
 access-row-requires c κs =
     let p = c .before .before .before .before .before .before .before .before .before .before .before .before .before .before .before .pre in
     let q = p .asks .accesses (c .before .before .before .before .if1 .left) (c .before .before .before .if2 .taken) in
     (p .room, p .few, record { known = c .before .before .before .before .if1 .left; small = q .0; target = subst (λ k. k < 16) (sym (c .before .before .before .before .before .before .before .before .before .index .ensures .0)) (q .1); source = subst (λ k. k < 16) (sym (c .before .before .before .before .before .before .before .index2 .ensures .0)) (q .2); twice = p .twice; cells-few = p .cells-few })
 
--- src/lib.rt:89:9
 same-length : tie.Need-same-length
 same-length c = search needs
 
--- src/lib.rt:89:9
 same-length-2 : tie.Need-same-length-2
 same-length-2 c = search needs
 
--- src/lib.rt:89:9
 returns-2 : tie.Need-returns-2
 returns-2 c =
     let g = c .before .before .before .before .before .before .before .before .before .before .before .before .before .before .before .before .before .before .before .before .args in
@@ -126,21 +103,17 @@ returns-2 c =
           o .ensures .1 (g .saved .now) (g .openers .now) (rowsOf (g .table .now)) (rowAt (rowsOf (g .table .now)) (z .row)) z (ap (λ x. x .op) E) (ap (λ x. x .d) E ∙ sym (c .before .before .before .before .before .before .before .before .before .before .before .before .before .before .index .ensures .0)) (ap (λ x. x .a) E ∙ sym (c .before .before .before .before .before .before .before .before .before .before .before .before .index2 .ensures .0)) R,
     )
 
--- src/lib.rt:92:97
 element-copy-out-index : tie.Need-element-copy-out-index
 element-copy-out-index c = search needs
 
--- src/lib.rt:92:91
 index-requires-4 : tie.Need-index-requires-4
 index-requires-4 c κs = search needs
 
--- src/lib.rt:92:33
 construct-row-requires : tie.Need-construct-row-requires
 construct-row-requires c κs =
     let p = c .before .before .before .before .before .before .before .before .before .before .before .before .before .before .before .before .before .before .pre in
     (p .room, p .few, c .index4 .ensures .1, c .before .before .before .before .before .before .if2 .left, omega (arith, c .before .before .before .before .before .if3 .taken), ((λ e. subst (λ k. k < 16) (sym (c .before .before .before .before .before .before .before .before .before .before .index2 .ensures .0)) (p .asks .ifs e)), (λ e. subst (λ k. k < 16) (sym (c .before .before .before .before .before .before .before .before .before .before .index2 .ensures .0)) (p .asks .whiles e))), p .depths)
 
--- src/lib.rt:92:9
 returns-3 : tie.Need-returns-3
 returns-3 c =
     let g = c .before .before .before .before .before .before .before .before .before .before .before .before .before .before .before .before .before .before .before .args in
@@ -152,15 +125,12 @@ returns-3 c =
           (λ w. c .before .index4 .ensures .0 ∙ ee (ap (λ r. rowAt (rowsOf (g .table .now)) r .op) (R .row-is) ∙ w) ∙ ap (endOf (rowsOf (g .table .now))) (R .row-is)) R,
     )
 
--- src/lib.rt:94:5
 barrier-row-requires : tie.Need-barrier-row-requires
 barrier-row-requires c κs = search needs
 
--- src/lib.rt:65:1
 same-length-3 : tie.Need-same-length-3
 same-length-3 c = search needs
 
--- src/lib.rt:65:1
 returns-4 : tie.Need-returns-4
 returns-4 c =
     let g = c .before .before .before .before .before .before .before .before .before .before .before .before .before .before .before .before .before .args in
