@@ -35,7 +35,13 @@ fn loops() {
 fn files() {
     let rows = kernels::largest();
     heading("files, 256 rows, 1,024 cells of 10 digits", "us/file");
-    for (limit, repeats) in [(1, 50), (1_000_000, 1)] {
+    for (limit, repeats) in [
+        (1, 50),
+        (1_000, 50),
+        (10_000, 10),
+        (100_000, 2),
+        (1_000_000, 1),
+    ] {
         let best = measure::file(&rows, limit, repeats);
         let micros = |time: Duration| time.as_secs_f64() * 1e6;
         line(
