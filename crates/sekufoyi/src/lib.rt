@@ -16,7 +16,9 @@ ghost use Rattle.sekufoyi.specs.Codes.{refusalWords, lengthIn, refusalIn
 fn refusal_words(why: Refusal) -> [u32; 2]
     ensures { λ r. ⌜ r ≡ refusalWords why ⌝ }
 {
-    [refusals::number(why), refusals::place(why)]
+    let number = refusals::number(why);
+    let place = refusals::place(why);
+    [number, place]
 }
 
 fn kind_code(kind: AccessKind) -> u32
