@@ -2,4 +2,3 @@
 pub mod Cells
 pub mod Sizes
 pub mod Entry
-pub mod Fits
