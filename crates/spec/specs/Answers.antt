@@ -56,6 +56,7 @@ refusalPlace (ReportTooLong p) = p
 refusalPlace ReportCells = 0
 refusalPlace OutputLength = 0
 
+-- The answer of a single check in code, said as a refusal. No entry's contract cites it.
 abbrev pub refusalOf : Admission → Option Refusal
 refusalOf admission.Accepted = none
 refusalOf (admission.Refused why) = some why
