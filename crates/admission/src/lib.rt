@@ -1,11 +1,16 @@
 // What a launch is refused for before its rows are looked at, and the lent buffers after them.
-use spec::Admission;
 use spec::Refusal;
 ghost use mathlib.Core.Path.{_≡_};
 ghost use mathlib.Core.Bool.{_&&_};
 ghost use lib.Dec.{leb};
-ghost use Rattle.spec.specs.Answers.{refusalOf};
+ghost use Rattle.admission.specs.Refusing.{refusalOf};
 ghost use Rattle.spec.specs.Entries.{bareNumbers, bareLent, fileLent};
+
+// Whether an input is accepted, and if not, why.
+pub enum Admission {
+    Accepted,
+    Refused(Refusal),
+}
 
 fn within(x: u32, low: u32, high: u32) -> bool
     ensures { λ r. ⌜ r ≡ (leb low x && leb x high) ⌝ }

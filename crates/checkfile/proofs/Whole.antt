@@ -7,11 +7,12 @@ use native.Mathlib.Omega.{arith}
 use borrow.Author.Tests.{eqb-true, leb-true}
 use lib.ListN.{length, take, getD}
 use lib.Seq.{length-take-le}
-use Rattle.spec.specs.declared.Admission.the-variants as admission
+use Rattle.admission.specs.declared.Admission.the-variants as admission
 use Rattle.spec.specs.declared.Refusal.{Refusal}
 use Rattle.spec.specs.declared.Written.{Written}
 use Rattle.spec.specs.declared.Written.the-variants as written
-use Rattle.spec.specs.Answers.{refusalOf, first}
+use Rattle.admission.specs.Refusing.{refusalOf}
+use Rattle.spec.specs.Answers.{first}
 use Rattle.spec.specs.Table.{rowsOf}
 use Rattle.spec.specs.TableCheck.{tableRefusal}
 use Rattle.spec.specs.Log.{logWords}

@@ -1,5 +1,5 @@
 // A launch file checked whole: read, run over the lent buffers, and reported.
-use spec::Admission;
+use admission::Admission;
 use spec::Subject;
 use spec::Written;
 ghost use mathlib.Core.Path.{_≡_};

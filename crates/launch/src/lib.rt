@@ -1,5 +1,5 @@
 // The bare launch: a table, its launch's numbers, and lent cells and log.
-use spec::Admission;
+use admission::Admission;
 use spec::Answer;
 ghost use mathlib.Core.Path.{_≡_};
 ghost use Rattle.spec.specs.Entries.{bareAnswer, bareCells, bareLog};

@@ -12,7 +12,7 @@ use Rattle.filelines.specs.Lines.{keyedValue, nextIn}
 use Rattle.filelines.specs.Values.{exactBytes, wordIn}
 use Rattle.contents.specs.Taken.{RowsTaken, CellsTaken}
 use Rattle.launchfile.specs.declared.Parsed.{Parsed}
-use Rattle.spec.specs.declared.Admission.the-variants.{Accepted}
+use Rattle.admission.specs.declared.Admission.the-variants.{Accepted}
 use Rattle.launchfile.specs.Parsed.{refusedWith, Within, ReadAs}
 use Rattle.launchfile.specs.Stages.{fromTable, fromEnd}
 use Rattle.launchfile.proofs.Answered.{refuses}

@@ -11,7 +11,7 @@ use Rattle.spec.specs.LaunchFile.{Read, stop, read, launchLines}
 use Rattle.spec.specs.declared.Refusal.{Refusal}
 use Rattle.spec.specs.declared.Refusal.the-variants.{FileTooLong}
 use Rattle.launchfile.specs.declared.Launch.{Launch}
-use Rattle.spec.specs.declared.Admission.the-variants.{Accepted, Refused}
+use Rattle.admission.specs.declared.Admission.the-variants.{Accepted, Refused}
 use Rattle.launchfile.specs.declared.Parsed.{Parsed}
 use Rattle.spec.specs.LaunchFile as definition
 

@@ -1,5 +1,5 @@
 // The reader of a launch file: one pass over its lines. What is left of the file after a line is a part of the file's slice.
-use spec::Admission;
+use admission::Admission;
 use spec::Refusal;
 use text::Number;
 ghost use mathlib.Core.Path.{_≡_};

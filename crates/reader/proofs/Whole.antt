@@ -13,8 +13,8 @@ use Rattle.spec.specs.Op.{WHILE, opOf}
 use Rattle.spec.specs.Table.{Table, noRow, rowsOf, rowAt, endOf}
 use Rattle.spec.specs.TableCheck.{Open, elseFits, endifFits, endwhileFits, fits, tableRefusal}
 use Rattle.reader.specs.declared.Read.{Read}
-use Rattle.spec.specs.declared.Admission.the-variants.{Refused}
-use Rattle.spec.specs.Answers.{refusalOf}
+use Rattle.admission.specs.declared.Admission.the-variants.{Refused}
+use Rattle.admission.specs.Refusing.{refusalOf}
 use Rattle.reader.specs.Answer.{ifLoop, ifAccepted, endAt}
 use Rattle.reader.specs.Parts.{IsTable, Ends, Fails, Body}
 use Rattle.reader.proofs.OpBytes.{byte-else, byte-endif, byte-endwhile}

@@ -1,6 +1,6 @@
 // Reads a table by recursive descent: its first refusal, or where each of its loops ends.
+use admission::Admission;
 use optable::Form;
-use spec::Admission;
 use spec::Refusal;
 ghost use mathlib.Core.Path.{_≡_};
 ghost use mathlib.Core.Bool.{_&&_};
@@ -8,7 +8,7 @@ ghost use mathlib.Core.Option.{none};
 ghost use Prim.Native.Nat.{ℕ, _*_, _%_, _<_, _≤_};
 ghost use lib.Dec.{eqb, ltb};
 ghost use lib.ListN.{length, getD, replicate};
-ghost use Rattle.spec.specs.Answers.{refusalOf};
+ghost use Rattle.admission.specs.Refusing.{refusalOf};
 ghost use Rattle.spec.specs.Table.{rowsOf, rowAt};
 ghost use Rattle.spec.specs.TableCheck.{tableRefusal};
 ghost use Rattle.reader.specs.Answer.{endAt};

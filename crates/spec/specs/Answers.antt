@@ -10,8 +10,6 @@ pub use Rattle.spec.specs.declared.Verdict.the-variants.{Passed, Race, O
 pub use Rattle.spec.specs.declared.Outcome.{Outcome}
 pub use Rattle.spec.specs.declared.Refusal.{Refusal}
 pub use Rattle.spec.specs.declared.Refusal.the-variants.{TableLength, TooManyRows, UnknownOp, BadOperand, Misplaced, TooDeep, LeftOpen, ThreadsOutOfRange, CellsOutOfRange, LimitOutOfRange, LineNotDue, FileTooLong, CellsLength, LogLength, ReportTooLong, ReportCells, OutputLength}
-pub use Rattle.spec.specs.declared.Admission.{Admission}
-use Rattle.spec.specs.declared.Admission.the-variants as admission
 pub use Rattle.spec.specs.declared.Answer.{Answer}
 pub use Rattle.spec.specs.declared.Written.{Written}
 pub use Rattle.spec.specs.declared.Subject.{Subject}
@@ -55,11 +53,6 @@ refusalPlace LogLength = 0
 refusalPlace (ReportTooLong p) = p
 refusalPlace ReportCells = 0
 refusalPlace OutputLength = 0
-
--- The answer of a single check in code, said as a refusal. No entry's contract cites it.
-abbrev pub refusalOf : Admission → Option Refusal
-refusalOf admission.Accepted = none
-refusalOf (admission.Refused why) = some why
 
 -- A test that is refused where it fails; and the first refusal of several tests, in their order.
 unfoldable pub unless : Bool → Refusal → Option Refusal

@@ -50,12 +50,6 @@ pub enum Refusal {
     OutputLength,
 }
 
-// Whether an input is accepted, and if not, why.
-pub enum Admission {
-    Accepted,
-    Refused(Refusal),
-}
-
 // The bare launch answers a refusal or the outcome of the run.
 pub enum Answer {
     Refused(Refusal),

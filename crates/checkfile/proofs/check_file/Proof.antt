@@ -2,7 +2,7 @@
 use mathlib.Core.Path.{sym, ap, _∙_}
 use native.Mathlib.Omega.{arith}
 use borrow.Author.Needs.{needs}
-use Rattle.spec.specs.Answers.{refusalOf}
+use Rattle.admission.specs.Refusing.{refusalOf}
 use Rattle.checkfile.proofs.Whole.{launchRead, file-refused, table-refused, launch-accepted, small, used, table-length, filled, words-length, whole-rows, file-refuses, state-refuses, ran, asked}
 use Rattle.checkfile.proofs.check_file.Statement.{statement}
 use Rattle.checkfile.proofs.check_file.Tie as tie

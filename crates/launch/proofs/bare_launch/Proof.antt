@@ -3,7 +3,7 @@ use lib.ListN.{length}
 use Rattle.spec.specs.Entries.{bareNumbers}
 use mathlib.Core.Path.{_≡_, sym, ap, _∙_}
 use native.Mathlib.Omega.{arith}
-use Rattle.spec.specs.Answers.{refusalOf}
+use Rattle.admission.specs.Refusing.{refusalOf}
 use Rattle.launch.proofs.Bare.{fine, readable, lent-is, numbers-refuse, table-refuses, state-refuses, ran}
 use Rattle.launch.proofs.Ready.{runnable}
 use borrow.Author.Needs.{needs}

@@ -12,7 +12,7 @@ use lib.ListN.{length, getD}
 use Rattle.spec.specs.declared.Refusal.the-variants.{TooDeep}
 use Rattle.spec.specs.Table.{rowsOf, rowAt}
 use Rattle.reader.specs.declared.Reach.the-variants.{To}
-use Rattle.spec.specs.Answers.{refusalOf}
+use Rattle.admission.specs.Refusing.{refusalOf}
 use Rattle.reader.specs.Parts.{ownRefusal, Fails, Span, Body, Construct, BodyIs, ConstructIs, ClosesIs}
 use Rattle.reader.proofs.OpBytes.{plain-byte}
 use Rattle.reader.proofs.Passing.{fail-on}

@@ -1,0 +1,2 @@
+-- An admission, said as a refusal. Assumes nothing.
+pub mod Refusing
