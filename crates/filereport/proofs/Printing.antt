@@ -15,7 +15,7 @@ use Rattle.spec.specs.LaunchFile.{Launch, Checked, refused, accepted, unlessRef
 use Rattle.spec.specs.Report.{refusalReport, reportOf}
 use Rattle.spec.specs.Entries.{over, writerRefusal, writtenOf, writerAnswer, writerBuffer, keptIf, fileLent, andState, fileChecked, launchReport, reportLength, ifAccepted, fileAnswer, fileOutputAfter, printed, checkPrints}
 use Rattle.reportlines.proofs.Writing.{over-length}
-use Rattle.report.specs.Whole.{FitsOutput}
+use Rattle.report.specs.Subjects.{FitsOutput}
 use Rattle.report.proofs.Entry.{no-cells-asked, fitting}
 
 -- The two cases of an answer.

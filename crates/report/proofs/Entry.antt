@@ -16,7 +16,7 @@ use Rattle.spec.specs.declared.Written.the-variants as written
 use Rattle.spec.specs.Answers.{unless, orElse, first}
 use Rattle.spec.specs.Report.{reportOf}
 use Rattle.spec.specs.Entries.{over, cellsReported, writerRefusal, writtenOf, writerAnswer, writerBuffer, keptIf}
-use Rattle.report.specs.Whole.{ran, refused, FitsOutput}
+use Rattle.report.specs.Subjects.{ran, refused, FitsOutput}
 
 no-and : (b : Bool) → (b && false) ≡ false
 no-and true = refl
@@ -70,3 +70,8 @@ cells-refused what cells out r e =
 
 pub fits : (what : Subject) (cells : List ℕ) (n : ℕ) → n ≡ length (reportOf what cells) → n ≤ 17408 → FitsOutput what cells
 fits what cells n e h q = omega arith
+
+-- Whoever unfolds this sees that a refusal's report does not depend on the cells.
+unfoldable pub without-cells : Unit {0}
+unfolding writerAnswer writerBuffer writerRefusal cellsReported reportOf
+without-cells = tt

@@ -1,4 +1,3 @@
 -- Laws of the whole report. Assumes nothing.
-pub mod Cells
-pub mod Sizes
+pub mod Parts
 pub mod Entry

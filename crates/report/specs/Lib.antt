@@ -1,2 +1,2 @@
--- Definitions of the whole report. Assumes nothing.
-pub mod Whole
+-- The subjects of a report, and the room that every report fits in. Assumes nothing.
+pub mod Subjects

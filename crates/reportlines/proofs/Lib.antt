@@ -1,4 +1,5 @@
--- Laws of lines and of writing. Assumes nothing.
+-- Laws of words, of lines and of writing. Assumes nothing.
 pub mod Decimal
+pub mod Words
 pub mod Writing
 pub mod Lines

@@ -4,7 +4,7 @@ use mathlib.Core.List.{List, [], _∷_, _++_, append-assoc}
 use Prim.Native.Nat.{ℕ, _+_}
 use native.Mathlib.Omega.{arith}
 use lib.ListN.{length, length-append}
-use Rattle.reportlines.specs.Values.{keyLine}
+use Rattle.spec.specs.Report.{keyLine}
 
 pub parts : (key value : List ℕ) → ((key ++ (61 ∷ [])) ++ value) ++ (10 ∷ []) ≡ keyLine key value
 unfolding keyLine

@@ -4,11 +4,12 @@ use mathlib.Core.List.{List, [], _∷_, _++_, append-assoc, append-nil}
 use Prim.Native.Nat.{ℕ, suc, _+_, _-_, _/_, _%_, _≤_, _<_}
 use native.Mathlib.Numerals.{add-one}
 use native.Mathlib.Omega.{arith}
-use lib.ListN.{length, getD, set, take, drop, length-append, length-drop, length-set, drop-of-length-le}
+use lib.ListN.{length, getD, set, take, drop, length-append, length-drop, length-set, drop-of-length-le, take-append-drop}
 use lib.Seq.{take-all, take-at, drop-at, drop-drop, drop-cons, take-suc, set-at, length-take-le, getD-set-same, drop-set-lt}
 use borrow.Rule.Slice.PartMut.{midOf, putMid}
 use Rattle.spec.specs.Text.{decimal}
 use Rattle.spec.specs.Entries.{over}
+use Rattle.reportlines.specs.Places.{overFrom}
 use Rattle.reportlines.proofs.Decimal.{decimal-one, decimal-more, length-one, length-more}
 
 pub over-length : (w xs : List ℕ) → length w ≤ length xs → length (over w xs) ≡ length xs
@@ -87,6 +88,33 @@ byte-onward {xs} {l} {v} {at} b s h =
 -- What a contract says of the whole.
 pub finished : {xs l v : List ℕ} {at : ℕ} (w : List ℕ) → Stands xs l v at → v ≡ w → (at ≡ length w) × (l ≡ over w xs)
 finished {xs} w s e = (s .ended ∙ ap length e, s .bytes ∙ ap (λ (v : List ℕ). over v xs) e)
+
+-- The front of a buffer stands in it.
+pub itself : (xs : List ℕ) (at : ℕ) → at ≤ length xs → Stands xs xs (take at xs) at
+unfolding over
+itself xs at h =
+    let e : length (take at xs) ≡ at = length-take-le at xs h in
+    started (omega arith) (sym e) (sym (take-append-drop at xs) ∙ ap (λ (n : ℕ). take at xs ++ drop n xs) (sym e))
+
+-- The part from `at` on, lent to what writes w at its start.
+pub put-at : (xs w ys : List ℕ) (at n : ℕ) → at + length w ≤ length xs → n ≡ length w → ys ≡ over w (part at xs)
+    → (at + n ≡ at + length w) × (back at xs ys ≡ overFrom at w xs)
+unfolding overFrom
+put-at xs w ys at n h en ey = (ap (λ (k : ℕ). at + k) en, onward {n = n} w ys (itself xs at (omega arith)) h en ey .bytes)
+
+-- What was written from `at` on stands behind v.
+pub next : {xs l v : List ℕ} {at r : ℕ} (w l′ : List ℕ) → Stands xs l v at → at + length w ≤ length xs → r ≡ at + length w → l′ ≡ overFrom at w l → Stands xs l′ (v ++ w) r
+unfolding overFrom over
+next {xs} {l} {v} {at} {r} w l′ s h er el =
+    let front : take at l ≡ v = ap (take at) (s .bytes) ∙ take-at v (drop (length v) xs) at (sym (s .ended)) in
+    let rest : drop (length (v ++ w)) l ≡ drop (length (v ++ w)) xs =
+    ap₂ (λ (n : ℕ) (x : List ℕ). drop n x) (length-append v w) (s .bytes)
+    ∙ sym (drop-drop (length w) (length v) (v ++ drop (length v) xs))
+    ∙ ap (drop (length w)) (drop-at v (drop (length v) xs) (length v) refl)
+    ∙ drop-drop (length w) (length v) xs
+    ∙ ap (λ (n : ℕ). drop n xs) (sym (length-append v w)) in
+    started (omega (arith, length-append v w, s .ended)) (er ∙ ap (λ (n : ℕ). n + length w) (s .ended) ∙ sym (length-append v w))
+    (el ∙ ap (λ (x : List ℕ). (x ++ w) ++ drop (length (x ++ w)) l) front ∙ ap (λ (x : List ℕ). (v ++ w) ++ x) rest)
 
 -- A text copied byte by byte.
 pub copied : (src xs : List ℕ) (i : ℕ) → i < length src → length src ≤ length xs → set (over (take i src) xs) i (getD src i 0) ≡ over (take (i + 1) src) xs

@@ -1,2 +1,3 @@
--- Definitions of lines and of writing. Assumes nothing.
-pub mod Values
+-- Words of a report, and writing from a place on. Assumes nothing.
+pub mod Words
+pub mod Places

@@ -1,19 +1,20 @@
-// One line of a report, `key=value`: its length, and its bytes written from the start of what the caller lends.
+// One line of a report, `key=value`: its length, and its bytes written to what the caller lends.
+use spec::AccessKind;
+use spec::Value;
+use spec::Verdict;
 ghost use mathlib.Core.Path.{_≡_};
 ghost use Prim.Native.Nat.{_+_, _<_, _≤_};
 ghost use lib.ListN.{length};
 ghost use Rattle.spec.specs.Text.{decimal};
-ghost use Rattle.spec.specs.Report.{verdictValue, kindValue};
+ghost use Rattle.spec.specs.Report.{verdictText, kindText, valueText, keyLine};
 ghost use Rattle.spec.specs.Entries.{over};
-ghost use Rattle.reportlines.specs.Values.{valueText, keyLine};
+ghost use Rattle.reportlines.specs.Words.{IsWord, Spells};
+ghost use Rattle.reportlines.specs.Places.{overFrom};
 
-// What a line says behind its `=`.
-pub enum Value {
-    Hyphen,
-    Number(u32),
-    Verdict(spec::Verdict),
-    Kind(spec::AccessKind),
-    Report,
+// How a value is written: as a word of the table, or as a number in base ten.
+enum Spelling {
+    Word(usize),
+    Digits(u32),
 }
 
 // How many digits n has in base ten.
@@ -61,63 +62,50 @@ pub fn put(src: &[u8], out: &mut [u8]) -> usize
     i
 }
 
-fn verdict_length(verdict: spec::Verdict) -> usize
-    ensures { λ r. ⌜ (r ≡ length (verdictValue verdict)) × (r ≤ 10) ⌝ }
+const WORDS: [u8; 43] = *b"-passedraceoutsidedivergedspentrwwrwwreport";
+
+const STARTS: [usize; 11] = [0, 1, 7, 11, 18, 26, 31, 33, 35, 37, 43];
+
+fn verdict_word(verdict: Verdict) -> usize
+    ensures { λ r. ⌜ IsWord r (verdictText verdict) ⌝ }
 {
     match verdict {
-        spec::Verdict::Passed => 6,
-        spec::Verdict::Race(_, _, _, _) => 4,
-        spec::Verdict::Outside(_, _) => 7,
-        spec::Verdict::Diverged(_, _) => 8,
-        spec::Verdict::Spent => 5,
+        Verdict::Passed => 1,
+        Verdict::Race(_, _, _, _) => 2,
+        Verdict::Outside(_, _) => 3,
+        Verdict::Diverged(_, _) => 4,
+        Verdict::Spent => 5,
     }
 }
 
-fn write_verdict(verdict: spec::Verdict, out: &mut [u8]) -> usize
-    requires { ⌜ length (verdictValue verdict) ≤ length (now out) ⌝ }
-    ensures long { λ r. ⌜ r ≡ length (verdictValue verdict) ⌝ }
-    ensures written { λ _. ⌜ now (out .exit) ≡ over (verdictValue verdict) (now (out .entry)) ⌝ }
-{
-    match verdict {
-        spec::Verdict::Passed => put(b"passed", out),
-        spec::Verdict::Race(_, _, _, _) => put(b"race", out),
-        spec::Verdict::Outside(_, _) => put(b"outside", out),
-        spec::Verdict::Diverged(_, _) => put(b"diverged", out),
-        spec::Verdict::Spent => put(b"spent", out),
-    }
-}
-
-fn kind_length(kind: spec::AccessKind) -> usize
-    ensures { λ r. ⌜ (r ≡ length (kindValue kind)) × (r ≤ 10) ⌝ }
+fn kind_word(kind: AccessKind) -> usize
+    ensures { λ r. ⌜ IsWord r (kindText kind) ⌝ }
 {
     match kind {
-        spec::AccessKind::ReadWrite => 2,
-        spec::AccessKind::WriteRead => 2,
-        spec::AccessKind::WriteWrite => 2,
+        AccessKind::ReadWrite => 6,
+        AccessKind::WriteRead => 7,
+        AccessKind::WriteWrite => 8,
     }
 }
 
-fn write_kind(kind: spec::AccessKind, out: &mut [u8]) -> usize
-    requires { ⌜ length (kindValue kind) ≤ length (now out) ⌝ }
-    ensures long { λ r. ⌜ r ≡ length (kindValue kind) ⌝ }
-    ensures written { λ _. ⌜ now (out .exit) ≡ over (kindValue kind) (now (out .entry)) ⌝ }
+fn spelled(value: Value) -> Spelling
+    ensures { λ r. ⌜ Spells r (valueText value) ⌝ }
 {
-    match kind {
-        spec::AccessKind::ReadWrite => put(b"rw", out),
-        spec::AccessKind::WriteRead => put(b"wr", out),
-        spec::AccessKind::WriteWrite => put(b"ww", out),
+    match value {
+        Value::Hyphen => Spelling::Word(0),
+        Value::Number(n) => Spelling::Digits(n),
+        Value::Verdict(v) => Spelling::Word(verdict_word(v)),
+        Value::Kind(k) => Spelling::Word(kind_word(k)),
+        Value::Report => Spelling::Word(9),
     }
 }
 
 fn value_length(value: Value) -> usize
     ensures { λ r. ⌜ (r ≡ length (valueText value)) × (r ≤ 10) ⌝ }
 {
-    match value {
-        Value::Hyphen => 1,
-        Value::Number(n) => digits(n),
-        Value::Verdict(v) => verdict_length(v),
-        Value::Kind(k) => kind_length(k),
-        Value::Report => 6,
+    match spelled(value) {
+        Spelling::Word(i) => STARTS[i + 1] - STARTS[i],
+        Spelling::Digits(n) => digits(n),
     }
 }
 
@@ -126,25 +114,26 @@ fn write_value(value: Value, out: &mut [u8]) -> usize
     ensures long { λ r. ⌜ r ≡ length (valueText value) ⌝ }
     ensures written { λ _. ⌜ now (out .exit) ≡ over (valueText value) (now (out .entry)) ⌝ }
 {
-    match value {
-        Value::Hyphen => put(b"-", out),
-        Value::Number(n) => write_number(n, out),
-        Value::Verdict(v) => write_verdict(v, out),
-        Value::Kind(k) => write_kind(k, out),
-        Value::Report => put(b"report", out),
+    match spelled(value) {
+        Spelling::Word(i) => {
+            let from = STARTS[i];
+            let to = STARTS[i + 1];
+            put(&WORDS[from..to], out)
+        }
+        Spelling::Digits(n) => write_number(n, out),
     }
 }
 
 // The length of a line whose key has so many bytes.
 pub fn line_length(key: usize, value: Value) -> usize
-    requires { ⌜ key ≤ 8 ⌝ }
+    requires { ⌜ key ≤ 20 ⌝ }
     ensures { λ r. ⌜ (r ≡ key + length (valueText value) + 2) × (r ≤ key + 12) ⌝ }
 {
     key + value_length(value) + 2
 }
 
 // Writes a line, each part from where the last one ended.
-pub fn write_line(key: &[u8], value: Value, out: &mut [u8]) -> usize
+fn write_line(key: &[u8], value: Value, out: &mut [u8]) -> usize
     requires { ⌜ length (keyLine (now key) (valueText value)) ≤ length (now out) ⌝ }
     ensures long { λ r. ⌜ r ≡ length (keyLine (now (key .entry)) (valueText value)) ⌝ }
     ensures written { λ _. ⌜ now (out .exit) ≡ over (keyLine (now (key .entry)) (valueText value)) (now (out .entry)) ⌝ }
@@ -155,4 +144,13 @@ pub fn write_line(key: &[u8], value: Value, out: &mut [u8]) -> usize
     let end = start + write_value(value, &mut out[start..]);
     out[end] = b'\n';
     end + 1
+}
+
+// Writes a line from place `at` on, and answers the place behind it.
+pub fn line_at(key: &[u8], value: Value, out: &mut [u8], at: usize) -> usize
+    requires { ⌜ at + length (keyLine (now key) (valueText value)) ≤ length (now out) ⌝ }
+    ensures next { λ r. ⌜ r ≡ at + length (keyLine (now (key .entry)) (valueText value)) ⌝ }
+    ensures written { λ _. ⌜ now (out .exit) ≡ overFrom at (keyLine (now (key .entry)) (valueText value)) (now (out .entry)) ⌝ }
+{
+    at + write_line(key, value, &mut out[at..])
 }

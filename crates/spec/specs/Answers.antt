@@ -13,6 +13,8 @@ pub use Rattle.spec.specs.declared.Refusal.the-variants.{TableLength, To
 pub use Rattle.spec.specs.declared.Answer.{Answer}
 pub use Rattle.spec.specs.declared.Written.{Written}
 pub use Rattle.spec.specs.declared.Subject.{Subject}
+pub use Rattle.spec.specs.declared.Value.{Value}
+pub use Rattle.spec.specs.declared.Details.{Details}
 
 -- "Turned back": the number of a refusal.
 unfoldable pub refusalNumber : Refusal → ℕ

@@ -1,92 +1,104 @@
--- The report's bytes. "The launch file and the report". Assumes nothing.
-use mathlib.Core.List.{List, [], _∷_, _++_}
+-- The report: its lines as one list, and their bytes. "The launch file and the report". Assumes nothing.
+use mathlib.Core.List.{List, [], _∷_, _++_, map}
 use Prim.Native.Nat.{ℕ}
 use Prim.Native.String.{String}
-use Rattle.spec.specs.Answers.{AccessKind, ReadWrite, WriteRead, WriteWrite, Verdict, Passed, Race, Outside, Diverged, Spent, Outcome, Subject}
+use Rattle.spec.specs.Answers.{AccessKind, ReadWrite, WriteRead, WriteWrite, Verdict, Passed, Race, Outside, Diverged, Spent, Outcome, Subject, Value, Details}
 use Rattle.spec.specs.declared.Subject.the-variants as subject
+use Rattle.spec.specs.declared.Value.the-variants as value
 use Rattle.spec.specs.Text.{text, newline, equals, hyphen, decimal}
 
+-- The word of a verdict, and of a race's kind.
+unfoldable pub verdictText : Verdict → List ℕ
+verdictText Passed = text "passed"
+verdictText (Race thread other kind at) = text "race"
+verdictText (Outside thread at) = text "outside"
+verdictText (Diverged thread other) = text "diverged"
+verdictText Spent = text "spent"
+
+unfoldable pub kindText : AccessKind → List ℕ
+kindText ReadWrite = text "rw"
+kindText WriteRead = text "wr"
+kindText WriteWrite = text "ww"
+
+-- What stands behind a line's `=`.
+unfoldable pub valueText : Value → List ℕ
+valueText value.Hyphen = hyphen
+valueText (value.Number n) = decimal n
+valueText (value.Verdict v) = verdictText v
+valueText (value.Kind k) = kindText k
+valueText value.Report = text "report"
+
 -- A line is `key=value`, ended by byte 10.
-unfoldable pub line : String → List ℕ → List ℕ
-line key value = text key ++ (equals ∷ (value ++ (newline ∷ [])))
+pub record Line : Type 0 where
+  pub key : List ℕ
+  pub value : Value
 
-unfoldable pub verdictValue : Verdict → List ℕ
-verdictValue Passed = text "passed"
-verdictValue (Race thread other kind at) = text "race"
-verdictValue (Outside thread at) = text "outside"
-verdictValue (Diverged thread other) = text "diverged"
-verdictValue Spent = text "spent"
+unfoldable pub keyLine : (key value : List ℕ) → List ℕ
+keyLine key value = key ++ (equals ∷ (value ++ (newline ∷ [])))
 
-unfoldable pub kindValue : AccessKind → List ℕ
-kindValue ReadWrite = text "rw"
-kindValue WriteRead = text "wr"
-kindValue WriteWrite = text "ww"
+unfoldable pub lineBytes : Line → List ℕ
+lineBytes l = keyLine (l .key) (valueText (l .value))
 
--- `row=` is the row where the run stopped, or for spent the row due; a hyphen when passed.
-unfoldable pub rowLine : Verdict → ℕ → List ℕ
-rowLine Passed row = hyphen
-rowLine (Race thread other kind at) row = decimal row
-rowLine (Outside thread at) row = decimal row
-rowLine (Diverged thread other) row = decimal row
-rowLine Spent row = decimal row
+infix 70 _is_
+unfoldable pub _is_ : String → Value → Line
+key is value = record { key = text key; value = value }
 
--- `thread=`: a hyphen unless race, outside or diverged.
-unfoldable pub threadLine : Verdict → List ℕ
-threadLine Passed = hyphen
-threadLine (Race thread other kind at) = decimal thread
-threadLine (Outside thread at) = decimal thread
-threadLine (Diverged thread other) = decimal thread
-threadLine Spent = hyphen
+-- Each line begins where the last one ended.
+unfoldable pub bytesOf : List Line → List ℕ
+bytesOf [] = []
+bytesOf (l ∷ ls) = lineBytes l ++ bytesOf ls
 
--- `other=`: a hyphen unless race or diverged.
-unfoldable pub otherLine : Verdict → List ℕ
-otherLine Passed = hyphen
-otherLine (Race thread other kind at) = decimal other
-otherLine (Outside thread at) = hyphen
-otherLine (Diverged thread other) = decimal other
-otherLine Spent = hyphen
+-- What each verdict says of where the run stopped, in the order row, thread, other, kind, at. A hyphen stands for a line without meaning: row when
+-- passed; thread unless race, outside or diverged; other unless race or diverged; kind unless race; at unless race or outside.
+unfoldable pub details : (row thread other kind at : Value) → Details
+details row thread other kind at = record { row = row; thread = thread; other = other; kind = kind; at = at }
 
--- `kind=`: a hyphen unless race.
-unfoldable pub kindLine : Verdict → List ℕ
-kindLine Passed = hyphen
-kindLine (Race thread other kind at) = kindValue kind
-kindLine (Outside thread at) = hyphen
-kindLine (Diverged thread other) = hyphen
-kindLine Spent = hyphen
+unfoldable pub detailsOf : Verdict → (row : ℕ) → Details
+detailsOf Passed row = details value.Hyphen value.Hyphen value.Hyphen value.Hyphen value.Hyphen
+detailsOf (Race thread other kind at) row = details (value.Number row) (value.Number thread) (value.Number other) (value.Kind kind) (value.Number at)
+detailsOf (Outside thread at) row = details (value.Number row) (value.Number thread) value.Hyphen value.Hyphen (value.Number at)
+detailsOf (Diverged thread other) row = details (value.Number row) (value.Number thread) (value.Number other) value.Hyphen value.Hyphen
+detailsOf Spent row = details (value.Number row) value.Hyphen value.Hyphen value.Hyphen value.Hyphen
 
--- `at=`: the cell of a race, the number used outside; else a hyphen.
-unfoldable pub atLine : Verdict → List ℕ
-atLine Passed = hyphen
-atLine (Race thread other kind at) = decimal at
-atLine (Outside thread at) = decimal at
-atLine (Diverged thread other) = hyphen
-atLine Spent = hyphen
+-- The lines of a run's report before its cells, the head.
+unfoldable pub headWith : Outcome → Details → List Line
+headWith o d =
+    "verdict" is value.Verdict (o .verdict)
+    ∷ "row" is d .row
+    ∷ "thread" is d .thread
+    ∷ "other" is d .other
+    ∷ "kind" is d .kind
+    ∷ "at" is d .at
+    ∷ "rows" is value.Number (o .rows)
+    ∷ "steps" is value.Number (o .steps)
+    ∷ "barriers" is value.Number (o .barriers)
+    ∷ []
 
--- One `cell=` line per cell.
-unfoldable pub cellLines : List ℕ → List ℕ
-cellLines [] = []
-cellLines (c ∷ cells) = line "cell" (decimal c) ++ cellLines cells
+unfoldable pub headLines : Outcome → List Line
+headLines o = headWith o (detailsOf (o .verdict) (o .row))
 
--- The report of a run.
-unfoldable pub runReport : Outcome → List ℕ → List ℕ
-runReport o cells =
-    line "verdict" (verdictValue (o .verdict))
-    ++ (line "row" (rowLine (o .verdict) (o .row))
-    ++ (line "thread" (threadLine (o .verdict))
-    ++ (line "other" (otherLine (o .verdict))
-    ++ (line "kind" (kindLine (o .verdict))
-    ++ (line "at" (atLine (o .verdict))
-    ++ (line "rows" (decimal (o .rows))
-    ++ (line "steps" (decimal (o .steps))
-    ++ (line "barriers" (decimal (o .barriers))
-    ++ (cellLines cells
-    ++ line "end" (text "report"))))))))))
+-- One line with the same key for each number.
+unfoldable pub eachLine : (key : List ℕ) → (numbers : List ℕ) → List Line
+eachLine key numbers = map (λ n. record { key = key; value = value.Number n }) numbers
+
+-- The report of a run: the head, one `cell=` line per cell, and the last line.
+unfoldable pub endLine : Line
+endLine = "end" is value.Report
+
+unfoldable pub runLines : Outcome → (cells : List ℕ) → List Line
+runLines o cells = headLines o ++ (eachLine (text "cell") cells ++ (endLine ∷ []))
+
+unfoldable pub runReport : Outcome → (cells : List ℕ) → List ℕ
+runReport o cells = bytesOf (runLines o cells)
 
 -- The report of a refusal, from its number and place.
+unfoldable pub refusalLines : (number place : ℕ) → List Line
+refusalLines number place = "refused" is value.Number number ∷ "place" is value.Number place ∷ endLine ∷ []
+
 unfoldable pub refusalReport : (number place : ℕ) → List ℕ
-refusalReport number place = line "refused" (decimal number) ++ (line "place" (decimal place) ++ line "end" (text "report"))
+refusalReport number place = bytesOf (refusalLines number place)
 
 -- The report of either; a refusal's has no cells.
-unfoldable pub reportOf : Subject → List ℕ → List ℕ
+unfoldable pub reportOf : Subject → (cells : List ℕ) → List ℕ
 reportOf (subject.Ran o) cells = runReport o cells
 reportOf (subject.Refused number place) cells = refusalReport number place

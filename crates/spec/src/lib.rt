@@ -67,3 +67,21 @@ pub enum Subject {
     Ran(Outcome),
     Refused(u32, u32),
 }
+
+// What a line of a report says behind its `=`.
+pub enum Value {
+    Hyphen,
+    Number(u32),
+    Verdict(Verdict),
+    Kind(AccessKind),
+    Report,
+}
+
+// What a report says of where a run stopped.
+pub struct Details {
+    pub row: Value,
+    pub thread: Value,
+    pub other: Value,
+    pub kind: Value,
+    pub at: Value,
+}

@@ -1,41 +1,60 @@
--- `report::report_refusal` meets its contract. Each case is the definition's. Assumes nothing.
+-- `report::report_refusal` meets its contract. The table's last three lines are the report. Assumes nothing.
+use mathlib.Core.Path.{_≡_, refl, ap, _∙_}
+use mathlib.Core.List.{[]}
 use native.Mathlib.Omega.{arith}
-use borrow.Author.Needs.{needs}
-use Rattle.spec.specs.Report.{reportOf}
-use Rattle.report.specs.Whole.{refused}
+use lib.ListN.{length}
+use Rattle.report.specs.Subjects.{refused}
+use Rattle.report.proofs.Parts.{refusal-part, nothing}
 use Rattle.report.proofs.Entry.{no-cells-asked, too-long, fitting, turned-back, taken, fits}
+use Rattle.reportlines.proofs.Writing.{next, finished}
+use borrow.Author.Needs.{needs}
 use Rattle.report.proofs.report_refusal.Statement.{statement}
 use Rattle.report.proofs.report_refusal.Tie as tie
 
-refusal-length-requires : tie.Need-refusal-length-requires
-refusal-length-requires c κs = search needs
+refusal-values-requires : tie.Need-refusal-values-requires
+refusal-values-requires c κs = search needs
+
+lines-length-requires : tie.Need-lines-length-requires
+lines-length-requires c κs = search needs
 
 cast-t9 : tie.Need-cast-t9
 cast-t9 c = search needs
 
 returns : tie.Need-returns
-unfolding reportOf
 returns c =
-    let a = c .before .before .before .before .args in
-    let what = refused (a .number) (a .place) in
-    let right = no-cells-asked (a .number) (a .place) (a .cells .now) in
-    turned-back what (a .cells .now) (a .out .now) _ (too-long what (a .cells .now) (a .out .now) (c .before .refusal-length .result) right (c .before .refusal-length .ensures .0) (omega (arith, c .if1 .taken))) (fits what (a .cells .now) _ (c .before .refusal-length .ensures .0) (omega (arith, c .before .refusal-length .ensures .1)))
+    let start = c .before .before .before .before in
+    let what = refused (start .args .number) (start .args .place) in
+    let size = c .before .lines-length .ensures in
+    let needed = size .0 ∙ ap length (refusal-part (start .args .number) (start .args .place) _ (c .before .before .refusal-values .ensures)) in
+    turned-back what [] (start .args .out .now) _ (too-long what [] _ _ (no-cells-asked _ _ []) needed (c .if1 .taken))
+    (fits what [] _ needed (omega (arith, size .1)))
 
-write-refusal-requires : tie.Need-write-refusal-requires
-write-refusal-requires c κs = search needs
+lines-at-requires : tie.Need-lines-at-requires
+lines-at-requires c κs = search needs
 
 same-length : tie.Need-same-length
 same-length c = search needs
 
 returns-2 : tie.Need-returns-2
-unfolding reportOf
 returns-2 c =
-    let a = c .before .before .before .before .before .before .before .before .args in
-    let what = refused (a .number) (a .place) in
-    let right = no-cells-asked (a .number) (a .place) (a .cells .now) in
-    taken what (a .cells .now) (a .out .now) _ _ (fitting what (a .cells .now) (a .out .now) (c .before .before .before .before .before .refusal-length .result) right (c .before .before .before .before .before .refusal-length .ensures .0) (omega (arith, c .before .before .before .before .if1 .left))) (c .before .before .write-refusal .ensures .0) (c .before .before .write-refusal .ensures .1) (fits what (a .cells .now) _ (c .before .before .before .before .before .refusal-length .ensures .0) (omega (arith, c .before .before .before .before .before .refusal-length .ensures .1)))
+    let start = c .before .before .before .before .before .before .before .before in
+    let what = refused (start .args .number) (start .args .place) in
+    let size = c .before .before .before .before .before .lines-length .ensures in
+    let wrote = c .before .before .lines-at in
+    let part = refusal-part (start .args .number) (start .args .place) _ (c .before .before .before .before .before .before .refusal-values .ensures) in
+    let needed = size .0 ∙ ap length part in
+    let written = finished _ (next _ _ (nothing (start .args .out .now)) (omega (arith, size .0, c .before .before .before .before .if1 .left)) (wrote .ensures .0) (wrote .ensures .1)) part in
+    taken what [] (start .args .out .now) _ _ (fitting what [] _ _ (no-cells-asked _ _ []) needed (omega (arith, c .before .before .before .before .if1 .left)))
+    (written .0) (written .1) (fits what [] _ needed (omega (arith, size .1)))
 
 pub report-refusal-spec : {M : Type 1} → statement M
 report-refusal-spec =
     tie.close
-    (tie.spec refusal-length-requires cast-t9 returns write-refusal-requires same-length returns-2)
+    (tie.spec
+    refusal-values-requires
+    lines-length-requires
+    cast-t9
+    returns
+    lines-at-requires
+    same-length
+    returns-2)

@@ -2,7 +2,7 @@
 use native.Mathlib.Omega.{arith}
 use borrow.Author.Needs.{needs}
 use Rattle.spec.specs.Report.{reportOf}
-use Rattle.report.specs.Whole.{ran}
+use Rattle.report.specs.Subjects.{ran}
 use Rattle.report.proofs.Entry.{no-cells, many-cells, cells-right, too-long, fitting, cells-refused, turned-back, taken, fits}
 use Rattle.report.proofs.report_run.Statement.{statement}
 use Rattle.report.proofs.report_run.Tie as tie

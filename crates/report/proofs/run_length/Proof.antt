@@ -1,41 +1,54 @@
--- `report::run_length` meets its contract. The sum of the head, the cells and the last line. Assumes nothing.
-use mathlib.Core.Path.{ap₂, _∙_}
+-- `report::run_length` meets its contract. The three parts are as long as the report. Assumes nothing.
+use mathlib.Core.Path.{_≡_, ap₂, _∙_}
 use Prim.Native.Nat.{_+_}
 use native.Mathlib.Omega.{arith}
-use borrow.Author.Needs.{needs}
 use Rattle.spec.specs.Text.{text}
-use Rattle.reportlines.specs.Values.{valueText}
-use Rattle.report.proofs.Sizes.{run-size}
+use Rattle.report.proofs.Parts.{run-size}
+use borrow.Author.Needs.{needs}
 use Rattle.report.proofs.run_length.Statement.{statement}
 use Rattle.report.proofs.run_length.Tie as tie
 
-head-length-requires : tie.Need-head-length-requires
-head-length-requires c κs = search needs
+run-values-requires : tie.Need-run-values-requires
+run-values-requires c κs = search needs
 
-cells-length-requires : tie.Need-cells-length-requires
-cells-length-requires c κs = search needs
+lines-length-requires : tie.Need-lines-length-requires
+lines-length-requires c κs = search needs
+
+slice-aggregate-each-length : tie.Need-slice-aggregate-each-length
+slice-aggregate-each-length c = search needs
+
+each-length-requires : tie.Need-each-length-requires
+each-length-requires c κs = search needs
 
 add-result : tie.Need-add-result
 add-result c = search needs
 
-line-length-requires : tie.Need-line-length-requires
-line-length-requires c κs = search needs
+lines-length-requires-2 : tie.Need-lines-length-requires-2
+lines-length-requires-2 c κs = search needs
 
 add-result-2 : tie.Need-add-result-2
 add-result-2 c = search needs
 
 returns : tie.Need-returns
-unfolding valueText text
+unfolding text
 returns c =
-    (ap₂ _+_ (ap₂ _+_ (c .before .before .head-length .ensures .0) (c .before .cells-length .ensures .0)) (c .line-length .ensures .0) ∙ run-size (c .before .before .before .before .args .outcome) (c .before .before .before .before .args .cells .now), omega (arith, c .before .before .before .before .pre, c .before .before .head-length .ensures .1, c .before .cells-length .ensures .1, c .line-length .ensures .1))
+    let start = c .before .before .before .before .before .before in
+    let head = c .before .before .before .lines-length .ensures in
+    let cells = c .before .each-length .ensures in
+    let last = c .lines-length2 .ensures in (
+      ap₂ _+_ (ap₂ _+_ (head .0) (cells .0)) (last .0) ∙ run-size (start .args .outcome) (start .args .cells .now) _ (c .before .before .before .before .run-values .ensures),
+      omega (arith, start .pre, head .1, cells .1, last .1),
+    )
 
 pub run-length-spec : {M : Type 1} → statement M
 run-length-spec =
     tie.close
     (tie.spec
-    head-length-requires
-    cells-length-requires
+    run-values-requires
+    lines-length-requires
+    slice-aggregate-each-length
+    each-length-requires
     add-result
-    line-length-requires
+    lines-length-requires-2
     add-result-2
     returns)

@@ -1,5 +1,6 @@
 -- `report::write_report` meets its contract. By the kind of the subject. Assumes nothing.
 use borrow.Author.Needs.{needs}
+use Rattle.report.proofs.Entry.{without-cells}
 use Rattle.report.proofs.write_report.Statement.{statement}
 use Rattle.report.proofs.write_report.Tie as tie
 
@@ -25,6 +26,7 @@ same-length-2 : tie.Need-same-length-2
 same-length-2 c = search needs
 
 returns-2 : tie.Need-returns-2
+unfolding without-cells
 returns-2 c = rw (c .before .before .before .before .before .what2 .given .1) (c .before .before .report-refusal .ensures)
 
 pub write-report-spec : {M : Type 1} → statement M

@@ -1,103 +1,86 @@
--- `report::write_run` meets its contract. The cells stand behind the head, and the last line behind them. Assumes nothing.
-use mathlib.Core.List.{List, _++_}
-use Prim.Native.Nat.{ℕ, _+_, _≤_}
+-- `report::write_run` meets its contract. The head, the cells and the last line stand one behind the other. Assumes nothing.
+use mathlib.Core.Path.{_≡_}
+use mathlib.Core.List.{_++_}
+use Prim.Native.Nat.{_+_, _≤_}
 use native.Mathlib.Omega.{arith}
-use borrow.Author.Needs.{needs}
-use lib.ListN.{length}
+use lib.ListN.{length, length-append}
 use Rattle.spec.specs.Text.{text}
-use Rattle.spec.specs.Report.{cellLines}
-use Rattle.reportlines.proofs.Writing.{Stands, back, started, same-size, within, room, onward, finished}
-use Rattle.reportlines.specs.Values.{valueText}
-use Rattle.report.specs.Whole.{headLines}
-use Rattle.report.proofs.Sizes.{endLine, run-lines, run-fits}
+use Rattle.reportlines.proofs.Writing.{Stands, next, same-size, finished}
+use Rattle.report.proofs.Parts.{head, cellsPart, last, run-parts, run-size, nothing}
+use borrow.Author.Needs.{needs}
 use Rattle.report.proofs.write_run.Statement.{statement}
 use Rattle.report.proofs.write_run.Tie as tie
 
-abbrev one : tie.Start → List ℕ
-one c = headLines (c .args .outcome)
+-- There is room for the three parts.
+room : (c : tie.After-run-values)
+    → let values = c .run-values .result in
+    let a = c .before .before .before .args in
+    length (head values) + length (cellsPart (a .cells .now)) + length (last values) ≤ length (a .out .now)
+room c =
+    let start = c .before .before .before in
+    omega (arith, start .pre, run-size (start .args .outcome) (start .args .cells .now) _ (c .run-values .ensures))
 
-abbrev two : tie.Start → List ℕ
-two c = cellLines (c .args .cells .now)
+-- The head has been written.
+headed : (c : tie.After-slice-known2)
+    → let wrote = c .before .before .lines-at in
+    Stands (c .before .before .before .before .before .before .before .args .out .now) (wrote .last .1 .1 .1 .0) (head (c .before .before .before .before .run-values .result)) (wrote .result)
+headed c =
+    let wrote = c .before .before .lines-at in
+    next (head (c .before .before .before .before .run-values .result)) _ (nothing (c .before .before .before .before .before .before .before .args .out .now)) (omega (arith, room (c .before .before .before .before))) (wrote .ensures .0) (wrote .ensures .1)
 
-all : (c : tie.Start) → length (one c) + length (two c) + length endLine ≤ length (c .args .out .now)
-all c = run-fits (c .args .outcome) (c .args .cells .now) (c .pre)
+-- The cells stand behind it.
+celled : (c : tie.After-slice-known3)
+    → let wrote = c .before .before .each-at in
+    let a = c .before .before .before .before .before .before .before .before .before .before .before .before .args in
+    Stands (a .out .now) (wrote .last .1 .1 .0) (head (c .before .before .before .before .before .before .before .before .before .run-values .result) ++ cellsPart (a .cells .now)) (wrote .result)
+unfolding text
+celled c =
+    let wrote = c .before .before .each-at in
+    let before = headed (c .before .before .before .before .before) in
+    next (cellsPart (c .before .before .before .before .before .before .before .before .before .before .before .before .args .cells .now)) _ before (omega (arith, room (c .before .before .before .before .before .before .before .before .before), before .ended)) (wrote .ensures .0) (wrote .ensures .1)
 
-abbrev First : tie.After-slice-known2 → List ℕ
-First c = c .before .before .write-head .last .1 .0
+both : (c : tie.After-slice-known3)
+    → let front = head (c .before .before .before .before .before .before .before .before .before .run-values .result) in
+    let cells = cellsPart (c .before .before .before .before .before .before .before .before .before .before .before .before .args .cells .now) in
+    length (front ++ cells) ≡ length front + length cells
+both c = length-append (head (c .before .before .before .before .before .before .before .before .before .run-values .result)) (cellsPart (c .before .before .before .before .before .before .before .before .before .before .before .before .args .cells .now))
 
-after-first : (c : tie.After-slice-known2) → Stands (c .before .before .before .before .before .before .args .out .now) (First c) (one (c .before .before .before .before .before .before)) (c .before .before .write-head .result)
-after-first c = started (omega (arith, all (c .before .before .before .before .before .before))) (c .before .before .write-head .ensures .0) (c .before .before .write-head .ensures .1)
+run-values-requires : tie.Need-run-values-requires
+run-values-requires c κs = search needs
 
-abbrev Second : tie.After-slice-known3 → List ℕ
-Second c = back (c .before .before .before .before .before .before .write-head .result) (First (c .before .before .before .before)) (c .before .before .write-cells .last .1 .0)
+lines-at-requires : tie.Need-lines-at-requires
+lines-at-requires c κs = (search needs, omega (arith, room (c .before)))
 
-after-second : (c : tie.After-slice-known3) → Stands (c .before .before .before .before .before .before .before .before .before .before .args .out .now) (Second c) (one (c .before .before .before .before .before .before .before .before .before .before) ++ two (c .before .before .before .before .before .before .before .before .before .before)) (c .before .before .before .before .before .before .write-head .result + c .before .before .write-cells .result)
-after-second c = onward (two (c .before .before .before .before .before .before .before .before .before .before)) _ (after-first (c .before .before .before .before)) (omega (arith, all (c .before .before .before .before .before .before .before .before .before .before), c .before .before .before .before .before .before .write-head .ensures .0)) (c .before .before .write-cells .ensures .0) (c .before .before .write-cells .ensures .1)
+slice-aggregate-each-at : tie.Need-slice-aggregate-each-at
+slice-aggregate-each-at c = search needs
 
-after-third : (c : tie.After-slice-known4)
-    → Stands (c .before .before .before .before .before .before .before .before .before .before .before .before .before .before .before .args .out .now) (back (c .before .before .before .before .before .before .before .before .before .before .before .write-head .result + c .before .before .before .before .before .before .before .write-cells .result) (Second (c .before .before .before .before .before)) (c .before .before .write-line .last .1 .1 .0)) ((one (c .before .before .before .before .before .before .before .before .before .before .before .before .before .before .before) ++ two (c .before .before .before .before .before .before .before .before .before .before .before .before .before .before .before)) ++ endLine) (c .before .before .before .before .before .before .before .before .before .before .before .write-head .result + c .before .before .before .before .before .before .before .write-cells .result + c .before .before .write-line .result)
-unfolding valueText text
-after-third c =
-    onward endLine _ (after-second (c .before .before .before .before .before)) (omega (arith, all (c .before .before .before .before .before .before .before .before .before .before .before .before .before .before .before), c .before .before .before .before .before .before .before .before .before .before .before .write-head .ensures .0, c .before .before .before .before .before .before .before .write-cells .ensures .0)) (c .before .before .write-line .ensures .0) (c .before .before .write-line .ensures .1)
+each-at-requires : tie.Need-each-at-requires
+unfolding text
+each-at-requires c κs = omega (arith, room (c .before .before .before .before .before .before), same-size (headed (c .before .before)), headed (c .before .before) .ended)
 
-write-head-requires : tie.Need-write-head-requires
-write-head-requires c κs = omega (arith, all (c .before .before .before))
-
-sub-write-cells : tie.Need-sub-write-cells
-sub-write-cells c = within (after-first c)
-
-part-write-cells-start : tie.Need-part-write-cells-start
-part-write-cells-start c = within (after-first c)
-
-part-write-cells-end : tie.Need-part-write-cells-end
-part-write-cells-end c = search needs
-
-write-cells-requires : tie.Need-write-cells-requires
-write-cells-requires c κs = room (two (c .before .before .before .before .before .before .before)) (after-first (c .before)) (omega (arith, all (c .before .before .before .before .before .before .before), c .before .before .before .write-head .ensures .0))
-
-add-last : tie.Need-add-last
-add-last c = omega (arith, within (after-second c), same-size (after-second c), c .before .before .before .before .before .before .before .before .before .before .good)
-
-slice-aggregate-write-line : tie.Need-slice-aggregate-write-line
-slice-aggregate-write-line c = search needs
-
-sub-write-line : tie.Need-sub-write-line
-sub-write-line c = within (after-second (c .before))
-
-part-write-line-start : tie.Need-part-write-line-start
-part-write-line-start c = within (after-second (c .before))
-
-part-write-line-end : tie.Need-part-write-line-end
-part-write-line-end c = search needs
-
-write-line-requires : tie.Need-write-line-requires
-unfolding valueText text
-write-line-requires c κs = room endLine (after-second (c .before .before)) (omega (arith, all (c .before .before .before .before .before .before .before .before .before .before .before .before), c .before .before .before .before .before .before .before .before .write-head .ensures .0, c .before .before .before .before .write-cells .ensures .0))
-
-add-result : tie.Need-add-result
-add-result c = omega (arith, within (after-third c), same-size (after-third c), c .before .before .before .before .before .before .before .before .before .before .before .before .before .before .before .good)
+lines-at-requires-2 : tie.Need-lines-at-requires-2
+lines-at-requires-2 c κs = (search needs, omega (arith, room (c .before .before .before .before .before .before .before .before .before .before), same-size (celled (c .before)), celled (c .before) .ended, both (c .before)))
 
 same-length : tie.Need-same-length
-same-length c = same-size (after-third c)
+same-length c = search needs
 
 returns : tie.Need-returns
-returns c = finished _ (after-third c) (run-lines (c .before .before .before .before .before .before .before .before .before .before .before .before .before .before .before .args .outcome) (c .before .before .before .before .before .before .before .before .before .before .before .before .before .before .before .args .cells .now))
+unfolding text
+returns c =
+    let start = c .before .before .before .before .before .before .before .before .before .before .before .before .before .before .before .before in
+    let values = c .before .before .before .before .before .before .before .before .before .before .before .before .before .run-values in
+    let wrote = c .before .before .lines-at2 in
+    let written = next (last (values .result)) _ (celled (c .before .before .before .before)) (omega (arith, room (c .before .before .before .before .before .before .before .before .before .before .before .before .before), celled (c .before .before .before .before) .ended, both (c .before .before .before .before))) (wrote .ensures .0) (wrote .ensures .1) in
+    finished _ written (run-parts (start .args .outcome) (start .args .cells .now) (values .result) (values .ensures))
 
 pub write-run-spec : {M : Type 1} → statement M
 write-run-spec =
     tie.close
     (tie.spec
-    write-head-requires
-    sub-write-cells
-    part-write-cells-start
-    part-write-cells-end
-    write-cells-requires
-    add-last
-    slice-aggregate-write-line
-    sub-write-line
-    part-write-line-start
-    part-write-line-end
-    write-line-requires
-    add-result
+    run-values-requires
+    lines-at-requires
+    slice-aggregate-each-at
+    each-at-requires
+    lines-at-requires-2
     same-length
     returns)

@@ -1,69 +1,71 @@
--- `reportlines::value_length` meets its contract. Each value is counted by its own function. Assumes nothing.
+-- `reportlines::value_length` meets its contract. A word is as long as the table has it. Assumes nothing.
+use mathlib.Core.Path.{_≡_, ap, _∙_}
+use Prim.Native.Nat.{ℕ}
 use native.Mathlib.Omega.{arith}
+use lib.ListN.{length}
+use Rattle.spec.specs.Report.{valueText}
+use Rattle.reportlines.specs.Words.{IsWord}
+use Rattle.reportlines.proofs.Words.{starts, as-word, as-digits, few-words, word-at, word-size, word-short}
 use borrow.Author.Needs.{needs}
-use Rattle.spec.specs.Text.{text}
-use Rattle.reportlines.specs.Values.{valueText}
 use Rattle.reportlines.proofs.value_length.Statement.{statement}
 use Rattle.reportlines.proofs.value_length.Tie as tie
 
-enum-told : tie.Need-enum-told
-enum-told c = search needs
+-- The word that the value is.
+word : (c : tie.After-known-told) → IsWord (c .before .i .given .0 .0) (valueText (c .before .before .before .before .args .value))
+word c = as-word (c .before .i .given .1) (c .before .before .before .spelled .ensures)
 
-enum-known-value : tie.Need-enum-known-value
-enum-known-value c = search needs
+spelled-requires : tie.Need-spelled-requires
+spelled-requires c κs = search needs
+
+enum-known-i : tie.Need-enum-known-i
+enum-known-i c = search needs
+
+add-result : tie.Need-add-result
+add-result c = omega (arith, few-words (word c))
+
+mul-result : tie.Need-mul-result
+mul-result c = omega (arith, few-words (word c))
+
+array-read-result : tie.Need-array-read-result
+array-read-result c = omega (arith, few-words (word c))
+
+mul-result-2 : tie.Need-mul-result-2
+mul-result-2 c = omega (arith, few-words (word c))
+
+array-read-result-2 : tie.Need-array-read-result-2
+array-read-result-2 c = omega (arith, few-words (word c))
+
+sub-result : tie.Need-sub-result
+unfolding starts
+sub-result c = word-at (word c) .ordered
+
+enum-known-n : tie.Need-enum-known-n
+enum-known-n c = search needs
 
 digits-requires : tie.Need-digits-requires
 digits-requires c κs = search needs
 
-enum-known-value-2 : tie.Need-enum-known-value-2
-enum-known-value-2 c = search needs
-
-verdict-length-requires : tie.Need-verdict-length-requires
-verdict-length-requires c κs = search needs
-
-enum-known-value-3 : tie.Need-enum-known-value-3
-enum-known-value-3 c = search needs
-
-kind-length-requires : tie.Need-kind-length-requires
-kind-length-requires c κs = search needs
-
-enum-told-2 : tie.Need-enum-told-2
-enum-told-2 c = search needs
-
 returns : tie.Need-returns
-unfolding valueText
-returns c = rw (c .enum-told .given .1) (omega arith)
+unfolding starts
+returns c = (word-size (word c), omega (arith, word-size (word c), word-short (word c)))
 
 returns-2 : tie.Need-returns-2
-unfolding valueText
-returns-2 c = rw (c .before .before .value .given .1) (c .digits .ensures)
-
-returns-3 : tie.Need-returns-3
-unfolding valueText
-returns-3 c = rw (c .before .before .value2 .given .1) (c .verdict-length .ensures)
-
-returns-4 : tie.Need-returns-4
-unfolding valueText
-returns-4 c = rw (c .before .before .value3 .given .1) (c .kind-length .ensures)
-
-returns-5 : tie.Need-returns-5
-unfolding valueText text
-returns-5 c = rw (c .enum-told2 .given .1) (omega arith)
+returns-2 c = let text = as-digits (c .before .before .n .given .1) (c .before .before .before .before .spelled .ensures) in
+    (c .digits .ensures .0 ∙ ap length text, c .digits .ensures .1)
 
 pub value-length-spec : {M : Type 1} → statement M
 value-length-spec =
     tie.close
     (tie.spec
-    enum-told
-    enum-known-value
+    spelled-requires
+    enum-known-i
+    add-result
+    mul-result
+    array-read-result
+    mul-result-2
+    array-read-result-2
+    sub-result
+    enum-known-n
     digits-requires
-    enum-known-value-2
-    verdict-length-requires
-    enum-known-value-3
-    kind-length-requires
-    enum-told-2
     returns
-    returns-2
-    returns-3
-    returns-4
-    returns-5)
+    returns-2)

@@ -4,7 +4,7 @@ use Prim.Native.Nat.{ℕ, _+_, _<_}
 use native.Mathlib.Omega.{arith}
 use borrow.Author.Needs.{needs}
 use lib.ListN.{length, set}
-use Rattle.reportlines.specs.Values.{valueText}
+use Rattle.spec.specs.Report.{valueText}
 use Rattle.reportlines.proofs.Lines.{parts, line-size}
 use Rattle.reportlines.proofs.Writing.{Stands, back, started, same-size, within, room, onward, byte-onward, finished}
 use Rattle.reportlines.proofs.write_line.Statement.{statement}

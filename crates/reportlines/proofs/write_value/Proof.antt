@@ -1,109 +1,94 @@
--- `reportlines::write_value` meets its contract. Each value is written by its own function. Assumes nothing.
+-- `reportlines::write_value` meets its contract. A word is copied from the table. Assumes nothing.
+use mathlib.Core.Path.{_≡_, sym, ap, _∙_}
+use Prim.Native.Nat.{ℕ}
+use native.Mathlib.Omega.{arith}
+use lib.ListN.{length}
+use Rattle.spec.specs.Report.{valueText}
+use Rattle.spec.specs.Entries.{over}
+use Rattle.reportlines.specs.Words.{IsWord}
+use Rattle.reportlines.proofs.Words.{wordBytes, starts, as-word, as-digits, few-words, word-at, word-part, room-for, wrote}
 use borrow.Author.Needs.{needs}
-use Rattle.spec.specs.Text.{text}
-use Rattle.reportlines.specs.Values.{valueText}
 use Rattle.reportlines.proofs.write_value.Statement.{statement}
 use Rattle.reportlines.proofs.write_value.Tie as tie
 
-enum-told : tie.Need-enum-told
-enum-told c = search needs
+-- The word that the value is.
+word : (c : tie.After-known-told) → IsWord (c .before .i .given .0 .0) (valueText (c .before .before .before .before .before .args .value))
+word c = as-word (c .before .i .given .1) (c .before .before .before .spelled .ensures)
 
-slice-aggregate-put : tie.Need-slice-aggregate-put
-slice-aggregate-put c = search needs
+spelled-requires : tie.Need-spelled-requires
+spelled-requires c κs = search needs
+
+enum-known-i : tie.Need-enum-known-i
+enum-known-i c = search needs
+
+mul-from : tie.Need-mul-from
+mul-from c = omega (arith, few-words (word c))
+
+array-read-from : tie.Need-array-read-from
+array-read-from c = omega (arith, few-words (word c))
+
+add-to : tie.Need-add-to
+add-to c = omega (arith, few-words (word c))
+
+mul-to : tie.Need-mul-to
+mul-to c = omega (arith, few-words (word c))
+
+array-read-to : tie.Need-array-read-to
+array-read-to c = omega (arith, few-words (word c))
+
+sub-put : tie.Need-sub-put
+unfolding starts
+sub-put c = word-at (word c) .ordered
+
+part-put-start : tie.Need-part-put-start
+unfolding starts
+part-put-start c = word-at (word (c .before)) .ordered
+
+part-put-end : tie.Need-part-put-end
+unfolding wordBytes starts
+part-put-end c = word-at (word (c .before)) .inside
 
 put-requires : tie.Need-put-requires
-unfolding valueText
-put-requires c κs = rw (c .before .before .enum-told .given .1) at (c .before .before .before .before .before .pre)
+unfolding wordBytes starts
+put-requires c κs = room-for (word-part (word (c .before .before .before))) (c .before .before .before .before .before .before .before .before .pre)
 
-enum-known-value : tie.Need-enum-known-value
-enum-known-value c = search needs
+enum-known-n : tie.Need-enum-known-n
+enum-known-n c = search needs
 
 write-number-requires : tie.Need-write-number-requires
-unfolding valueText
-write-number-requires c κs = rw (c .before .before .value .given .1) at (c .before .before .before .before .before .pre)
-
-enum-known-value-2 : tie.Need-enum-known-value-2
-enum-known-value-2 c = search needs
-
-write-verdict-requires : tie.Need-write-verdict-requires
-unfolding valueText
-write-verdict-requires c κs = rw (c .before .before .value2 .given .1) at (c .before .before .before .before .before .pre)
-
-enum-known-value-3 : tie.Need-enum-known-value-3
-enum-known-value-3 c = search needs
-
-write-kind-requires : tie.Need-write-kind-requires
-unfolding valueText
-write-kind-requires c κs = rw (c .before .before .value3 .given .1) at (c .before .before .before .before .before .pre)
-
-enum-told-2 : tie.Need-enum-told-2
-enum-told-2 c = search needs
-
-slice-aggregate-put-2 : tie.Need-slice-aggregate-put-2
-slice-aggregate-put-2 c = search needs
-
-put-requires-2 : tie.Need-put-requires-2
-unfolding valueText text
-put-requires-2 c κs = rw (c .before .before .enum-told2 .given .1) at (c .before .before .before .before .before .pre)
+write-number-requires c κs = room-for (as-digits (c .before .before .n .given .1) (c .before .before .before .before .spelled .ensures)) (c .before .before .before .before .before .before .pre)
 
 same-length : tie.Need-same-length
 same-length c = search needs
 
 returns : tie.Need-returns
-unfolding valueText
-returns c = rw (c .before .before .before .before .before .enum-told .given .1) (c .before .before .put .ensures)
+unfolding wordBytes starts
+returns c = wrote _ (word-part (word (c .before .before .before .before .before .before))) (c .before .before .put .ensures)
 
 same-length-2 : tie.Need-same-length-2
 same-length-2 c = search needs
 
 returns-2 : tie.Need-returns-2
-unfolding valueText
-returns-2 c = rw (c .before .before .before .before .before .value .given .1) (c .before .before .write-number .ensures)
-
-same-length-3 : tie.Need-same-length-3
-same-length-3 c = search needs
-
-returns-3 : tie.Need-returns-3
-unfolding valueText
-returns-3 c = rw (c .before .before .before .before .before .value2 .given .1) (c .before .before .write-verdict .ensures)
-
-same-length-4 : tie.Need-same-length-4
-same-length-4 c = search needs
-
-returns-4 : tie.Need-returns-4
-unfolding valueText
-returns-4 c = rw (c .before .before .before .before .before .value3 .given .1) (c .before .before .write-kind .ensures)
-
-same-length-5 : tie.Need-same-length-5
-same-length-5 c = search needs
-
-returns-5 : tie.Need-returns-5
-unfolding valueText text
-returns-5 c = rw (c .before .before .before .before .before .enum-told2 .given .1) (c .before .before .put2 .ensures)
+returns-2 c = wrote _ (as-digits (c .before .before .before .before .before .n .given .1) (c .before .before .before .before .before .before .before .spelled .ensures)) (c .before .before .write-number .ensures)
 
 pub write-value-spec : {M : Type 1} → statement M
 write-value-spec =
     tie.close
     (tie.spec
-    enum-told
-    slice-aggregate-put
+    spelled-requires
+    enum-known-i
+    mul-from
+    array-read-from
+    add-to
+    mul-to
+    array-read-to
+    sub-put
+    part-put-start
+    part-put-end
     put-requires
-    enum-known-value
+    enum-known-n
     write-number-requires
-    enum-known-value-2
-    write-verdict-requires
-    enum-known-value-3
-    write-kind-requires
-    enum-told-2
-    slice-aggregate-put-2
-    put-requires-2
     same-length
     returns
     same-length-2
-    returns-2
-    same-length-3
-    returns-3
-    same-length-4
-    returns-4
-    same-length-5
-    returns-5)
+    returns-2)

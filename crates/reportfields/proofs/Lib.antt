@@ -1,2 +1,0 @@
--- Laws of groups of lines. Assumes nothing.
-pub mod Three

@@ -1,2 +1,0 @@
--- Definitions of groups of lines. Assumes nothing.
-pub mod Groups

@@ -1,0 +1,76 @@
+-- `reporttable::each_length` meets its contract. Each turn adds one line. Assumes nothing.
+use borrow.Author.Needs.{needs}
+use mathlib.Core.Path.{_≡_, refl, sym, ap, _∙_}
+use mathlib.Core.List.{List}
+use Prim.Native.Nat.{ℕ, _+_, _*_, _-_, _≤_, _<_}
+use native.Mathlib.Omega.{arith}
+use lib.ListN.{length}
+use Rattle.spec.specs.Report.{Line, valueText, bytesOf}
+use Rattle.reporttable.specs.Numbered.{linesFrom, numberLine}
+use Rattle.reporttable.proofs.Numbered.{size-more, each-numbered, size-by-number, one-more, bounded}
+use Rattle.reporttable.proofs.each_length.Statement.{statement}
+use Rattle.reporttable.proofs.each_length.Tie as tie
+
+abbrev Inv-loop : tie.InvT-loop
+Inv-loop key numbers total₀ i₀ total i = (i ≤ length numbers) × (total ≡ length (bytesOf (linesFrom (numberLine key numbers) 0 i))) × (total ≤ (length key + 12) * i)
+
+abbrev μ-loop : tie.MeasureT-loop
+μ-loop key numbers total₀ i₀ total i = length numbers - i
+
+loop-holds : tie.Need-loop-holds Inv-loop μ-loop
+unfolding linesFrom bytesOf
+loop-holds c = (search needs, refl, search needs)
+
+mul-t8 : tie.Need-mul-t8 Inv-loop μ-loop
+mul-t8 c = search needs
+
+shared-slice-read-t10 : tie.Need-shared-slice-read-t10 Inv-loop μ-loop
+shared-slice-read-t10 c = search needs
+
+line-length-requires : tie.Need-line-length-requires Inv-loop μ-loop
+line-length-requires c κs = c .before .before .before .before .before .pre .0
+
+add-total : tie.Need-add-total Inv-loop μ-loop
+add-total c =
+    let start = c .before .before .before .before .before .before in
+    let turn = c .before .before .before .loop in
+    omega (arith, bounded (length (start .args .key .now)) (turn .i) (start .pre .0), start .pre, turn .inv .2, c .line-length .ensures .1)
+
+add-i : tie.Need-add-i Inv-loop μ-loop
+add-i c = omega arith
+
+loop-less : tie.Need-loop-less Inv-loop μ-loop
+loop-less c = omega arith
+
+loop-again : tie.Need-loop-again Inv-loop μ-loop
+unfolding valueText
+loop-again c =
+    let a = c .before .before .before .before .before .before .args in
+    let turn = c .before .before .before .loop in
+    let size = c .line-length .ensures .0 ∙ size-by-number (a .key .now) (a .numbers .now) (turn .i) in (
+      omega arith,
+      omega (arith, size-more (numberLine (a .key .now) (a .numbers .now)) 0 (turn .i), size, turn .inv .1),
+      one-more (length (a .key .now)) (turn .i) (turn .inv .2) (c .line-length .ensures .1),
+    )
+
+returns : tie.Need-returns Inv-loop μ-loop
+returns c =
+    let a = c .before .before .before .before .args in
+    let all : c .before .loop .i ≡ length (a .numbers .now) = omega arith in
+    rw (each-numbered (a .key .now) (a .numbers .now), ← all) (c .before .loop .inv .1, c .before .loop .inv .2)
+
+pub each-length-spec : {M : Type 1} → statement M
+each-length-spec =
+    tie.close
+    (tie.spec
+    Inv-loop
+    μ-loop
+    loop-holds
+    mul-t8
+    shared-slice-read-t10
+    line-length-requires
+    add-total
+    add-i
+    loop-less
+    loop-again
+    returns)

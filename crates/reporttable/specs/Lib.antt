@@ -1,0 +1,2 @@
+-- Lines told by their number. Assumes nothing.
+pub mod Numbered

@@ -1,0 +1,76 @@
+// Lines of a report in one loop each: those of the table of keys, by their number; and one line for each number of a slice.
+use spec::Value;
+ghost use mathlib.Core.Path.{_≡_};
+ghost use Prim.Native.Nat.{_+_, _*_, _≤_};
+ghost use lib.ListN.{length};
+ghost use Rattle.spec.specs.Report.{bytesOf, eachLine};
+ghost use Rattle.reportlines.specs.Places.{overFrom};
+ghost use Rattle.reporttable.specs.Numbered.{keyCount, tableLines};
+
+// The lines before a run's cells, then those of a refusal, of which a run's report has the last one too. A line more is a key more, with its end.
+const KEYS: [u8; 59] = *b"verdictrowthreadotherkindatrowsstepsbarriersrefusedplaceend";
+
+const STARTS: [usize; 13] = [0, 7, 10, 16, 21, 25, 27, 31, 36, 44, 51, 56, 59];
+
+// The length of n lines of the table.
+pub fn lines_length(values: [Value; 12], from: usize, n: usize) -> usize
+    requires { ⌜ from + n ≤ keyCount ⌝ }
+    ensures { λ r. ⌜ (r ≡ length (bytesOf (tableLines values from n))) × (r ≤ 32 * n) ⌝ }
+{
+    let mut total = 0;
+    let mut j = 0;
+    while j < n {
+        let i = from + j;
+        let size = STARTS[i + 1] - STARTS[i];
+        total += reportlines::line_length(size, values[i]);
+        j += 1;
+    }
+    total
+}
+
+// Writes n lines of the table from place `at` on, and answers the place behind them.
+pub fn lines_at(values: [Value; 12], from: usize, n: usize, out: &mut [u8], at: usize) -> usize
+    requires { ⌜ (from + n ≤ keyCount) × (at + length (bytesOf (tableLines values from n)) ≤ length (now out)) ⌝ }
+    ensures next { λ r. ⌜ r ≡ at + length (bytesOf (tableLines values from n)) ⌝ }
+    ensures written { λ _. ⌜ now (out .exit) ≡ overFrom at (bytesOf (tableLines values from n)) (now (out .entry)) ⌝ }
+{
+    let mut end = at;
+    let mut j = 0;
+    while j < n {
+        let i = from + j;
+        let start = STARTS[i];
+        let next = STARTS[i + 1];
+        end = reportlines::line_at(&KEYS[start..next], values[i], out, end);
+        j += 1;
+    }
+    end
+}
+
+// The length of one line for each number.
+pub fn each_length(key: &[u8], numbers: &[u32]) -> usize
+    requires { ⌜ (length (now key) ≤ 20) × (length (now numbers) ≤ 1024) ⌝ }
+    ensures { λ r. ⌜ (r ≡ length (bytesOf (eachLine (now (key .entry)) (now (numbers .entry))))) × (r ≤ (length (now (key .entry)) + 12) * length (now (numbers .entry))) ⌝ }
+{
+    let mut total = 0;
+    let mut i = 0;
+    while i < numbers.len() {
+        total += reportlines::line_length(key.len(), Value::Number(numbers[i]));
+        i += 1;
+    }
+    total
+}
+
+// Writes one line for each number from place `at` on, and answers the place behind them.
+pub fn each_at(key: &[u8], numbers: &[u32], out: &mut [u8], at: usize) -> usize
+    requires { ⌜ at + length (bytesOf (eachLine (now key) (now numbers))) ≤ length (now out) ⌝ }
+    ensures next { λ r. ⌜ r ≡ at + length (bytesOf (eachLine (now (key .entry)) (now (numbers .entry)))) ⌝ }
+    ensures written { λ _. ⌜ now (out .exit) ≡ overFrom at (bytesOf (eachLine (now (key .entry)) (now (numbers .entry)))) (now (out .entry)) ⌝ }
+{
+    let mut end = at;
+    let mut i = 0;
+    while i < numbers.len() {
+        end = reportlines::line_at(key, Value::Number(numbers[i]), out, end);
+        i += 1;
+    }
+    end
+}

@@ -1,0 +1,25 @@
+-- The lines that the table gives for these values are the definition's: the head, the last line, and a refusal's. Assumes nothing.
+use mathlib.Core.Path.{_≡_, refl}
+use mathlib.Core.List.{List, [], _∷_}
+use Prim.Native.Nat.{ℕ}
+use Rattle.spec.specs.declared.Outcome.{Outcome}
+use Rattle.spec.specs.Report.{Line, _is_, headWith, headLines, endLine, refusalLines}
+use Rattle.reporttable.specs.Numbered.{linesFrom, keys, tableLine, tableLines}
+use Rattle.reportvalues.specs.Values.{valuesOf, runValues, refusalValues}
+
+-- Whoever unfolds this unfolds the lists of lines and the table.
+unfoldable pub listed : Unit {0}
+unfolding linesFrom keys tableLine valuesOf runValues refusalValues headLines headWith refusalLines endLine _is_
+listed = tt
+
+pub head-listed : (o : Outcome) → tableLines (runValues o) 0 9 ≡ headLines o
+unfolding listed
+head-listed o = refl
+
+pub end-listed : (o : Outcome) → tableLines (runValues o) 11 1 ≡ endLine ∷ []
+unfolding listed
+end-listed o = refl
+
+pub refusal-listed : (number place : ℕ) → tableLines (refusalValues number place) 9 3 ≡ refusalLines number place
+unfolding listed
+refusal-listed number place = refl

@@ -1,0 +1,2 @@
+-- Laws of tables of byte strings. Assumes nothing.
+pub mod Strings
