@@ -40,7 +40,7 @@ fn read_all(buffer: &mut [u8]) -> Input
 
 // One byte over the limit is enough to know that a file is too long. Where the input cannot be read nothing is printed,
 // so that no report is taken for it.
-fn main() {
+fn report_input() {
     let mut input = [0u8; 32769];
     let mut output = [0u8; 17408];
     let Input::Bytes(size) = read_all(&mut input) else {
@@ -48,4 +48,18 @@ fn main() {
     };
     let written = filereport::report_file(&input[..size], &mut output);
     io::write_all(libc::STDOUT_FILENO, &output[..written]);
+}
+
+fn print_usage() {
+    io::write_all(libc::STDERR_FILENO, b"usage: check < LAUNCH-FILE\n");
+}
+
+// The program's own name counts as an argument. Beside it there is none to take: a report speaks of standard input only, and must
+// not be taken for that of a file that an argument names.
+fn main() {
+    if os::arg_count() > 1 {
+        print_usage();
+    } else {
+        report_input();
+    }
 }

@@ -1,10 +1,10 @@
--- `checkprogram::main` is safe: what is read and what is written are parts of the buffers. Assumes nothing.
+-- `checkprogram::report_input` is safe: what is read and what is written are parts of the buffers. Assumes nothing.
 use mathlib.Core.Path.{sym}
 use lib.Seq.{length-take-le}
 use Rattle.checkprogram.proofs.Bounds.{bounds}
 use borrow.Author.Needs.{needs}
-use Rattle.checkprogram.proofs.main.Statement.{statement}
-use Rattle.checkprogram.proofs.main.Tie as tie
+use Rattle.checkprogram.proofs.report_input.Statement.{statement}
+use Rattle.checkprogram.proofs.report_input.Tie as tie
 
 slice-aggregate-read-all : tie.Need-slice-aggregate-read-all
 slice-aggregate-read-all c = search needs
@@ -42,8 +42,8 @@ write-all-requires c κs = search needs
 returns-2 : tie.Need-returns-2
 returns-2 c = search needs
 
-pub main-spec : {M : Type 1} → statement M
-main-spec =
+pub report-input-spec : {M : Type 1} → statement M
+report-input-spec =
     tie.close
     (tie.spec
     slice-aggregate-read-all
