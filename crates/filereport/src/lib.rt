@@ -15,7 +15,8 @@ fn report_refusal(why: Refusal, output: &mut [u8]) -> usize
     ensures written { λ _. ⌜ now (output .exit) ≡ over (refusalReport (refusalNumber why) (refusalPlace why)) (now (output .entry)) ⌝ }
     ensures fits { λ r. ⌜ r ≤ 17408 ⌝ }
 {
-    let subject = Subject::Refused(refusals::number(why), refusals::place(why));
+    let told = refusals::words(why);
+    let subject = Subject::Refused(told[0], told[1]);
     let none: [u32; 0] = [];
     match report::write_report(subject, &none, output) {
         Written::Wrote(size) => size,

@@ -1,1 +1,2 @@
+-- Laws of the entries for C and Rust. Assumes nothing.
 pub mod Telling

@@ -7,7 +7,8 @@ use Rattle.spec.specs.declared.Outcome.{Outcome}
 use Rattle.spec.specs.declared.Refusal.{Refusal}
 use Rattle.spec.specs.declared.Answer.{Answer}
 use Rattle.spec.specs.declared.Answer.the-variants.{Refused, Ran}
-use Rattle.sekufoyi.specs.Codes.{refusalWords, outcomeWords, ranIn, outcomeIn, whyIn}
+use Rattle.refusals.specs.Words.{refusalWords}
+use Rattle.answerwords.specs.Codes.{outcomeWords, ranIn, outcomeIn, whyIn}
 
 module _ (answer told : Answer) (e : told ≡ answer) where
   pub refusal-told : (why : Refusal) (ws : List ℕ) → told ≡ Refused why → ws ≡ refusalWords why

@@ -1,14 +1,22 @@
--- `filereport::report_refusal` meets its contract. Assumes nothing.
+-- `filereport::report_refusal` meets its contract. A refusal's report has room. Assumes nothing.
+use mathlib.Core.Path.{ap}
+use mathlib.Core.List.{List}
+use Prim.Native.Nat.{ℕ}
+use lib.ListN.{getD}
+use Rattle.refusals.specs.Words.{refusalWords}
 use Rattle.filereport.proofs.Printing.{refusal-written, never-refused}
 use borrow.Author.Needs.{needs}
 use Rattle.filereport.proofs.report_refusal.Statement.{statement}
 use Rattle.filereport.proofs.report_refusal.Tie as tie
 
-number-requires : tie.Need-number-requires
-number-requires c κs = search needs
+words-requires : tie.Need-words-requires
+words-requires c κs = search needs
 
-place-requires : tie.Need-place-requires
-place-requires c κs = search needs
+array-read-t11 : tie.Need-array-read-t11
+array-read-t11 c = search needs
+
+array-read-t14 : tie.Need-array-read-t14
+array-read-t14 c = search needs
 
 slice-aggregate-write-report : tie.Need-slice-aggregate-write-report
 slice-aggregate-write-report c = search needs
@@ -26,22 +34,31 @@ same-length : tie.Need-same-length
 same-length c = search needs
 
 returns : tie.Need-returns
+unfolding refusalWords
 returns c =
-    refusal-written (c .before .before .before .before .before .before .before .before .before .before .before .args .why) _ _ (c .before .before .before .before .before .before .before .before .before .number .ensures) (c .before .before .before .before .before .before .before .before .place .ensures) _ (c .before .before .before .before .before .before .before .before .before .before .before .args .output .now) _ _ (c .before .before .before .before .before .before .before .before .before .before .before .pre) _ (c .before .before .before .before .before .write-report .ensures) (c .before .size .given .1)
+    let start = c .before .before .before .before .before .before .before .before .before .before in
+    let told = c .before .before .before .before .before .before .before .before .words .ensures in
+    refusal-written (start .args .why) _ _ (ap (λ (w : List ℕ). getD w 0 0) told) (ap (λ (w : List ℕ). getD w 1 0) told) _ (start .args .output .now) _ _ (start .pre) _
+    (c .before .before .before .before .before .write-report .ensures) (c .before .size .given .1)
 
 same-length-2 : tie.Need-same-length-2
 same-length-2 c = search needs
 
 returns-2 : tie.Need-returns-2
+unfolding refusalWords
 returns-2 c =
-    never-refused (c .before .before .before .before .before .before .before .before .before .before .before .args .why) _ _ (c .before .before .before .before .before .before .before .before .before .number .ensures) (c .before .before .before .before .before .before .before .before .place .ensures) _ (c .before .before .before .before .before .before .before .before .before .before .before .args .output .now) _ _ (c .before .before .before .before .before .before .before .before .before .before .before .pre) _ (c .before .before .before .before .before .write-report .ensures) (c .before .short .given .1)
+    let start = c .before .before .before .before .before .before .before .before .before .before in
+    let told = c .before .before .before .before .before .before .before .before .words .ensures in
+    never-refused (start .args .why) _ _ (ap (λ (w : List ℕ). getD w 0 0) told) (ap (λ (w : List ℕ). getD w 1 0) told) _ (start .args .output .now) _ _ (start .pre) _
+    (c .before .before .before .before .before .write-report .ensures) (c .before .short .given .1)
 
 pub report-refusal-spec : {M : Type 1} → statement M
 report-refusal-spec =
     tie.close
     (tie.spec
-    number-requires
-    place-requires
+    words-requires
+    array-read-t11
+    array-read-t14
     slice-aggregate-write-report
     write-report-requires
     enum-known-size

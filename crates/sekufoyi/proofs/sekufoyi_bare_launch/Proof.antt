@@ -10,8 +10,8 @@ bare-launch-requires c κs = search needs
 enum-known-why : tie.Need-enum-known-why
 enum-known-why c = search needs
 
-refusal-words-requires : tie.Need-refusal-words-requires
-refusal-words-requires c κs = search needs
+words-requires : tie.Need-words-requires
+words-requires c κs = search needs
 
 enum-known-ended : tie.Need-enum-known-ended
 enum-known-ended c = search needs
@@ -27,7 +27,7 @@ same-length-2 c = search needs
 
 returns : tie.Need-returns
 returns c =
-    let t = refusal-told _ _ (c .before .before .before .before .before .before .before .before .before .bare-launch .ensures .0) _ _ (c .before .before .before .why .given .1) (c .refusal-words .ensures) in
+    let t = refusal-told _ _ (c .before .before .before .before .before .before .before .before .before .bare-launch .ensures .0) _ _ (c .before .before .before .why .given .1) (c .words .ensures) in
     (t .0, (t .1 .0, (t .1 .1, c .before .before .before .before .before .before .before .before .before .bare-launch .ensures .1)))
 
 same-length-3 : tie.Need-same-length-3
@@ -47,7 +47,7 @@ sekufoyi-bare-launch-spec =
     (tie.spec
     bare-launch-requires
     enum-known-why
-    refusal-words-requires
+    words-requires
     enum-known-ended
     outcome-words-requires
     same-length

@@ -1,6 +1,6 @@
 -- `sekufoyi::sekufoyi_check_file` meets its contract. What is told is the entry's answer. Assumes nothing.
 use mathlib.Core.Path.{ap, _∙_}
-use Rattle.sekufoyi.specs.Codes.{lengthIn, refusalIn}
+use Rattle.answerwords.specs.Codes.{lengthIn, refusalIn}
 use borrow.Author.Needs.{needs}
 use Rattle.sekufoyi.proofs.sekufoyi_check_file.Statement.{statement}
 use Rattle.sekufoyi.proofs.sekufoyi_check_file.Tie as tie

@@ -1,9 +1,9 @@
--- `sekufoyi::verdict_from` meets its contract. Assumes nothing.
+-- `answerwords::verdict_from` meets its contract. Assumes nothing.
 use borrow.Author.Tests.{eq-eqb, ne-eqb}
-use Rattle.sekufoyi.specs.Codes.{verdictFrom}
+use Rattle.answerwords.specs.Codes.{verdictFrom}
 use borrow.Author.Needs.{needs}
-use Rattle.sekufoyi.proofs.verdict_from.Statement.{statement}
-use Rattle.sekufoyi.proofs.verdict_from.Tie as tie
+use Rattle.answerwords.proofs.verdict_from.Statement.{statement}
+use Rattle.answerwords.proofs.verdict_from.Tie as tie
 
 returns : tie.Need-returns
 unfolding verdictFrom

@@ -1,9 +1,10 @@
--- `refusals::number` meets its contract. Each case is the definition's. Assumes nothing.
+-- `refusals::words` meets its contract. Assumes nothing.
 use mathlib.Core.Path.{sym, ap}
+use Rattle.spec.specs.Answers.{refusalNumber, refusalPlace}
+use Rattle.refusals.specs.Words.{refusalWords}
 use borrow.Author.Needs.{needs}
-use Rattle.spec.specs.Answers.{refusalNumber}
-use Rattle.refusals.proofs.number.Statement.{statement}
-use Rattle.refusals.proofs.number.Tie as tie
+use Rattle.refusals.proofs.words.Statement.{statement}
+use Rattle.refusals.proofs.words.Tie as tie
 
 enum-told : tie.Need-enum-told
 enum-told c = search needs
@@ -57,75 +58,75 @@ enum-told-6 : tie.Need-enum-told-6
 enum-told-6 c = search needs
 
 returns : tie.Need-returns
-unfolding refusalNumber
-returns c = sym (ap refusalNumber (c .enum-told .given .1))
+unfolding refusalWords refusalNumber refusalPlace
+returns c = sym (ap refusalWords (c .enum-told .given .1))
 
 returns-2 : tie.Need-returns-2
-unfolding refusalNumber
-returns-2 c = sym (ap refusalNumber (c .before .why .given .1))
+unfolding refusalWords refusalNumber refusalPlace
+returns-2 c = sym (ap refusalWords (c .before .why .given .1))
 
 returns-3 : tie.Need-returns-3
-unfolding refusalNumber
-returns-3 c = sym (ap refusalNumber (c .before .why2 .given .1))
+unfolding refusalWords refusalNumber refusalPlace
+returns-3 c = sym (ap refusalWords (c .before .why2 .given .1))
 
 returns-4 : tie.Need-returns-4
-unfolding refusalNumber
-returns-4 c = sym (ap refusalNumber (c .before .why3 .given .1))
+unfolding refusalWords refusalNumber refusalPlace
+returns-4 c = sym (ap refusalWords (c .before .why3 .given .1))
 
 returns-5 : tie.Need-returns-5
-unfolding refusalNumber
-returns-5 c = sym (ap refusalNumber (c .before .why4 .given .1))
+unfolding refusalWords refusalNumber refusalPlace
+returns-5 c = sym (ap refusalWords (c .before .why4 .given .1))
 
 returns-6 : tie.Need-returns-6
-unfolding refusalNumber
-returns-6 c = sym (ap refusalNumber (c .before .why5 .given .1))
+unfolding refusalWords refusalNumber refusalPlace
+returns-6 c = sym (ap refusalWords (c .before .why5 .given .1))
 
 returns-7 : tie.Need-returns-7
-unfolding refusalNumber
-returns-7 c = sym (ap refusalNumber (c .before .why6 .given .1))
+unfolding refusalWords refusalNumber refusalPlace
+returns-7 c = sym (ap refusalWords (c .before .why6 .given .1))
 
 returns-8 : tie.Need-returns-8
-unfolding refusalNumber
-returns-8 c = sym (ap refusalNumber (c .before .why7 .given .1))
+unfolding refusalWords refusalNumber refusalPlace
+returns-8 c = sym (ap refusalWords (c .before .why7 .given .1))
 
 returns-9 : tie.Need-returns-9
-unfolding refusalNumber
-returns-9 c = sym (ap refusalNumber (c .before .why8 .given .1))
+unfolding refusalWords refusalNumber refusalPlace
+returns-9 c = sym (ap refusalWords (c .before .why8 .given .1))
 
 returns-10 : tie.Need-returns-10
-unfolding refusalNumber
-returns-10 c = sym (ap refusalNumber (c .before .why9 .given .1))
+unfolding refusalWords refusalNumber refusalPlace
+returns-10 c = sym (ap refusalWords (c .before .why9 .given .1))
 
 returns-11 : tie.Need-returns-11
-unfolding refusalNumber
-returns-11 c = sym (ap refusalNumber (c .before .why10 .given .1))
+unfolding refusalWords refusalNumber refusalPlace
+returns-11 c = sym (ap refusalWords (c .before .why10 .given .1))
 
 returns-12 : tie.Need-returns-12
-unfolding refusalNumber
-returns-12 c = sym (ap refusalNumber (c .enum-told2 .given .1))
+unfolding refusalWords refusalNumber refusalPlace
+returns-12 c = sym (ap refusalWords (c .enum-told2 .given .1))
 
 returns-13 : tie.Need-returns-13
-unfolding refusalNumber
-returns-13 c = sym (ap refusalNumber (c .enum-told3 .given .1))
+unfolding refusalWords refusalNumber refusalPlace
+returns-13 c = sym (ap refusalWords (c .enum-told3 .given .1))
 
 returns-14 : tie.Need-returns-14
-unfolding refusalNumber
-returns-14 c = sym (ap refusalNumber (c .enum-told4 .given .1))
+unfolding refusalWords refusalNumber refusalPlace
+returns-14 c = sym (ap refusalWords (c .enum-told4 .given .1))
 
 returns-15 : tie.Need-returns-15
-unfolding refusalNumber
-returns-15 c = sym (ap refusalNumber (c .before .why11 .given .1))
+unfolding refusalWords refusalNumber refusalPlace
+returns-15 c = sym (ap refusalWords (c .before .why11 .given .1))
 
 returns-16 : tie.Need-returns-16
-unfolding refusalNumber
-returns-16 c = sym (ap refusalNumber (c .enum-told5 .given .1))
+unfolding refusalWords refusalNumber refusalPlace
+returns-16 c = sym (ap refusalWords (c .enum-told5 .given .1))
 
 returns-17 : tie.Need-returns-17
-unfolding refusalNumber
-returns-17 c = sym (ap refusalNumber (c .enum-told6 .given .1))
+unfolding refusalWords refusalNumber refusalPlace
+returns-17 c = sym (ap refusalWords (c .enum-told6 .given .1))
 
-pub number-spec : {M : Type 1} → statement M
-number-spec =
+pub words-spec : {M : Type 1} → statement M
+words-spec =
     tie.close
     (tie.spec
     enum-told

@@ -1,9 +1,9 @@
--- `sekufoyi::kind_code` meets its contract. Assumes nothing.
+-- `answerwords::kind_code` meets its contract. Assumes nothing.
 use mathlib.Core.Path.{sym, ap}
-use Rattle.sekufoyi.specs.Codes.{kindCode}
+use Rattle.answerwords.specs.Codes.{kindCode}
 use borrow.Author.Needs.{needs}
-use Rattle.sekufoyi.proofs.kind_code.Statement.{statement}
-use Rattle.sekufoyi.proofs.kind_code.Tie as tie
+use Rattle.answerwords.proofs.kind_code.Statement.{statement}
+use Rattle.answerwords.proofs.kind_code.Tie as tie
 
 enum-told : tie.Need-enum-told
 enum-told c = search needs

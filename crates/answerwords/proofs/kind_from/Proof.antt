@@ -1,8 +1,8 @@
--- `sekufoyi::kind_from` meets its contract. Assumes nothing.
+-- `answerwords::kind_from` meets its contract. Assumes nothing.
 use borrow.Author.Tests.{eq-eqb, ne-eqb}
-use Rattle.sekufoyi.specs.Codes.{kindFrom}
-use Rattle.sekufoyi.proofs.kind_from.Statement.{statement}
-use Rattle.sekufoyi.proofs.kind_from.Tie as tie
+use Rattle.answerwords.specs.Codes.{kindFrom}
+use Rattle.answerwords.proofs.kind_from.Statement.{statement}
+use Rattle.answerwords.proofs.kind_from.Tie as tie
 
 returns : tie.Need-returns
 unfolding kindFrom

@@ -1,5 +1,5 @@
 -- Answers as words: a length with a refusal's number and place beside it, and an outcome as nine words. Assumes nothing.
-use mathlib.Core.List.{List, [], _∷_}
+use mathlib.Core.List.{List, [], _∷_, map}
 use mathlib.Core.Bool.{Bool, true, false, cond}
 use Prim.Native.Nat.{ℕ}
 use lib.Dec.{eqb}
@@ -9,17 +9,16 @@ use Rattle.spec.specs.declared.AccessKind.the-variants.{ReadWrite, WriteRead, W
 use Rattle.spec.specs.declared.Verdict.{Verdict}
 use Rattle.spec.specs.declared.Verdict.the-variants.{Passed, Race, Outside, Diverged, Spent}
 use Rattle.spec.specs.declared.Outcome.{Outcome}
-use Rattle.spec.specs.declared.Refusal.{Refusal}
 use Rattle.spec.specs.declared.Answer.{Answer}
 use Rattle.spec.specs.declared.Answer.the-variants as answer
 use Rattle.spec.specs.declared.Written.{Written}
 use Rattle.spec.specs.declared.Written.the-variants as written
-use Rattle.spec.specs.Answers.{refusalNumber, refusalPlace}
+use Rattle.spec.specs.declared.Value.{Value}
+use Rattle.spec.specs.declared.Value.the-variants as value
+use Rattle.refusals.specs.Words.{refusalWords}
+use Rattle.spec.specs.Report.{Line, headLines}
 
--- A refusal's number and place; two zeros where nothing was refused.
-unfoldable pub refusalWords : Refusal → List ℕ
-refusalWords why = refusalNumber why ∷ refusalPlace why ∷ []
-
+-- A length with a refusal's number and place beside it; 0, and two zeros, where there is none.
 unfoldable pub lengthIn : Written → ℕ
 lengthIn (written.Refused why) = 0
 lengthIn (written.Wrote n) = n
@@ -29,21 +28,29 @@ refusalIn (written.Refused why) = refusalWords why
 refusalIn (written.Wrote n) = 0 ∷ 0 ∷ []
 
 -- A verdict's code is never 0, so that words that were never written are no verdict.
+unfoldable pub verdictCode : Verdict → ℕ
+verdictCode Passed = 1
+verdictCode (Race thread other kind at) = 2
+verdictCode (Outside thread at) = 3
+verdictCode (Diverged thread other) = 4
+verdictCode Spent = 5
+
 unfoldable pub kindCode : AccessKind → ℕ
 kindCode ReadWrite = 1
 kindCode WriteRead = 2
 kindCode WriteWrite = 3
 
--- The verdict's code, the row, thread, other, kind, at, rows, steps, barriers; 0 where a word has no meaning.
-unfoldable pub verdictWords : Verdict → (row rows steps barriers : ℕ) → List ℕ
-verdictWords Passed row rows steps barriers = 1 ∷ 0 ∷ 0 ∷ 0 ∷ 0 ∷ 0 ∷ rows ∷ steps ∷ barriers ∷ []
-verdictWords (Race thread other kind at) row rows steps barriers = 2 ∷ row ∷ thread ∷ other ∷ kindCode kind ∷ at ∷ rows ∷ steps ∷ barriers ∷ []
-verdictWords (Outside thread at) row rows steps barriers = 3 ∷ row ∷ thread ∷ 0 ∷ 0 ∷ at ∷ rows ∷ steps ∷ barriers ∷ []
-verdictWords (Diverged thread other) row rows steps barriers = 4 ∷ row ∷ thread ∷ other ∷ 0 ∷ 0 ∷ rows ∷ steps ∷ barriers ∷ []
-verdictWords Spent row rows steps barriers = 5 ∷ row ∷ 0 ∷ 0 ∷ 0 ∷ 0 ∷ rows ∷ steps ∷ barriers ∷ []
+-- What a line of the report says, as a word: 0 where it has no meaning.
+unfoldable pub valueCode : Value → ℕ
+valueCode value.Hyphen = 0
+valueCode (value.Number n) = n
+valueCode (value.Verdict v) = verdictCode v
+valueCode (value.Kind k) = kindCode k
+valueCode value.Report = 0
 
+-- An outcome: a word for each line of the report's head, in their order.
 unfoldable pub outcomeWords : Outcome → List ℕ
-outcomeWords o = verdictWords (o .verdict) (o .row) (o .rows) (o .steps) (o .barriers)
+outcomeWords o = map (λ (l : Line). valueCode (l .value)) (headLines o)
 
 unfoldable pub ranIn : Answer → Bool
 ranIn (answer.Refused why) = false

@@ -1,8 +1,8 @@
--- `sekufoyi::outcome_from` meets its contract. Assumes nothing.
-use Rattle.sekufoyi.specs.Codes.{outcomeFrom}
+-- `answerwords::outcome_from` meets its contract. Assumes nothing.
+use Rattle.answerwords.specs.Codes.{outcomeFrom}
 use borrow.Author.Needs.{needs}
-use Rattle.sekufoyi.proofs.outcome_from.Statement.{statement}
-use Rattle.sekufoyi.proofs.outcome_from.Tie as tie
+use Rattle.answerwords.proofs.outcome_from.Statement.{statement}
+use Rattle.answerwords.proofs.outcome_from.Tie as tie
 
 element-copy-out-verdict-from : tie.Need-element-copy-out-verdict-from
 element-copy-out-verdict-from c = search needs

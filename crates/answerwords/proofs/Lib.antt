@@ -1,0 +1,2 @@
+-- Laws of answers as words. Assumes nothing.
+pub mod Words

@@ -1,0 +1,2 @@
+-- A refusal as two words. Assumes nothing.
+pub mod Words
