@@ -12,7 +12,8 @@ pub enum Admission {
     Refused(Refusal),
 }
 
-fn within(x: u32, low: u32, high: u32) -> bool
+// Whether x is neither less nor greater than it may be.
+pub fn within(x: u32, low: u32, high: u32) -> bool
     ensures { λ r. ⌜ r ≡ (leb low x && leb x high) ⌝ }
 {
     low <= x && x <= high

@@ -6,7 +6,7 @@ use Prim.Native.Nat.{ℕ, _+_, _<_, _≤_}
 use native.Mathlib.Omega.{arith}
 use lib.ListN.{length, take, drop, set, length-set}
 use Rattle.spec.specs.Text.{text}
-use Rattle.spec.specs.LaunchFile.{due, number}
+use Rattle.spec.specs.LaunchFile.{number}
 use Rattle.filelines.specs.Lines.{keyedValue, nextIn}
 use Rattle.contents.specs.Taken.{taken, CellsTaken}
 use Rattle.contents.proofs.Times.{Going, start, more, stops, ends}
@@ -15,11 +15,11 @@ use Rattle.contents.proofs.Filling.{cell-put, cell-kept}
 pub record CellsGoing (file : List ℕ) (n : ℕ) (cells after rest : List ℕ) (k : ℕ) : Type 0 where
   pub under : k ≤ n
   pub long : length after ≡ 1024
-  pub going : Going (due "cell" number) n file k rest (take k after)
+  pub going : Going "cell" number n file k rest (take k after)
   pub kept : drop n after ≡ drop n cells
 
 pub cells-start : (file : List ℕ) (n : ℕ) (cells : List ℕ) → length cells ≡ 1024 → CellsGoing file n cells cells file 0
-cells-start file n cells l = record { under = omega arith; long = l; going = start (due "cell" number) n file; kept = refl }
+cells-start file n cells l = record { under = omega arith; long = l; going = start "cell" number n file; kept = refl }
 
 module _ (file : List ℕ) (n : ℕ) (cells after rest : List ℕ) (k : ℕ) (g : CellsGoing file n cells after rest k) where
   pub cells-more : n ≤ 1024 → k < n → (v : ℕ) → keyedValue (text "cell") number rest ≡ some v

@@ -6,7 +6,7 @@ use Prim.Native.Nat.{ℕ, _+_, _*_, _<_, _≤_}
 use native.Mathlib.Omega.{arith}
 use lib.ListN.{length, take, drop}
 use Rattle.spec.specs.Text.{text}
-use Rattle.spec.specs.LaunchFile.{due, rowValue}
+use Rattle.spec.specs.LaunchFile.{rowValue}
 use Rattle.spec.specs.Table.{rowOf, rowsOf}
 use Rattle.filelines.specs.Lines.{keyedValue, nextIn}
 use Rattle.contents.specs.Taken.{taken, putRow, RowsTaken}
@@ -16,12 +16,12 @@ use Rattle.contents.proofs.Filling.{row-put, row-kept, row-long}
 pub record RowsGoing (file : List ℕ) (n : ℕ) (table after rest : List ℕ) (k : ℕ) : Type 0 where
   pub under : k ≤ n
   pub long : length after ≡ 1024
-  pub going : Going (due "row" rowValue) n file k rest (rowsOf (take (4 * k) after))
+  pub going : Going "row" rowValue n file k rest (rowsOf (take (4 * k) after))
   pub kept : drop (4 * n) after ≡ drop (4 * n) table
 
 pub rows-start : (file : List ℕ) (n : ℕ) (table : List ℕ) → length table ≡ 1024 → RowsGoing file n table table file 0
 unfolding rowsOf
-rows-start file n table l = record { under = omega arith; long = l; going = start (due "row" rowValue) n file; kept = refl }
+rows-start file n table l = record { under = omega arith; long = l; going = start "row" rowValue n file; kept = refl }
 
 module _ (file : List ℕ) (n : ℕ) (table after rest : List ℕ) (k : ℕ) (g : RowsGoing file n table after rest k) where
   pub rows-more : n ≤ 256 → k < n → (op d a b : ℕ) → keyedValue (text "row") rowValue rest ≡ some (rowOf op d a b)

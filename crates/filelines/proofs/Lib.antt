@@ -2,3 +2,4 @@
 pub mod Keys
 pub mod Rows
 pub mod DueLines
+pub mod InOrder

@@ -1,24 +1,26 @@
--- That the stages, one after the other, are the definition's lines. Assumes nothing.
+-- What a whole file comes to, by its length, its first line and its numbers. Assumes nothing.
 use mathlib.Core.Path.{_≡_, refl, _∙_}
 use mathlib.Core.List.{List}
 use mathlib.Core.Bool.{Bool, true, false}
-use Prim.Native.Nat.{ℕ, _<_, _≤_}
+use Prim.Native.Nat.{ℕ, _+_, _<_, _≤_}
+use native.Mathlib.Omega.{arith}
 use borrow.Author.Tests.{le-leb, lt-leb}
 use lib.Dec.{leb}
-use lib.ListN.{length}
+use lib.ListN.{length, getD}
 use Rattle.spec.specs.Text.{text}
 use Rattle.spec.specs.Limits.{maxFile}
-use Rattle.spec.specs.LaunchFile.{stop, continue, _>>=_, _>>_, due, exactly, launchLines, fileLaunch, checkedTable}
+use Rattle.spec.specs.LaunchFile.{stop, continue, _>>=_, _>>_, numberLines, threadsIn, cellsIn, limitIn, rowsIn, contentLines, launchLines, fileLaunch, checkedTable}
+use Rattle.spec.specs.declared.Refusal.{Refusal}
 use Rattle.spec.specs.declared.Refusal.the-variants.{LineNotDue, FileTooLong}
+use Rattle.admission.specs.declared.Admission.{Admission}
+use Rattle.admission.specs.declared.Admission.the-variants.{Accepted, Refused}
 use Rattle.filelines.specs.Lines.{keyedValue, nextIn, lineRead}
 use Rattle.filelines.specs.Values.{exactBytes, wordIn}
 use Rattle.filelines.proofs.DueLines.{due-word}
-use Rattle.launchfile.specs.Parsed.{linesRead}
-use Rattle.launchfile.specs.Stages.{numbered, fromEnd, fromContents, fromTable, fromRows, fromLimit, fromCells, fromThreads}
-
-staged : (file : List ℕ) → launchLines 1 file ≡ continue (due "kernel" (exactly "1") 1 file) (λ u. fromThreads)
-unfolding launchLines _>>=_ _>>_ numbered fromEnd fromContents fromTable fromRows fromLimit fromCells fromThreads
-staged file = refl
+use Rattle.numberlines.specs.Answered.{lineCount, linesBehind, answered, NumbersRead}
+use Rattle.numberlines.proofs.Tables.{noLine}
+use Rattle.numberlines.proofs.Limits.{Limited, all-limited}
+use Rattle.launchfile.specs.Parsed.{Within, linesRead}
 
 pub too-long : (file : List ℕ) → maxFile < length file → linesRead file ≡ stop FileTooLong
 unfolding linesRead
@@ -30,12 +32,36 @@ module _ (file : List ℕ) (h : length file ≤ maxFile) (t : Bool) (found : key
   begun = rw (le-leb (length file) maxFile h, linesRead)
 
   pub no-kernel : t ≡ false → linesRead file ≡ stop (LineNotDue 1)
-  unfolding continue lineRead
-  no-kernel e = begun ∙ staged file ∙ rw (due-word "kernel" "1" 1 file t found, e)
+  unfolding launchLines _>>=_ _>>_ continue lineRead
+  no-kernel f = begun ∙ rw (due-word "kernel" "1" 1 file t found, f)
 
-  pub kernel : t ≡ true → linesRead file ≡ fromThreads 2 (nextIn file)
-  unfolding continue lineRead
-  kernel e = begun ∙ staged file ∙ rw (due-word "kernel" "1" 1 file t found, e)
+  module _ (f : t ≡ true) (lines : List ℕ) (q : lines ≡ nextIn file) (ns : List ℕ) (r : Admission) (n : NumbersRead lines ns r) where
+    numbered : linesRead file ≡ continue (answered r ns (2 + lineCount) (linesBehind lineCount lines)) contentLines
+    unfolding launchLines _>>=_ _>>_ continue lineRead
+    numbered = begun ∙ rw (due-word "kernel" "1" 1 file t found, f, ← q, n)
+
+    pub number-refused : (why : Refusal) → r ≡ Refused why → linesRead file ≡ stop why
+    unfolding answered continue
+    number-refused why e = numbered ∙ rw e
+
+    pub numbers-read : r ≡ Accepted → (rest : List ℕ) → rest ≡ linesBehind lineCount lines → linesRead file ≡ contentLines ns (2 + lineCount) rest
+    unfolding answered continue
+    numbers-read e rest p = numbered ∙ rw (e, p)
+
+pub within : (file ns : List ℕ) (r : Admission) → NumbersRead file ns r → r ≡ Accepted
+    → Within (threadsIn ns) (limitIn ns) (rowsIn ns) (cellsIn ns)
+unfolding answered lineCount
+within file ns r n e =
+    let at : (i : ℕ) → i < lineCount → Limited (getD numberLines i noLine) (getD ns i 0) =
+    all-limited numberLines 2 file ns (2 + lineCount) (linesBehind lineCount file) (n ∙ rw e) in
+    record {
+      someThread = at 0 (omega arith) .low;
+      fewThreads = at 0 (omega arith) .high;
+      fewRuns = at 2 (omega arith) .high;
+      fewRows = at 3 (omega arith) .high;
+      someCell = at 1 (omega arith) .low;
+      fewCells = at 1 (omega arith) .high;
+    }
 
 -- The definition's whole answer is what it makes of these lines.
 by-length : (file : List ℕ) (t : Bool) → leb (length file) maxFile ≡ t → fileLaunch file ≡ checkedTable (linesRead file)

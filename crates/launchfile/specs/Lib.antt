@@ -1,3 +1,2 @@
--- What the reader of a launch file answers, and the definition's lines cut into stages. Assumes nothing.
+-- What the reader of a launch file answers. Assumes nothing.
 pub mod Parsed
-pub mod Stages

@@ -1,11 +1,11 @@
 -- The launch file: which line is due at each place, what the lines say, and the first refusal. "The launch file and the report", "Turned back". Assumes nothing.
-use mathlib.Core.List.{List, [], _∷_}
+use mathlib.Core.List.{List, [], _∷_, map}
 use mathlib.Core.Bool.{Bool, true, false, cond, _&&_}
 use mathlib.Core.Option.{Option, none, some}
-use Prim.Native.Nat.{ℕ, zero, suc}
+use Prim.Native.Nat.{ℕ, suc}
 use Prim.Native.String.{String}
 use lib.Dec.{leb}
-use lib.ListN.{length}
+use lib.ListN.{length, getD, replicate}
 use Rattle.spec.specs.Limits.{maxThreads, maxCells, maxRows, maxLimit, maxFile, words, bytes}
 use Rattle.spec.specs.Answers.{Refusal, FileTooLong, LineNotDue, ThreadsOutOfRange, CellsOutOfRange, LimitOutOfRange, TooManyRows}
 use Rattle.spec.specs.Lists.{equalList}
@@ -48,10 +48,13 @@ _>>_ p q line rest = continue (p line rest) (λ a. q)
 unfoldable pub gives : {A : Type 0} → A → Reader A
 gives a line rest = read a line rest
 
--- The same reader so many times.
+-- What readers give, one after the other; and what one reader gives so many times.
+unfoldable pub inOrder : {A : Type 0} → List (Reader A) → Reader (List A)
+inOrder [] = gives []
+inOrder (p ∷ ps) = p >>= λ x. inOrder ps >>= λ xs. gives (x ∷ xs)
+
 unfoldable pub times : {A : Type 0} → ℕ → Reader A → Reader (List A)
-times zero p = gives []
-times (suc n) p = p >>= λ x. times n p >>= λ xs. gives (x ∷ xs)
+times n p = inOrder (replicate n p)
 
 -- Where there is a value, go on with it.
 unfoldable pub given : {A B : Type 0} → Option A → (A → Option B) → Option B
@@ -74,7 +77,7 @@ isDue line (some found) = read (found .0) (suc line) (found .1)
 unfoldable pub due : {A : Type 0} → String → (List ℕ → Option A) → Reader A
 due key reads line rest = isDue line (lineValue key reads rest)
 
--- A number that is out of its limits is refused with its own number.
+-- A test that has to be passed, or else the refusal.
 unfoldable pub require : Bool → Refusal → Reader (Unit {0})
 require true r line rest = read tt line rest
 require false r line rest = stop r
@@ -105,23 +108,61 @@ rowValue value =
     given (byte (third .behind)) λ b.
     some (rowOf op d a b)
 
+-- A line with one number: its key, the least and the greatest number that it may give, and what any other number is refused with.
+pub record NumberLine : Type 0 where
+  pub key : String
+  pub least : ℕ
+  pub greatest : ℕ
+  pub refusal : Refusal
+
+-- The lines with one number, in their order: lines 2 to 5.
+unfoldable pub numberLines : List NumberLine
+numberLines =
+    record { key = "threads"; least = 1; greatest = maxThreads; refusal = ThreadsOutOfRange 2 }
+    ∷ record { key = "cells"; least = 1; greatest = maxCells; refusal = CellsOutOfRange 3 }
+    ∷ record { key = "limit"; least = 0; greatest = maxLimit; refusal = LimitOutOfRange 4 }
+    ∷ record { key = "rows"; least = 0; greatest = maxRows; refusal = TooManyRows 5 }
+    ∷ []
+
+-- Each number's place among those that the lines give.
+abbrev pub threadsIn : List ℕ → ℕ
+threadsIn ns = getD ns 0 0
+
+abbrev pub cellsIn : List ℕ → ℕ
+cellsIn ns = getD ns 1 0
+
+abbrev pub limitIn : List ℕ → ℕ
+limitIn ns = getD ns 2 0
+
+abbrev pub rowsIn : List ℕ → ℕ
+rowsIn ns = getD ns 3 0
+
+-- The number of one such line: a number that is out of its limits is refused before the next line is looked at.
+unfoldable pub dueNumber : NumberLine → Reader ℕ
+dueNumber l = do
+  n ← due (l .key) number
+  require (leb (l .least) n && leb n (l .greatest)) (l .refusal)
+  gives n
+
+-- The numbers of such lines, one after the other.
+unfoldable pub numbers : List NumberLine → Reader (List ℕ)
+numbers ls = inOrder (map dueNumber ls)
+
+-- What follows the numbers: as many rows and cells as they say, the end, and nothing behind it.
+unfoldable pub contentLines : List ℕ → Reader Launch
+contentLines ns = do
+  table ← times (rowsIn ns) (due "row" rowValue)
+  cells ← times (cellsIn ns) (due "cell" number)
+  due "end" (exactly "kernel")
+  fileEnds
+  gives (record { threads = threadsIn ns; limit = limitIn ns; table = table; cells = cells })
+
 -- The lines of a launch file, in their order.
 unfoldable pub launchLines : Reader Launch
 launchLines = do
   due "kernel" (exactly "1")
-  threads ← due "threads" number
-  require (leb 1 threads && leb threads maxThreads) (ThreadsOutOfRange 2)
-  cells ← due "cells" number
-  require (leb 1 cells && leb cells maxCells) (CellsOutOfRange 3)
-  limit ← due "limit" number
-  require (leb limit maxLimit) (LimitOutOfRange 4)
-  rows ← due "rows" number
-  require (leb rows maxRows) (TooManyRows 5)
-  table ← times rows (due "row" rowValue)
-  contents ← times cells (due "cell" number)
-  due "end" (exactly "kernel")
-  fileEnds
-  gives (record { threads = threads; limit = limit; table = table; cells = contents })
+  ns ← numbers numberLines
+  contentLines ns
 
 -- A launch, unless there is a refusal.
 unfoldable pub unlessRefused : Option Refusal → Launch → Checked Launch

@@ -1,7 +1,7 @@
 -- That two texts are compared byte by byte from the front. Assumes nothing.
 use mathlib.Core.Path.{_≡_, refl}
 use mathlib.Core.List.{List, [], _∷_}
-use mathlib.Core.Bool.{true, false}
+use mathlib.Core.Bool.{true, false, and-false}
 use Prim.Native.Nat.{ℕ, _+_, _<_, _≤_}
 use native.Mathlib.Numerals.{add-one}
 use native.Mathlib.Omega.{arith}
@@ -10,7 +10,6 @@ use lib.Dec.{eqb}
 use lib.ListN.{length, getD, drop, drop-of-length-le}
 use lib.Seq.{drop-cons}
 use Rattle.spec.specs.Lists.{equalList}
-use Rattle.text.proofs.Tests.{and-false}
 
 pub lengths-differ : (s t : List ℕ) → (length s ≡ length t → ⊥) → false ≡ equalList s t
 unfolding equalList

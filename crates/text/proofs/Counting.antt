@@ -1,7 +1,7 @@
 -- That digits read from the front, up to a bound, are the definition's number. Assumes nothing.
 use mathlib.Core.Path.{_≡_, refl}
 use mathlib.Core.List.{List, [], _∷_}
-use mathlib.Core.Bool.{Bool, true, false, cond, not, _&&_}
+use mathlib.Core.Bool.{Bool, true, false, cond, not, _&&_, and-false, and-true, or-true}
 use mathlib.Core.Option.{none, some}
 use Prim.Native.Nat.{ℕ, _+_, _-_, _*_, _<_, _≤_}
 use native.Mathlib.Numerals.{add-one}
@@ -13,7 +13,6 @@ use lib.Seq.{drop-cons}
 use Rattle.spec.specs.Lists.{every}
 use Rattle.spec.specs.Text.{isDigit, isNumber, digitsValue, numberBelow}
 use Rattle.text.specs.Numbers.{digitsBelow}
-use Rattle.text.proofs.Tests.{and-false, and-true, or-true}
 
 none-some : {v : ℕ} → none ≡ some v → ⊥
 none-some e = let z : _≡_ {A = ℕ} 0 1 = cc in omega arith

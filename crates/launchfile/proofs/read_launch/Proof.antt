@@ -1,13 +1,12 @@
 -- `launchfile::read_launch` meets its contract. Assumes nothing.
-use mathlib.Core.Path.{ap, sym, _∙_}
+use mathlib.Core.Path.{refl}
 use native.Mathlib.Omega.{arith}
 use borrow.Author.Needs.{needs}
+use borrow.Author.Tests.{not-true, not-false}
 use Rattle.spec.specs.Text.{text}
-use Rattle.spec.specs.declared.Refusal.the-variants.{LineNotDue, FileTooLong}
-use Rattle.launchfile.specs.Parsed.{linesRead}
-use Rattle.launchfile.specs.Stages.{fromThreads}
+use Rattle.numberlines.specs.Answered.{lineCount}
 use Rattle.launchfile.proofs.Answered.{answers, refuses}
-use Rattle.launchfile.proofs.Whole.{too-long, no-kernel, kernel}
+use Rattle.launchfile.proofs.Whole.{too-long, no-kernel, number-refused, numbers-read, within}
 use Rattle.launchfile.proofs.read_launch.Statement.{statement}
 use Rattle.launchfile.proofs.read_launch.Tie as tie
 
@@ -16,8 +15,8 @@ refused-requires c κs = search needs
 
 returns : tie.Need-returns
 returns c =
-    let args = c .before .before .before .args in
-    refuses (linesRead (args .file .now)) FileTooLong (c .refused .result) (too-long (args .file .now) (omega arith)) (c .refused .ensures)
+    let start = c .before .before .before in
+    refuses _ _ (c .refused .result) (too-long (start .args .file .now) (omega arith)) (c .refused .ensures)
 
 slice-aggregate-word-line : tie.Need-slice-aggregate-word-line
 slice-aggregate-word-line c = search needs
@@ -28,34 +27,70 @@ slice-aggregate-word-line-2 c = search needs
 word-line-requires : tie.Need-word-line-requires
 word-line-requires c κs = search needs
 
-next-requires : tie.Need-next-requires
-next-requires c κs = search needs
-
-from-threads-requires : tie.Need-from-threads-requires
-from-threads-requires c κs = search needs
+refused-requires-2 : tie.Need-refused-requires-2
+refused-requires-2 c κs = search needs
 
 returns-2 : tie.Need-returns-2
 unfolding text
 returns-2 c =
-    let args = c .before .before .before .before .before .before .before .before .args in
-    let word-line = c .before .before .before .word-line in
-    let if2 = c .before .before .if2 in
-    let next = c .before .next in
-    answers (linesRead (args .file .now)) (fromThreads 2 (next .result .now)) (c .from-threads .result)
-    (kernel (args .file .now) (omega arith) (word-line .result) (word-line .ensures) (if2 .taken) ∙ ap (fromThreads 2) (sym (next .ensures)))
-    (c .from-threads .ensures)
+    let at-word = c .before .before in
+    let start = at-word .before .before .before .before .before in
+    refuses _ _ (c .refused2 .result)
+    (no-kernel (start .args .file .now) (omega arith) (at-word .word-line .result) (at-word .word-line .ensures) (not-true _ (c .before .if2 .taken)))
+    (c .refused2 .ensures)
 
-refused-requires-2 : tie.Need-refused-requires-2
-refused-requires-2 c κs = search needs
+next-requires : tie.Need-next-requires
+next-requires c κs = search needs
+
+read-numbers-requires : tie.Need-read-numbers-requires
+unfolding lineCount
+read-numbers-requires c κs = refl
+
+enum-known-why : tie.Need-enum-known-why
+enum-known-why c = search needs
+
+refused-requires-3 : tie.Need-refused-requires-3
+refused-requires-3 c κs = search needs
 
 returns-3 : tie.Need-returns-3
-unfolding text
+unfolding text lineCount
 returns-3 c =
-    let args = c .before .before .before .before .before .before .before .args in
-    let word-line = c .before .before .word-line in
-    let if2 = c .before .if2 in
-    refuses (linesRead (args .file .now)) (LineNotDue 1) (c .refused2 .result)
-    (no-kernel (args .file .now) (omega arith) (word-line .result) (word-line .ensures) (if2 .left)) (c .refused2 .ensures)
+    let at-why = c .before .before in
+    let at-numbers = at-why .before .before in
+    let at-next = at-numbers .before .before in
+    let at-word = at-next .before .before in
+    let start = at-word .before .before .before .before .before in
+    refuses _ _ (c .refused3 .result)
+    (number-refused (start .args .file .now) (omega arith) (at-word .word-line .result) (at-word .word-line .ensures) (not-false _ (at-next .before .if2 .left))
+    (at-next .next .result .now) (at-next .next .ensures) _ (at-numbers .read-numbers .result) (at-numbers .read-numbers .ensures) _ (at-why .why .given .1))
+    (c .refused3 .ensures)
+
+enum-told : tie.Need-enum-told
+enum-told c = search needs
+
+behind-lines-requires : tie.Need-behind-lines-requires
+behind-lines-requires c κs = search needs
+
+read-contents-requires : tie.Need-read-contents-requires
+read-contents-requires c κs =
+    let at-accepted = c .before .before in
+    let at-numbers = at-accepted .before .before in
+    within _ _ (at-numbers .read-numbers .result) (at-numbers .read-numbers .ensures) (at-accepted .enum-told .given .1)
+
+returns-4 : tie.Need-returns-4
+unfolding text lineCount
+returns-4 c =
+    let at-behind = c .before .before in
+    let at-accepted = at-behind .before in
+    let at-numbers = at-accepted .before .before in
+    let at-next = at-numbers .before .before in
+    let at-word = at-next .before .before in
+    let start = at-word .before .before .before .before .before in
+    answers _ _ (c .read-contents .result)
+    (numbers-read (start .args .file .now) (omega arith) (at-word .word-line .result) (at-word .word-line .ensures) (not-false _ (at-next .before .if2 .left))
+    (at-next .next .result .now) (at-next .next .ensures) _ (at-numbers .read-numbers .result) (at-numbers .read-numbers .ensures)
+    (at-accepted .enum-told .given .1) (at-behind .behind-lines .result .now) (at-behind .behind-lines .ensures))
+    (c .read-contents .ensures)
 
 pub read-launch-spec : {M : Type 1} → statement M
 read-launch-spec =
@@ -66,8 +101,14 @@ read-launch-spec =
     slice-aggregate-word-line
     slice-aggregate-word-line-2
     word-line-requires
-    next-requires
-    from-threads-requires
-    returns-2
     refused-requires-2
-    returns-3)
+    returns-2
+    next-requires
+    read-numbers-requires
+    enum-known-why
+    refused-requires-3
+    returns-3
+    enum-told
+    behind-lines-requires
+    read-contents-requires
+    returns-4)

@@ -1,0 +1,170 @@
+-- `numberlines::read_numbers` meets its contract: the lines still to be read, put behind those read, are all. Assumes nothing.
+use Prim.Native.Nat.{_-_}
+use borrow.Author.Needs.{needs}
+use borrow.Author.Tests.{not-true, not-false}
+use Rattle.numberlines.specs.Answered.{lineCount, answered}
+use Rattle.numberlines.proofs.Tables.{tables, key-part}
+use Rattle.numberlines.proofs.Loop.{NumbersGoing, begins, line-missing, out-of-limits, one-more, all-read}
+use Rattle.numberlines.proofs.read_numbers.Statement.{statement}
+use Rattle.numberlines.proofs.read_numbers.Tie as tie
+
+abbrev Inv-loop : tie.InvT-loop
+Inv-loop file numbers₀ rest₀ i₀ t10 numbers rest i = NumbersGoing file numbers rest i
+
+abbrev μ-loop : tie.MeasureT-loop
+μ-loop file numbers₀ rest₀ i₀ t10 numbers rest i = lineCount - i
+
+loop-holds : tie.Need-loop-holds Inv-loop μ-loop
+loop-holds c = begins _ _ (c .before .pre)
+
+mul-start : tie.Need-mul-start Inv-loop μ-loop
+mul-start c = search needs
+
+array-read-start : tie.Need-array-read-start Inv-loop μ-loop
+unfolding tables
+array-read-start c = search needs
+
+add-end : tie.Need-add-end Inv-loop μ-loop
+add-end c = search needs
+
+mul-end : tie.Need-mul-end Inv-loop μ-loop
+mul-end c = search needs
+
+array-read-end : tie.Need-array-read-end Inv-loop μ-loop
+unfolding tables
+array-read-end c = search needs
+
+sub-number-line : tie.Need-sub-number-line Inv-loop μ-loop
+unfolding tables
+sub-number-line c = key-part (c .before .loop .i) (c .loop-test .taken) .ordered
+
+part-number-line-start : tie.Need-part-number-line-start Inv-loop μ-loop
+unfolding tables
+part-number-line-start c = key-part (c .before .before .loop .i) (c .before .loop-test .taken) .ordered
+
+part-number-line-end : tie.Need-part-number-line-end Inv-loop μ-loop
+unfolding tables
+part-number-line-end c = key-part (c .before .before .loop .i) (c .before .loop-test .taken) .inside
+
+number-line-requires : tie.Need-number-line-requires Inv-loop μ-loop
+number-line-requires c κs = search needs
+
+enum-known-n : tie.Need-enum-known-n Inv-loop μ-loop
+enum-known-n c = search needs
+
+enum-told : tie.Need-enum-told Inv-loop μ-loop
+enum-told c = search needs
+
+add-t26 : tie.Need-add-t26 Inv-loop μ-loop
+add-t26 c = search needs
+
+cast-t27 : tie.Need-cast-t27 Inv-loop μ-loop
+cast-t27 c = search needs
+
+returns : tie.Need-returns Inv-loop μ-loop
+unfolding tables answered
+returns c =
+    let at-number = c .before .before in
+    let in-loop = at-number .before .before .before in
+    let at-loop = in-loop .before in
+    line-missing _ _ _ _ (at-loop .loop .inv) (in-loop .loop-test .taken) _ (at-number .number-line .ensures) (c .enum-told .given .1)
+
+mul-within : tie.Need-mul-within Inv-loop μ-loop
+mul-within c = search needs
+
+array-read-within : tie.Need-array-read-within Inv-loop μ-loop
+array-read-within c = search needs
+
+mul-within-2 : tie.Need-mul-within-2 Inv-loop μ-loop
+mul-within-2 c = search needs
+
+array-read-within-2 : tie.Need-array-read-within-2 Inv-loop μ-loop
+array-read-within-2 c = search needs
+
+within-requires : tie.Need-within-requires Inv-loop μ-loop
+within-requires c κs = search needs
+
+mul-why : tie.Need-mul-why Inv-loop μ-loop
+mul-why c = search needs
+
+array-copy-out-why : tie.Need-array-copy-out-why Inv-loop μ-loop
+array-copy-out-why c = search needs
+
+returns-2 : tie.Need-returns-2 Inv-loop μ-loop
+unfolding tables answered
+returns-2 c =
+    let at-within = c .before .before in
+    let at-n = at-within .before .before in
+    let at-number = at-n .before .before in
+    let in-loop = at-number .before .before .before in
+    let at-loop = in-loop .before in
+    out-of-limits _ _ _ _ (at-loop .loop .inv) (in-loop .loop-test .taken) _ (at-number .number-line .ensures)
+    _ (at-n .n .given .1) _ (at-within .within .ensures) (not-true _ (c .before .if1 .taken)) _
+
+mul-numbers : tie.Need-mul-numbers Inv-loop μ-loop
+mul-numbers c = search needs
+
+element-write-numbers : tie.Need-element-write-numbers Inv-loop μ-loop
+element-write-numbers c = search needs
+
+next-requires : tie.Need-next-requires Inv-loop μ-loop
+next-requires c κs = search needs
+
+add-i : tie.Need-add-i Inv-loop μ-loop
+add-i c = search needs
+
+loop-less : tie.Need-loop-less Inv-loop μ-loop
+unfolding lineCount
+loop-less c = search needs
+
+loop-again : tie.Need-loop-again Inv-loop μ-loop
+unfolding tables
+loop-again c =
+    let at-within = c .before .before in
+    let at-n = at-within .before .before in
+    let at-number = at-n .before .before in
+    let in-loop = at-number .before .before .before in
+    let at-loop = in-loop .before in
+    one-more _ _ _ _ (at-loop .loop .inv) (in-loop .loop-test .taken) _ (at-number .number-line .ensures)
+    _ (at-n .n .given .1) _ (at-within .within .ensures) (not-false _ (c .before .if1 .left)) _ (c .next .ensures)
+
+returns-3 : tie.Need-returns-3 Inv-loop μ-loop
+unfolding answered tables
+returns-3 c = all-read _ _ _ _ (c .before .loop .inv) (c .loop-test .left)
+
+pub read-numbers-spec : {M : Type 1} → statement M
+read-numbers-spec =
+    tie.close
+    (tie.spec
+    Inv-loop
+    μ-loop
+    loop-holds
+    mul-start
+    array-read-start
+    add-end
+    mul-end
+    array-read-end
+    sub-number-line
+    part-number-line-start
+    part-number-line-end
+    number-line-requires
+    enum-known-n
+    enum-told
+    add-t26
+    cast-t27
+    returns
+    mul-within
+    array-read-within
+    mul-within-2
+    array-read-within-2
+    within-requires
+    mul-why
+    array-copy-out-why
+    returns-2
+    mul-numbers
+    element-write-numbers
+    next-requires
+    add-i
+    loop-less
+    loop-again
+    returns-3)
