@@ -21,10 +21,10 @@ pub record CellsGoing (file : List ℕ) (n : ℕ) (cells after rest : List ℕ) 
 pub cells-start : (file : List ℕ) (n : ℕ) (cells : List ℕ) → length cells ≡ 1024 → CellsGoing file n cells cells file 0
 cells-start file n cells l = record { under = omega arith; long = l; going = start "cell" number n file; kept = refl }
 
-module _ (file : List ℕ) (n : ℕ) (cells after rest : List ℕ) (k : ℕ) (g : CellsGoing file n cells after rest k) where
-  pub cells-more : n ≤ 1024 → k < n → (v : ℕ) → keyedValue (text "cell") number rest ≡ some v
-      → (left : List ℕ) → left ≡ nextIn rest → CellsGoing file n cells (set after k v) left (k + 1)
-  cells-more m h v e left q =
+module _ {file : List ℕ} {n : ℕ} {cells after rest : List ℕ} {k : ℕ} (g : CellsGoing file n cells after rest k) where
+  pub cells-more : n ≤ 1024 → k < n → {v : ℕ} → keyedValue (text "cell") number rest ≡ some v
+      → {left : List ℕ} → left ≡ nextIn rest → CellsGoing file n cells (set after k v) left (k + 1)
+  cells-more m h {v} e q =
       record {
         under = omega arith;
         long = length-set after k v ∙ g .long;

@@ -23,14 +23,16 @@ pub rows-start : (file : List ℕ) (n : ℕ) (table : List ℕ) → length table
 unfolding rowsOf
 rows-start file n table l = record { under = omega arith; long = l; going = start "row" rowValue n file; kept = refl }
 
-module _ (file : List ℕ) (n : ℕ) (table after rest : List ℕ) (k : ℕ) (g : RowsGoing file n table after rest k) where
+module _ {file : List ℕ} {n : ℕ} {table after rest : List ℕ} {k : ℕ} (g : RowsGoing file n table after rest k) where
   pub rows-more : n ≤ 256 → k < n → (op d a b : ℕ) → keyedValue (text "row") rowValue rest ≡ some (rowOf op d a b)
-      → (put left : List ℕ) → put ≡ putRow after (4 * k) op d a b → left ≡ nextIn rest → RowsGoing file n table put left (k + 1)
-  rows-more m h op d a b e put left p q =
+      → {put left : List ℕ} → put ≡ putRow after (4 * k) op d a b → left ≡ nextIn rest → RowsGoing file n table put left (k + 1)
+  rows-more m h op d a b e p q =
       record {
         under = omega arith;
         long = ap length p ∙ row-long after (4 * k) op d a b ∙ g .long;
-        going = λ line. rw (q, p, row-put after k op d a b (g .long) (omega arith)) (more "row" rowValue n file k rest (rowsOf (take (4 * k) after)) (g .going) h (rowOf op d a b) e line);
+        going = λ line.
+            rw (q, p, row-put after k op d a b (g .long) (omega arith))
+            (more "row" rowValue n file k rest (rowsOf (take (4 * k) after)) (g .going) h (rowOf op d a b) e line);
         kept = rw p (row-kept after n k op d a b h ∙ g .kept);
       }
 
@@ -48,7 +50,9 @@ module _ (file : List ℕ) (n : ℕ) (table after rest : List ℕ) (k : ℕ) (g 
       let e : k ≡ n = omega (arith, g .under) in
       record {
         within = omega arith;
-        lines = λ line. ends "row" rowValue n file k rest (rowsOf (take (4 * k) after)) (g .going) e line ∙ ap (λ (m : ℕ). taken n line k (rowsOf (take (4 * m) after)) rest) e;
+        lines = λ line.
+            ends "row" rowValue n file k rest (rowsOf (take (4 * k) after)) (g .going) e line
+            ∙ ap (λ (m : ℕ). taken n line k (rowsOf (take (4 * m) after)) rest) e;
         long = g .long;
         kept = g .kept;
       }

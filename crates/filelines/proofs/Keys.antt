@@ -11,20 +11,20 @@ use Rattle.text.proofs.Splitting.{cut, uncut, left}
 use Rattle.filelines.specs.Lines.{nameIs, lineNamed, keyed, valueIn, nextIn, keyedValue}
 use Rattle.filelines.specs.Values.{wordIn, exactBytes}
 
-pub behind-line : (rest line r : List ℕ) → First 10 rest line → r ≡ drop (length line + 1) rest → r ≡ nextIn rest
+pub behind-line : {rest line r : List ℕ} → First 10 rest line → r ≡ drop (length line + 1) rest → r ≡ nextIn rest
 unfolding nextIn
-behind-line rest line r f e = e ∙ left 10 rest line f
+behind-line {rest} {line} f e = e ∙ left 10 rest line f
 
-pub behind-name : (rest line name r : List ℕ) → First 10 rest line → First 61 line name → r ≡ drop (length name + 1) line → r ≡ valueIn rest
+pub behind-name : {rest line name r : List ℕ} → First 10 rest line → First 61 line name → r ≡ drop (length name + 1) line → r ≡ valueIn rest
 unfolding valueIn
-behind-name rest line name r f g e = e ∙ left 61 line name g ∙ ap (backOf 61) (f .part)
+behind-name {rest} {line} {name} f g e = e ∙ left 61 line name g ∙ ap (backOf 61) (f .part)
 
-module _ (key rest line : List ℕ) (f : First 10 rest line) where
+module _ (key : List ℕ) {rest line : List ℕ} (f : First 10 rest line) where
   pub no-line : length rest ≤ length line → false ≡ keyed key rest
   unfolding keyed lineNamed
   no-line h = rw (uncut 10 rest line f h)
 
-  module _ (h : length line < length rest) (name : List ℕ) (g : First 61 line name) where
+  module _ (h : length line < length rest) {name : List ℕ} (g : First 61 line name) where
     pub no-name : length line ≤ length name → false ≡ keyed key rest
     unfolding keyed lineNamed nameIs
     no-name l = rw (cut 10 rest line f h, uncut 61 line name g l)
@@ -33,10 +33,10 @@ module _ (key rest line : List ℕ) (f : First 10 rest line) where
     unfolding keyed lineNamed nameIs
     named l = rw (cut 10 rest line f h, cut 61 line name g l)
 
-module _ {A : Type 0} (key : List ℕ) (reads : List ℕ → Option A) (rest : List ℕ) (t : Bool) (k : t ≡ keyed key rest) where
-  pub has-value : t ≡ true → (v : List ℕ) → v ≡ valueIn rest → keyedValue key reads rest ≡ reads v
+module _ {A : Type 0} (key : List ℕ) (reads : List ℕ → Option A) (rest : List ℕ) {t : Bool} (k : t ≡ keyed key rest) where
+  pub has-value : t ≡ true → {v : List ℕ} → v ≡ valueIn rest → keyedValue key reads rest ≡ reads v
   unfolding keyedValue
-  has-value e v q = rw (← k, e, ← q)
+  has-value e q = rw (← k, e, ← q)
 
   pub has-none : t ≡ false → keyedValue key reads rest ≡ none
   unfolding keyedValue
@@ -46,6 +46,6 @@ word-by : (t : Bool) → cond t (some tt) none ≡ wordIn t
 word-by true = refl
 word-by false = refl
 
-pub word-is : (word v : List ℕ) (t : Bool) → t ≡ equalList v word → exactBytes word v ≡ wordIn t
+pub word-is : (word v : List ℕ) {t : Bool} → t ≡ equalList v word → exactBytes word v ≡ wordIn t
 unfolding exactBytes
-word-is word v t e = rw (← e) (word-by t)
+word-is word v {t} e = rw (← e) (word-by t)

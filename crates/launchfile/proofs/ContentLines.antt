@@ -36,15 +36,15 @@ zeros-behind n zero = let e : n - 0 ≡ n = omega arith in rw e
 zeros-behind zero (suc k) = let e : 0 - suc k ≡ 0 = omega arith in rw e
 zeros-behind (suc n) (suc k) = let e : suc n - suc k ≡ n - k = omega arith in rw e (zeros-behind n k)
 
-module _ (ns : List ℕ) (line : ℕ) (rest table : List ℕ) (good : ℕ) (left : List ℕ) (rows : RowsTaken (rowsIn ns) rest (replicate 1024 0) table good left) where
-  pub no-row : good < rowsIn ns → (r : Parsed) → r ≡ refusedWith (LineNotDue (line + good)) → ReadAs (contentLines ns line rest) r
+module _ (ns : List ℕ) (line : ℕ) {rest table left : List ℕ} {good : ℕ} (rows : RowsTaken (rowsIn ns) rest (replicate 1024 0) table good left) where
+  pub no-row : good < rowsIn ns → {r : Parsed} → r ≡ refusedWith (LineNotDue (line + good)) → ReadAs (contentLines ns line rest) r
   unfolding contentLines _>>=_ continue taken
-  no-row h r e = rw (rows .lines line, lt-ltb good (rowsIn ns) h) e
+  no-row h e = rw (rows .lines line, lt-ltb good (rowsIn ns) h) e
 
-  module _ (all : rowsIn ns ≤ good) (words : List ℕ) (filled : ℕ) (last : List ℕ) (cells : CellsTaken (cellsIn ns) left (replicate 1024 0) words filled last) where
-    pub no-cell : filled < cellsIn ns → (r : Parsed) → r ≡ refusedWith (LineNotDue (line + rowsIn ns + filled)) → ReadAs (contentLines ns line rest) r
+  module _ (all : rowsIn ns ≤ good) {words last : List ℕ} {filled : ℕ} (cells : CellsTaken (cellsIn ns) left (replicate 1024 0) words filled last) where
+    pub no-cell : filled < cellsIn ns → {r : Parsed} → r ≡ refusedWith (LineNotDue (line + rowsIn ns + filled)) → ReadAs (contentLines ns line rest) r
     unfolding contentLines _>>=_ continue taken
-    no-cell h r e = rw (rows .lines line, le-ltb good (rowsIn ns) all, cells .lines (line + rowsIn ns), lt-ltb filled (cellsIn ns) h) e
+    no-cell h e = rw (rows .lines line, le-ltb good (rowsIn ns) all, cells .lines (line + rowsIn ns), lt-ltb filled (cellsIn ns) h) e
 
     -- The launch that was read, if its end is right.
     abbrev launch : definition.Launch
@@ -60,14 +60,14 @@ module _ (ns : List ℕ) (line : ℕ) (rest table : List ℕ) (good : ℕ) (left
           rw
           (rows .lines line, le-ltb good (rowsIn ns) all, cells .lines (line + rowsIn ns), le-ltb filled (cellsIn ns) full, due-word "end" "kernel" endLine last t found)
 
-      pub no-end : t ≡ false → (r : Parsed) → r ≡ refusedWith (LineNotDue endLine) → ReadAs (contentLines ns line rest) r
+      pub no-end : t ≡ false → {r : Parsed} → r ≡ refusedWith (LineNotDue endLine) → ReadAs (contentLines ns line rest) r
       unfolding continue lineRead
-      no-end f r e = rw (at-end, f) e
+      no-end f e = rw (at-end, f) e
 
-      module _ (f : t ≡ true) (more : List ℕ) (q : more ≡ nextIn last) where
-        pub bytes-behind : (length more ≡ 0 → ⊥) → (r : Parsed) → r ≡ refusedWith (LineNotDue (endLine + 1)) → ReadAs (contentLines ns line rest) r
+      module _ (f : t ≡ true) {more : List ℕ} (q : more ≡ nextIn last) where
+        pub bytes-behind : (length more ≡ 0 → ⊥) → {r : Parsed} → r ≡ refusedWith (LineNotDue (endLine + 1)) → ReadAs (contentLines ns line rest) r
         unfolding continue lineRead _>>_
-        bytes-behind n r e = rw (at-end, f, ← q, not-ended (suc endLine) more n, ← add-one endLine) e
+        bytes-behind n e = rw (at-end, f, ← q, not-ended (suc endLine) more n, ← add-one endLine) e
 
         pub accepts : Within (threadsIn ns) (limitIn ns) (rowsIn ns) (cellsIn ns) → length more ≡ 0
             → ReadAs (contentLines ns line rest)

@@ -3,7 +3,6 @@ use mathlib.Core.Path.{_≡_, refl, _∙_}
 use mathlib.Core.List.{List}
 use mathlib.Core.Bool.{Bool, true, false}
 use Prim.Native.Nat.{ℕ, _+_, _<_, _≤_}
-use native.Mathlib.Omega.{arith}
 use borrow.Author.Tests.{le-leb, lt-leb}
 use lib.Dec.{leb}
 use lib.ListN.{length, getD}
@@ -35,32 +34,33 @@ module _ (file : List ℕ) (h : length file ≤ maxFile) (t : Bool) (found : key
   unfolding launchLines _>>=_ _>>_ continue lineRead
   no-kernel f = begun ∙ rw (due-word "kernel" "1" 1 file t found, f)
 
-  module _ (f : t ≡ true) (lines : List ℕ) (q : lines ≡ nextIn file) (ns : List ℕ) (r : Admission) (n : NumbersRead lines ns r) where
+  module _ (f : t ≡ true) {lines : List ℕ} (q : lines ≡ nextIn file) (ns : List ℕ) (r : Admission) (n : NumbersRead lines ns r) where
     numbered : linesRead file ≡ continue (answered r ns (2 + lineCount) (linesBehind lineCount lines)) contentLines
     unfolding launchLines _>>=_ _>>_ continue lineRead
     numbered = begun ∙ rw (due-word "kernel" "1" 1 file t found, f, ← q, n)
 
-    pub number-refused : (why : Refusal) → r ≡ Refused why → linesRead file ≡ stop why
+    pub number-refused : {why : Refusal} → r ≡ Refused why → linesRead file ≡ stop why
     unfolding answered continue
-    number-refused why e = numbered ∙ rw e
+    number-refused e = numbered ∙ rw e
 
-    pub numbers-read : r ≡ Accepted → (rest : List ℕ) → rest ≡ linesBehind lineCount lines → linesRead file ≡ contentLines ns (2 + lineCount) rest
+    pub numbers-read : r ≡ Accepted → {rest : List ℕ} → rest ≡ linesBehind lineCount lines → linesRead file ≡ contentLines ns (2 + lineCount) rest
     unfolding answered continue
-    numbers-read e rest p = numbered ∙ rw (e, p)
+    numbers-read e p = numbered ∙ rw (e, p)
 
+-- Each number is within the limits of its line, which its place tells.
 pub within : (file ns : List ℕ) (r : Admission) → NumbersRead file ns r → r ≡ Accepted
     → Within (threadsIn ns) (limitIn ns) (rowsIn ns) (cellsIn ns)
 unfolding answered lineCount
 within file ns r n e =
-    let at : (i : ℕ) → i < lineCount → Limited (getD numberLines i noLine) (getD ns i 0) =
+    let at : (i : ℕ) → Limited (getD numberLines i noLine) (getD ns i 0) =
     all-limited numberLines 2 file ns (2 + lineCount) (linesBehind lineCount file) (n ∙ rw e) in
     record {
-      someThread = at 0 (omega arith) .low;
-      fewThreads = at 0 (omega arith) .high;
-      fewRuns = at 2 (omega arith) .high;
-      fewRows = at 3 (omega arith) .high;
-      someCell = at 1 (omega arith) .low;
-      fewCells = at 1 (omega arith) .high;
+      someThread = at _ .low;
+      fewThreads = at _ .high;
+      fewRuns = at _ .high;
+      fewRows = at _ .high;
+      someCell = at _ .low;
+      fewCells = at _ .high;
     }
 
 -- The definition's whole answer is what it makes of these lines.

@@ -2,11 +2,11 @@
 use mathlib.Core.Path.{_≡_, refl, subst}
 use mathlib.Core.List.{List, [], _∷_, map}
 use mathlib.Core.Bool.{Bool, true, false, _&&_, and-eq-true-iff}
-use Prim.Native.Nat.{ℕ, zero, suc, _<_, _≤_}
+use Prim.Native.Nat.{ℕ, zero, suc, _≤_}
 use native.Mathlib.Omega.{arith}
 use borrow.Author.Tests.{leb-true}
 use lib.Dec.{leb}
-use lib.ListN.{length, getD}
+use lib.ListN.{getD}
 use Rattle.spec.specs.LaunchFile.{NumberLine, Read, stop, read, Reader, continue, _>>=_, _>>_, gives, inOrder, require, due, number, dueNumber, numbers}
 use Rattle.spec.specs.declared.Refusal.{Refusal}
 use Rattle.numberlines.proofs.Tables.{noLine}
@@ -49,16 +49,18 @@ module _ (l : NumberLine) (line : ℕ) (file : List ℕ) (n next : ℕ) (left : 
       subst (λ (m : ℕ). Limited l m) same (record { low = leb-true _ _ (tests .0); high = leb-true _ _ (tests .1) })
 
 pub all-limited : (ls : List NumberLine) (line : ℕ) (file ns : List ℕ) (next : ℕ) (left : List ℕ) → numbers ls line file ≡ read ns next left
-    → (i : ℕ) → i < length ls → Limited (getD ls i noLine) (getD ns i 0)
+    → (i : ℕ) → Limited (getD ls i noLine) (getD ns i 0)
 unfolding numbers inOrder _>>=_ gives
-all-limited [] line file ns next left e i h = absurd (omega arith)
-all-limited (l ∷ ls) line file ns next left e zero h =
+all-limited [] line file ns next left e i =
+    let none : [] ≡ ns = cc in
+    rw (← none) (record { low = omega arith; high = omega arith })
+all-limited (l ∷ ls) line file ns next left e zero =
     let first = parts (dueNumber l line file) _ ns next left e in
     let others = parts (inOrder (map dueNumber ls) (first .line) (first .rest)) _ ns next left (first .behind) in
     let same : first .value ∷ others .value ≡ ns = cc in
     rw (← same) (limited l line file (first .value) (first .line) (first .rest) (first .before))
-all-limited (l ∷ ls) line file ns next left e (suc i) h =
+all-limited (l ∷ ls) line file ns next left e (suc i) =
     let first = parts (dueNumber l line file) _ ns next left e in
     let others = parts (inOrder (map dueNumber ls) (first .line) (first .rest)) _ ns next left (first .behind) in
     let same : first .value ∷ others .value ≡ ns = cc in
-    rw (← same) (all-limited ls (first .line) (first .rest) (others .value) (others .line) (others .rest) (others .before) i (omega arith))
+    rw (← same) (all-limited ls (first .line) (first .rest) (others .value) (others .line) (others .rest) (others .before) i)

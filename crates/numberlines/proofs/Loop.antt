@@ -59,7 +59,7 @@ count = length-map numberLines dueNumber
 abbrev keyOf : ℕ → List ℕ
 keyOf i = take (getD starts (i + 1) 0 - getD starts i 0) (drop (getD starts i 0) keyBytes)
 
-module _ (file ns rest : List ℕ) (i : ℕ) (g : NumbersGoing file ns rest i) (h : i < lineCount) (n : Number)
+module _ {file ns rest : List ℕ} {i : ℕ} (g : NumbersGoing file ns rest i) (h : i < lineCount) (n : Number)
     (found : keyedValue (keyOf i) number rest ≡ numberOf n) where
   asked : keyedValue (text (lineAt i .key)) number rest ≡ numberOf n
   asked = ap (λ key. keyedValue key number rest) (sym (key-part i h .part)) ∙ found
@@ -73,15 +73,15 @@ module _ (file ns rest : List ℕ) (i : ℕ) (g : NumbersGoing file ns rest i) (
   pub line-missing : n ≡ Bad → numbers numberLines 2 file ≡ stop (LineNotDue (2 + i))
   line-missing e = refuses (LineNotDue (2 + i)) (not-due (lineAt i) (2 + i) rest n asked e)
 
-  module _ (v : ℕ) (e : n ≡ Value v) (t : Bool) (tested : t ≡ (leb (getD leasts i 0) v && leb v (getD greatests i 0))) where
+  module _ {v : ℕ} (e : n ≡ Value v) {t : Bool} (tested : t ≡ (leb (getD leasts i 0) v && leb v (getD greatests i 0))) where
     test : (leb (lineAt i .least) v && leb v (lineAt i .greatest)) ≡ t
     test = rw (← least-at i, ← greatest-at i) (sym tested)
 
     pub out-of-limits : t ≡ false → (d : Refusal) → numbers numberLines 2 file ≡ stop (getD refusals i d)
     out-of-limits f d = refuses (lineAt i .refusal) (out (lineAt i) (2 + i) rest n asked v e (test ∙ f)) ∙ ap stop (sym (refusal-at i h d))
 
-    pub one-more : t ≡ true → (left : List ℕ) → left ≡ nextIn rest → NumbersGoing file (set ns i v) left (i + 1)
-    one-more f left q =
+    pub one-more : t ≡ true → {left : List ℕ} → left ≡ nextIn rest → NumbersGoing file (set ns i v) left (i + 1)
+    one-more f q =
         record {
           under = omega arith;
           long = length-set ns i v ∙ g .long;
@@ -92,10 +92,10 @@ module _ (file ns rest : List ℕ) (i : ℕ) (g : NumbersGoing file ns rest i) (
               (rw (List·getD-map dueNumber numberLines i noLine) (within (lineAt i) (2 + i) rest n asked v e (test ∙ f))));
         }
 
-pub all-read : (file ns rest : List ℕ) (i : ℕ) → NumbersGoing file ns rest i → lineCount ≤ i
+pub all-read : {file ns rest : List ℕ} {i : ℕ} → NumbersGoing file ns rest i → lineCount ≤ i
     → numbers numberLines 2 file ≡ read ns (2 + lineCount) (linesBehind lineCount file)
 unfolding numbers
-all-read file ns rest i g h =
+all-read {file} {ns} {rest} {i} g h =
     let e : i ≡ lineCount = omega (arith, g .under) in
     let whole : take lineCount ns ≡ ns = ap (λ (k : ℕ). take k ns) (sym (g .long)) ∙ take-length ns in
     ends (map dueNumber numberLines) 2 file (dueNumber noLine) i rest (take i ns) (g .going) (omega (arith, count)) ∙ rw (g .left, e, whole)

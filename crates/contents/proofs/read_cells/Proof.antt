@@ -15,7 +15,7 @@ abbrev μ-loop : tie.MeasureT-loop
 μ-loop file n cells₀ good₀ rest₀ k₀ cells good rest k = n - k
 
 loop-holds : tie.Need-loop-holds Inv-loop μ-loop
-loop-holds c = cells-start (c .before .args .file .now) (c .before .args .n) (c .before .args .cells .now) (c .before .pre .1)
+loop-holds c = cells-start _ _ _ (c .before .pre .1)
 
 cell-line-requires : tie.Need-cell-line-requires Inv-loop μ-loop
 cell-line-requires c κs = search needs
@@ -28,10 +28,10 @@ enum-told c = search needs
 
 returns : tie.Need-returns Inv-loop μ-loop
 returns c =
-    let l = c .before .before .before .before .loop in
-    let loop-test = c .before .before .before .loop-test in
-    let cell-line = c .before .before .cell-line in
-    cells-stop _ _ _ _ _ _ (l .inv) (loop-test .taken) (cell-line .ensures ∙ ap numberOf (c .enum-told .given .1))
+    let at-cell-line = c .before .before in
+    let in-loop = at-cell-line .before in
+    let at-loop = in-loop .before in
+    cells-stop (at-loop .loop .inv) (in-loop .loop-test .taken) (at-cell-line .cell-line .ensures ∙ ap numberOf (c .enum-told .given .1))
 
 mul-cells : tie.Need-mul-cells Inv-loop μ-loop
 mul-cells c = omega arith
@@ -50,15 +50,16 @@ loop-less c = omega arith
 
 loop-again : tie.Need-loop-again Inv-loop μ-loop
 loop-again c =
-    let pre = c .before .before .before .before .before .before .before .before .pre in
-    let l = c .before .before .before .before .before .before .loop in
-    let loop-test = c .before .before .before .before .before .loop-test in
-    let cell-line = c .before .before .before .before .cell-line in
-    let word = c .before .before .word in
-    cells-more _ _ _ _ _ _ (l .inv) (pre .0) (loop-test .taken) _ (cell-line .ensures ∙ ap numberOf (word .given .1)) _ (c .next .ensures)
+    let at-word = c .before .before in
+    let at-cell-line = at-word .before .before in
+    let in-loop = at-cell-line .before in
+    let at-loop = in-loop .before in
+    let start = at-loop .before .before in
+    cells-more (at-loop .loop .inv) (start .pre .0) (in-loop .loop-test .taken)
+    (at-cell-line .cell-line .ensures ∙ ap numberOf (at-word .word .given .1)) (c .next .ensures)
 
 returns-2 : tie.Need-returns-2 Inv-loop μ-loop
-returns-2 c = cells-end _ _ _ _ _ _ (c .before .loop .inv) (c .loop-test .left)
+returns-2 c = cells-end (c .before .loop .inv) (c .loop-test .left)
 
 pub read-cells-spec : {M : Type 1} → statement M
 read-cells-spec =

@@ -15,7 +15,7 @@ abbrev μ-loop : tie.MeasureT-loop
 μ-loop file n table₀ good₀ rest₀ k₀ table good rest k = n - k
 
 loop-holds : tie.Need-loop-holds Inv-loop μ-loop
-loop-holds c = rows-start (c .before .args .file .now) (c .before .args .n) (c .before .args .table .now) (c .before .pre .1)
+loop-holds c = rows-start _ _ _ (c .before .pre .1)
 
 row-line-requires : tie.Need-row-line-requires Inv-loop μ-loop
 row-line-requires c κs = search needs
@@ -28,10 +28,10 @@ enum-told c = search needs
 
 returns : tie.Need-returns Inv-loop μ-loop
 returns c =
-    let l = c .before .before .before .before .loop in
-    let loop-test = c .before .before .before .loop-test in
-    let row-line = c .before .before .row-line in
-    rows-stop _ _ _ _ _ _ (l .inv) (loop-test .taken) (row-line .ensures ∙ ap rowIn (c .enum-told .given .1))
+    let at-row-line = c .before .before in
+    let in-loop = at-row-line .before in
+    let at-loop = in-loop .before in
+    rows-stop (at-loop .loop .inv) (in-loop .loop-test .taken) (at-row-line .row-line .ensures ∙ ap rowIn (c .enum-told .given .1))
 
 put-row-requires : tie.Need-put-row-requires Inv-loop μ-loop
 put-row-requires c κs = omega arith
@@ -47,17 +47,17 @@ loop-less c = omega arith
 
 loop-again : tie.Need-loop-again Inv-loop μ-loop
 loop-again c =
-    let pre = c .before .before .before .before .before .before .before .before .before .before .pre in
-    let l = c .before .before .before .before .before .before .before .before .loop in
-    let loop-test = c .before .before .before .before .before .before .before .loop-test in
-    let row-line = c .before .before .before .before .before .before .row-line in
-    let op = c .before .before .before .before .op in
-    let put-row = c .before .put-row in
-    rows-more _ _ _ _ _ _ (l .inv) (pre .0) (loop-test .taken) _ _ _ _ (row-line .ensures ∙ ap rowIn (op .given .1)) _ _ (put-row .ensures)
-    (c .next .ensures)
+    let at-put-row = c .before in
+    let at-op = at-put-row .before .before .before in
+    let at-row-line = at-op .before .before in
+    let in-loop = at-row-line .before in
+    let at-loop = in-loop .before in
+    let start = at-loop .before .before in
+    rows-more (at-loop .loop .inv) (start .pre .0) (in-loop .loop-test .taken) _ _ _ _
+    (at-row-line .row-line .ensures ∙ ap rowIn (at-op .op .given .1)) (at-put-row .put-row .ensures) (c .next .ensures)
 
 returns-2 : tie.Need-returns-2 Inv-loop μ-loop
-returns-2 c = rows-end _ _ _ _ _ _ (c .before .loop .inv) (c .loop-test .left)
+returns-2 c = rows-end (c .before .loop .inv) (c .loop-test .left)
 
 pub read-rows-spec : {M : Type 1} → statement M
 read-rows-spec =

@@ -15,10 +15,8 @@ enum-told c = search needs
 
 returns : tie.Need-returns
 returns c =
-    let args = c .before .before .before .before .before .before .before .args in
-    let number-below = c .before .before .number-below in
-    bad-op (args .op .now) (args .d .now) (args .a .now) (args .b .now)
-    (is-bad (args .op .now) (number-below .result) (number-below .ensures) (c .enum-told .given .1))
+    let at-op = c .before .before in
+    bad-op _ _ _ _ (is-bad _ (at-op .number-below .ensures) (c .enum-told .given .1))
 
 number-below-requires-2 : tie.Need-number-below-requires-2
 number-below-requires-2 c κs = search needs
@@ -31,13 +29,12 @@ enum-told-2 c = search needs
 
 returns-2 : tie.Need-returns-2
 returns-2 c =
-    let args = c .before .before .before .before .before .before .before .before .before .before .before .args in
-    let number-below = c .before .before .before .before .before .before .number-below in
-    let x = c .before .before .before .before .x in
-    let number-below2 = c .before .before .number-below2 in
-    bad-d (args .op .now) (args .d .now) (args .a .now) (args .b .now) (x .given .0 .0)
-    (is-value (args .op .now) (number-below .result) (x .given .0 .0) (number-below .ensures) (x .given .1))
-    (is-bad (args .d .now) (number-below2 .result) (number-below2 .ensures) (c .enum-told2 .given .1))
+    let at-d = c .before .before in
+    let op-known = at-d .before .before in
+    let at-op = op-known .before .before in
+    bad-d _ _ _ _
+    (is-value _ (at-op .number-below .ensures) (op-known .x .given .1))
+    (is-bad _ (at-d .number-below2 .ensures) (c .enum-told2 .given .1))
 
 number-below-requires-3 : tie.Need-number-below-requires-3
 number-below-requires-3 c κs = search needs
@@ -50,16 +47,15 @@ enum-told-3 c = search needs
 
 returns-3 : tie.Need-returns-3
 returns-3 c =
-    let args = c .before .before .before .before .before .before .before .before .before .before .before .before .before .before .before .args in
-    let number-below = c .before .before .before .before .before .before .before .before .before .before .number-below in
-    let x = c .before .before .before .before .before .before .before .before .x in
-    let number-below2 = c .before .before .before .before .before .before .number-below2 in
-    let y = c .before .before .before .before .y in
-    let number-below3 = c .before .before .number-below3 in
-    bad-a (args .op .now) (args .d .now) (args .a .now) (args .b .now) (x .given .0 .0)
-    (is-value (args .op .now) (number-below .result) (x .given .0 .0) (number-below .ensures) (x .given .1)) (y .given .0 .0)
-    (is-value (args .d .now) (number-below2 .result) (y .given .0 .0) (number-below2 .ensures) (y .given .1))
-    (is-bad (args .a .now) (number-below3 .result) (number-below3 .ensures) (c .enum-told3 .given .1))
+    let at-a = c .before .before in
+    let d-known = at-a .before .before in
+    let at-d = d-known .before .before in
+    let op-known = at-d .before .before in
+    let at-op = op-known .before .before in
+    bad-a _ _ _ _
+    (is-value _ (at-op .number-below .ensures) (op-known .x .given .1))
+    (is-value _ (at-d .number-below2 .ensures) (d-known .y .given .1))
+    (is-bad _ (at-a .number-below3 .ensures) (c .enum-told3 .given .1))
 
 number-below-requires-4 : tie.Need-number-below-requires-4
 number-below-requires-4 c κs = search needs
@@ -72,64 +68,64 @@ enum-told-4 c = search needs
 
 returns-4 : tie.Need-returns-4
 returns-4 c =
-    let args = c .before .before .before .before .before .before .before .before .before .before .before .before .before .before .before .before .before .before .before .args in
-    let number-below = c .before .before .before .before .before .before .before .before .before .before .before .before .before .before .number-below in
-    let x = c .before .before .before .before .before .before .before .before .before .before .before .before .x in
-    let number-below2 = c .before .before .before .before .before .before .before .before .before .before .number-below2 in
-    let y = c .before .before .before .before .before .before .before .before .y in
-    let number-below3 = c .before .before .before .before .before .before .number-below3 in
-    let z = c .before .before .before .before .z in
-    let number-below4 = c .before .before .number-below4 in
-    bad-b (args .op .now) (args .d .now) (args .a .now) (args .b .now) (x .given .0 .0)
-    (is-value (args .op .now) (number-below .result) (x .given .0 .0) (number-below .ensures) (x .given .1)) (y .given .0 .0)
-    (is-value (args .d .now) (number-below2 .result) (y .given .0 .0) (number-below2 .ensures) (y .given .1)) (z .given .0 .0)
-    (is-value (args .a .now) (number-below3 .result) (z .given .0 .0) (number-below3 .ensures) (z .given .1))
-    (is-bad (args .b .now) (number-below4 .result) (number-below4 .ensures) (c .enum-told4 .given .1))
+    let at-b = c .before .before in
+    let a-known = at-b .before .before in
+    let at-a = a-known .before .before in
+    let d-known = at-a .before .before in
+    let at-d = d-known .before .before in
+    let op-known = at-d .before .before in
+    let at-op = op-known .before .before in
+    bad-b _ _ _ _
+    (is-value _ (at-op .number-below .ensures) (op-known .x .given .1))
+    (is-value _ (at-d .number-below2 .ensures) (d-known .y .given .1))
+    (is-value _ (at-a .number-below3 .ensures) (a-known .z .given .1))
+    (is-bad _ (at-b .number-below4 .ensures) (c .enum-told4 .given .1))
 
 cast-t13 : tie.Need-cast-t13
 cast-t13 c =
-    let args = c .before .before .before .before .before .before .before .before .before .before .before .before .before .before .before .before .before .before .before .before .args in
-    let number-below = c .before .before .before .before .before .before .before .before .before .before .before .before .before .before .before .number-below in
-    let x = c .before .before .before .before .before .before .before .before .before .before .before .before .before .x in
-    record { fits = value-fits (args .op .now) (number-below .result) (x .given .0 .0) (number-below .ensures) (x .given .1) }
+    let b-known = c .before in
+    let a-known = b-known .before .before .before .before in
+    let d-known = a-known .before .before .before .before in
+    let op-known = d-known .before .before .before .before in
+    let at-op = op-known .before .before in
+    record { fits = value-fits _ (at-op .number-below .ensures) (op-known .x .given .1) }
 
 cast-t14 : tie.Need-cast-t14
 cast-t14 c =
-    let args = c .before .before .before .before .before .before .before .before .before .before .before .before .before .before .before .before .before .before .before .before .args in
-    let number-below2 = c .before .before .before .before .before .before .before .before .before .before .before .number-below2 in
-    let y = c .before .before .before .before .before .before .before .before .before .y in
-    record { fits = value-fits (args .d .now) (number-below2 .result) (y .given .0 .0) (number-below2 .ensures) (y .given .1) }
+    let b-known = c .before in
+    let a-known = b-known .before .before .before .before in
+    let d-known = a-known .before .before .before .before in
+    let at-d = d-known .before .before in
+    record { fits = value-fits _ (at-d .number-below2 .ensures) (d-known .y .given .1) }
 
 cast-t15 : tie.Need-cast-t15
 cast-t15 c =
-    let args = c .before .before .before .before .before .before .before .before .before .before .before .before .before .before .before .before .before .before .before .before .args in
-    let number-below3 = c .before .before .before .before .before .before .before .number-below3 in
-    let z = c .before .before .before .before .before .z in
-    record { fits = value-fits (args .a .now) (number-below3 .result) (z .given .0 .0) (number-below3 .ensures) (z .given .1) }
+    let b-known = c .before in
+    let a-known = b-known .before .before .before .before in
+    let at-a = a-known .before .before in
+    record { fits = value-fits _ (at-a .number-below3 .ensures) (a-known .z .given .1) }
 
 cast-t16 : tie.Need-cast-t16
 cast-t16 c =
-    let args = c .before .before .before .before .before .before .before .before .before .before .before .before .before .before .before .before .before .before .before .before .args in
-    let number-below4 = c .before .before .before .number-below4 in
-    let w = c .before .w in
-    record { fits = value-fits (args .b .now) (number-below4 .result) (w .given .0 .0) (number-below4 .ensures) (w .given .1) }
+    let b-known = c .before in
+    let at-b = b-known .before .before in
+    record { fits = value-fits _ (at-b .number-below4 .ensures) (b-known .w .given .1) }
 
 returns-5 : tie.Need-returns-5
 returns-5 c =
-    let args = c .before .before .before .before .before .before .before .before .before .before .before .before .before .before .before .before .before .before .before .before .args in
-    let number-below = c .before .before .before .before .before .before .before .before .before .before .before .before .before .before .before .number-below in
-    let x = c .before .before .before .before .before .before .before .before .before .before .before .before .before .x in
-    let number-below2 = c .before .before .before .before .before .before .before .before .before .before .before .number-below2 in
-    let y = c .before .before .before .before .before .before .before .before .before .y in
-    let number-below3 = c .before .before .before .before .before .before .before .number-below3 in
-    let z = c .before .before .before .before .before .z in
-    let number-below4 = c .before .before .before .number-below4 in
-    let w = c .before .w in
-    good (args .op .now) (args .d .now) (args .a .now) (args .b .now) (x .given .0 .0)
-    (is-value (args .op .now) (number-below .result) (x .given .0 .0) (number-below .ensures) (x .given .1)) (y .given .0 .0)
-    (is-value (args .d .now) (number-below2 .result) (y .given .0 .0) (number-below2 .ensures) (y .given .1)) (z .given .0 .0)
-    (is-value (args .a .now) (number-below3 .result) (z .given .0 .0) (number-below3 .ensures) (z .given .1)) (w .given .0 .0)
-    (is-value (args .b .now) (number-below4 .result) (w .given .0 .0) (number-below4 .ensures) (w .given .1))
+    let b-known = c .before in
+    let at-b = b-known .before .before in
+    let a-known = at-b .before .before in
+    let at-a = a-known .before .before in
+    let d-known = at-a .before .before in
+    let at-d = d-known .before .before in
+    let op-known = at-d .before .before in
+    let at-op = op-known .before .before in
+    good _ _ _ _
+    (is-value _ (at-op .number-below .ensures) (op-known .x .given .1))
+    (is-value _ (at-d .number-below2 .ensures) (d-known .y .given .1))
+    (is-value _ (at-a .number-below3 .ensures) (a-known .z .given .1))
+    (is-value _ (at-b .number-below4 .ensures) (b-known .w .given .1))
 
 pub four-spec : {M : Type 1} → statement M
 four-spec =

@@ -12,9 +12,8 @@ behind-requires c κs = search needs
 
 returns : tie.Need-returns
 returns c =
-    let args = c .before .before .before .args in
-    let before2 = c .before .before2 in
-    behind-line (args .rest .now) (before2 .result .now) (c .behind .result .now) (before2 .ensures) (c .behind .ensures)
+    let at-line = c .before in
+    behind-line (at-line .before2 .ensures) (c .behind .ensures)
 
 pub next-spec : {M : Type 1} → statement M
 next-spec = tie.close (tie.spec before-requires behind-requires returns)

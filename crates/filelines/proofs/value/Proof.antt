@@ -15,11 +15,9 @@ behind-requires c κs = search needs
 
 returns : tie.Need-returns
 returns c =
-    let args = c .before .before .before .before .args in
-    let before2 = c .before .before .before2 in
-    let before3 = c .before .before3 in
-    behind-name (args .rest .now) (before2 .result .now) (before3 .result .now) (c .behind .result .now) (before2 .ensures) (before3 .ensures)
-    (c .behind .ensures)
+    let at-name = c .before in
+    let at-line = at-name .before in
+    behind-name (at-line .before2 .ensures) (at-name .before3 .ensures) (c .behind .ensures)
 
 pub value-spec : {M : Type 1} → statement M
 value-spec = tie.close (tie.spec before-requires before-requires-2 behind-requires returns)

@@ -45,8 +45,7 @@ returns : tie.Need-returns
 unfolding lineCount
 returns c =
     let at-rows = c .before .before in
-    no-row _ _ _ _ _ _ (at-rows .read-rows .ensures) (c .before .if1 .taken)
-    (c .refused .result) (c .refused .ensures)
+    no-row _ _ (at-rows .read-rows .ensures) (c .before .if1 .taken) (c .refused .ensures)
 
 read-cells-requires : tie.Need-read-cells-requires
 read-cells-requires c κs = search needs
@@ -69,8 +68,7 @@ returns-2 c =
     let at-cells = c .before .before in
     let all-rows = at-cells .before .before .before in
     let at-rows = all-rows .before in
-    no-cell _ _ _ _ _ _ (at-rows .read-rows .ensures) (all-rows .if1 .left)
-    _ _ _ (at-cells .read-cells .ensures) (c .before .if2 .taken) (c .refused2 .result) (c .refused2 .ensures)
+    no-cell _ _ (at-rows .read-rows .ensures) (all-rows .if1 .left) (at-cells .read-cells .ensures) (c .before .if2 .taken) (c .refused2 .ensures)
 
 add-last : tie.Need-add-last
 add-last c = search needs
@@ -101,9 +99,9 @@ returns-3 c =
     let at-cells = all-cells .before in
     let all-rows = at-cells .before .before .before in
     let at-rows = all-rows .before in
-    no-end _ _ _ _ _ _ (at-rows .read-rows .ensures) (all-rows .if1 .left)
-    _ _ _ (at-cells .read-cells .ensures) (all-cells .if2 .left) (at-word .word-line .result) (at-word .word-line .ensures)
-    (not-true _ (c .before .if3 .taken)) (c .refused3 .result) (c .refused3 .ensures)
+    no-end _ _ (at-rows .read-rows .ensures) (all-rows .if1 .left)
+    (at-cells .read-cells .ensures) (all-cells .if2 .left) (at-word .word-line .result) (at-word .word-line .ensures)
+    (not-true _ (c .before .if3 .taken)) (c .refused3 .ensures)
 
 next-requires : tie.Need-next-requires
 next-requires c κs = search needs
@@ -123,10 +121,9 @@ returns-4 c =
     let at-cells = all-cells .before in
     let all-rows = at-cells .before .before .before in
     let at-rows = all-rows .before in
-    bytes-behind _ _ _ _ _ _ (at-rows .read-rows .ensures) (all-rows .if1 .left)
-    _ _ _ (at-cells .read-cells .ensures) (all-cells .if2 .left) (at-word .word-line .result) (at-word .word-line .ensures)
-    (not-false _ (at-next .before .if3 .left)) (at-next .next .result .now) (at-next .next .ensures) (λ z. omega arith)
-    (c .refused4 .result) (c .refused4 .ensures)
+    bytes-behind _ _ (at-rows .read-rows .ensures) (all-rows .if1 .left)
+    (at-cells .read-cells .ensures) (all-cells .if2 .left) (at-word .word-line .result) (at-word .word-line .ensures)
+    (not-false _ (at-next .before .if3 .left)) (at-next .next .ensures) (λ z. omega arith) (c .refused4 .ensures)
 
 returns-5 : tie.Need-returns-5
 unfolding text lineCount
@@ -138,9 +135,9 @@ returns-5 c =
     let all-rows = at-cells .before .before .before in
     let at-rows = all-rows .before in
     let start = at-rows .before .before .before .before .before .before .before .before in
-    accepts _ _ _ _ _ _ (at-rows .read-rows .ensures) (all-rows .if1 .left)
-    _ _ _ (at-cells .read-cells .ensures) (all-cells .if2 .left) (at-word .word-line .result) (at-word .word-line .ensures)
-    (not-false _ (at-next .before .if3 .left)) (at-next .next .result .now) (at-next .next .ensures) (start .pre) (omega arith)
+    accepts _ _ (at-rows .read-rows .ensures) (all-rows .if1 .left)
+    (at-cells .read-cells .ensures) (all-cells .if2 .left) (at-word .word-line .result) (at-word .word-line .ensures)
+    (not-false _ (at-next .before .if3 .left)) (at-next .next .ensures) (start .pre) (omega arith)
 
 pub read-contents-spec : {M : Type 1} → statement M
 read-contents-spec =

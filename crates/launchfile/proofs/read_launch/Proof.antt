@@ -14,9 +14,7 @@ refused-requires : tie.Need-refused-requires
 refused-requires c κs = search needs
 
 returns : tie.Need-returns
-returns c =
-    let start = c .before .before .before in
-    refuses _ _ (c .refused .result) (too-long (start .args .file .now) (omega arith)) (c .refused .ensures)
+returns c = refuses (too-long _ (omega arith)) (c .refused .ensures)
 
 slice-aggregate-word-line : tie.Need-slice-aggregate-word-line
 slice-aggregate-word-line c = search needs
@@ -34,9 +32,8 @@ returns-2 : tie.Need-returns-2
 unfolding text
 returns-2 c =
     let at-word = c .before .before in
-    let start = at-word .before .before .before .before .before in
-    refuses _ _ (c .refused2 .result)
-    (no-kernel (start .args .file .now) (omega arith) (at-word .word-line .result) (at-word .word-line .ensures) (not-true _ (c .before .if2 .taken)))
+    refuses
+    (no-kernel _ (omega arith) (at-word .word-line .result) (at-word .word-line .ensures) (not-true _ (c .before .if2 .taken)))
     (c .refused2 .ensures)
 
 next-requires : tie.Need-next-requires
@@ -59,10 +56,9 @@ returns-3 c =
     let at-numbers = at-why .before .before in
     let at-next = at-numbers .before .before in
     let at-word = at-next .before .before in
-    let start = at-word .before .before .before .before .before in
-    refuses _ _ (c .refused3 .result)
-    (number-refused (start .args .file .now) (omega arith) (at-word .word-line .result) (at-word .word-line .ensures) (not-false _ (at-next .before .if2 .left))
-    (at-next .next .result .now) (at-next .next .ensures) _ (at-numbers .read-numbers .result) (at-numbers .read-numbers .ensures) _ (at-why .why .given .1))
+    refuses
+    (number-refused _ (omega arith) (at-word .word-line .result) (at-word .word-line .ensures) (not-false _ (at-next .before .if2 .left))
+    (at-next .next .ensures) _ _ (at-numbers .read-numbers .ensures) (at-why .why .given .1))
     (c .refused3 .ensures)
 
 enum-told : tie.Need-enum-told
@@ -75,7 +71,7 @@ read-contents-requires : tie.Need-read-contents-requires
 read-contents-requires c κs =
     let at-accepted = c .before .before in
     let at-numbers = at-accepted .before .before in
-    within _ _ (at-numbers .read-numbers .result) (at-numbers .read-numbers .ensures) (at-accepted .enum-told .given .1)
+    within _ _ _ (at-numbers .read-numbers .ensures) (at-accepted .enum-told .given .1)
 
 returns-4 : tie.Need-returns-4
 unfolding text lineCount
@@ -85,11 +81,9 @@ returns-4 c =
     let at-numbers = at-accepted .before .before in
     let at-next = at-numbers .before .before in
     let at-word = at-next .before .before in
-    let start = at-word .before .before .before .before .before in
-    answers _ _ (c .read-contents .result)
-    (numbers-read (start .args .file .now) (omega arith) (at-word .word-line .result) (at-word .word-line .ensures) (not-false _ (at-next .before .if2 .left))
-    (at-next .next .result .now) (at-next .next .ensures) _ (at-numbers .read-numbers .result) (at-numbers .read-numbers .ensures)
-    (at-accepted .enum-told .given .1) (at-behind .behind-lines .result .now) (at-behind .behind-lines .ensures))
+    answers _
+    (numbers-read _ (omega arith) (at-word .word-line .result) (at-word .word-line .ensures) (not-false _ (at-next .before .if2 .left))
+    (at-next .next .ensures) _ _ (at-numbers .read-numbers .ensures) (at-accepted .enum-told .given .1) (at-behind .behind-lines .ensures))
     (c .read-contents .ensures)
 
 pub read-launch-spec : {M : Type 1} → statement M

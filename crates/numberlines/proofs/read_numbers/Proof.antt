@@ -67,7 +67,7 @@ returns c =
     let at-number = c .before .before in
     let in-loop = at-number .before .before .before in
     let at-loop = in-loop .before in
-    line-missing _ _ _ _ (at-loop .loop .inv) (in-loop .loop-test .taken) _ (at-number .number-line .ensures) (c .enum-told .given .1)
+    line-missing (at-loop .loop .inv) (in-loop .loop-test .taken) _ (at-number .number-line .ensures) (c .enum-told .given .1)
 
 mul-within : tie.Need-mul-within Inv-loop μ-loop
 mul-within c = search needs
@@ -98,8 +98,8 @@ returns-2 c =
     let at-number = at-n .before .before in
     let in-loop = at-number .before .before .before in
     let at-loop = in-loop .before in
-    out-of-limits _ _ _ _ (at-loop .loop .inv) (in-loop .loop-test .taken) _ (at-number .number-line .ensures)
-    _ (at-n .n .given .1) _ (at-within .within .ensures) (not-true _ (c .before .if1 .taken)) _
+    out-of-limits (at-loop .loop .inv) (in-loop .loop-test .taken) _ (at-number .number-line .ensures)
+    (at-n .n .given .1) (at-within .within .ensures) (not-true _ (c .before .if1 .taken)) _
 
 mul-numbers : tie.Need-mul-numbers Inv-loop μ-loop
 mul-numbers c = search needs
@@ -125,12 +125,12 @@ loop-again c =
     let at-number = at-n .before .before in
     let in-loop = at-number .before .before .before in
     let at-loop = in-loop .before in
-    one-more _ _ _ _ (at-loop .loop .inv) (in-loop .loop-test .taken) _ (at-number .number-line .ensures)
-    _ (at-n .n .given .1) _ (at-within .within .ensures) (not-false _ (c .before .if1 .left)) _ (c .next .ensures)
+    one-more (at-loop .loop .inv) (in-loop .loop-test .taken) _ (at-number .number-line .ensures)
+    (at-n .n .given .1) (at-within .within .ensures) (not-false _ (c .before .if1 .left)) (c .next .ensures)
 
 returns-3 : tie.Need-returns-3 Inv-loop μ-loop
 unfolding answered tables
-returns-3 c = all-read _ _ _ _ (c .before .loop .inv) (c .loop-test .left)
+returns-3 c = all-read (c .before .loop .inv) (c .loop-test .left)
 
 pub read-numbers-spec : {M : Type 1} → statement M
 read-numbers-spec =

@@ -23,17 +23,15 @@ shared-slice-read-if1 c = search needs
 
 slice-aggregate-result : tie.Need-slice-aggregate-result Inv-loop μ-loop
 slice-aggregate-result c =
-    let args = c .before .before .before .before .before .args in
-    let l = c .before .before .before .before .loop in
-    sym (length-take-le (l .i) (args .s .now) (l .inv .0))
+    let at-loop = c .before .before .before .before in
+    sym (length-take-le _ _ (at-loop .loop .inv .0))
 
 returns : tie.Need-returns Inv-loop μ-loop
 returns c =
-    let args = c .before .before .before .before .before .args in
-    let l = c .before .before .before .before .loop in
-    let loop-test = c .before .before .before .loop-test in
-    let if1 = c .before .if1 in
-    found (args .b) (args .s .now) (l .i) (loop-test .taken) (if1 .taken) (l .inv .1)
+    let at-if1 = c .before in
+    let in-loop = at-if1 .before .before in
+    let at-loop = in-loop .before in
+    found _ _ _ (in-loop .loop-test .taken) (at-if1 .if1 .taken) (at-loop .loop .inv .1)
 
 add-i : tie.Need-add-i Inv-loop μ-loop
 add-i c = search needs
@@ -46,9 +44,8 @@ loop-again c = (search needs, below-more _ _ (c .before .before .before .loop .i
 
 returns-2 : tie.Need-returns-2 Inv-loop μ-loop
 returns-2 c =
-    let args = c .before .before .args in
-    let l = c .before .loop in
-    missing (args .b) (args .s .now) (l .i) (c .loop-test .left) (l .inv .1)
+    let at-loop = c .before in
+    missing _ _ _ (c .loop-test .left) (at-loop .loop .inv .1)
 
 pub before-spec : {M : Type 1} → statement M
 before-spec =

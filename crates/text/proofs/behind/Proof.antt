@@ -30,13 +30,15 @@ part-result-end-2 : tie.Need-part-result-end-2
 part-result-end-2 c = search needs
 
 returns : tie.Need-returns
-returns c = whole (c .before .before .args .s .now) (length (c .before .before .args .front .now) + 1)
+returns c =
+    let start = c .before .before in
+    whole (start .args .s .now) (length (start .args .front .now) + 1)
 
 returns-2 : tie.Need-returns-2
 returns-2 c =
-    let args = c .before .before .args in
-    whole (args .s .now) (length (args .s .now))
-    ∙ past (args .s .now) (length (args .s .now)) (length (args .front .now) + 1) (omega arith) (omega arith)
+    let start = c .before .before in
+    whole (start .args .s .now) (length (start .args .s .now))
+    ∙ past (start .args .s .now) (length (start .args .s .now)) (length (start .args .front .now) + 1) (omega arith) (omega arith)
 
 pub behind-spec : {M : Type 1} → statement M
 behind-spec =

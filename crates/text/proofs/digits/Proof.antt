@@ -26,21 +26,19 @@ wide-requires c κs = search needs
 
 returns : tie.Need-returns Inv-loop μ-loop
 returns c =
-    let args = c .before .before .before .before .before .before .args in
-    let l = c .before .before .before .before .loop in
-    let loop-test = c .before .before .before .loop-test in
-    let wide = c .before .wide in
-    sym (l .inv .2)
-    ∙ below-digits (args .bound) (l .value) (args .s .now) (l .i) (wide .result) (loop-test .taken) (wide .ensures) (c .if1 .taken)
+    let at-wide = c .before in
+    let in-loop = at-wide .before .before in
+    let at-loop = in-loop .before in
+    sym (at-loop .loop .inv .2)
+    ∙ below-digits _ _ _ _ _ (in-loop .loop-test .taken) (at-wide .wide .ensures) (c .if1 .taken)
 
 returns-2 : tie.Need-returns-2 Inv-loop μ-loop
 returns-2 c =
-    let args = c .before .before .before .before .before .before .before .args in
-    let l = c .before .before .before .before .before .loop in
-    let loop-test = c .before .before .before .before .loop-test in
-    let wide = c .before .before .wide in
-    sym (l .inv .2)
-    ∙ above-digits (args .bound) (l .value) (args .s .now) (l .i) (wide .result) (loop-test .taken) (wide .ensures) (c .if2 .taken)
+    let at-wide = c .before .before in
+    let in-loop = at-wide .before .before in
+    let at-loop = in-loop .before in
+    sym (at-loop .loop .inv .2)
+    ∙ above-digits _ _ _ _ _ (in-loop .loop-test .taken) (at-wide .wide .ensures) (c .if2 .taken)
 
 mul-value : tie.Need-mul-value Inv-loop μ-loop
 mul-value c = omega arith
@@ -50,13 +48,12 @@ add-value c = omega arith
 
 returns-3 : tie.Need-returns-3 Inv-loop μ-loop
 returns-3 c =
-    let args = c .before .before .before .before .before .before .before .before .args in
-    let l = c .before .before .before .before .before .before .loop in
-    let loop-test = c .before .before .before .before .before .loop-test in
-    let wide = c .before .before .before .wide in
-    sym (l .inv .2)
-    ∙ digit (args .bound) (l .value) (args .s .now) (l .i) (wide .result) (loop-test .taken) (wide .ensures) (omega arith) (omega arith)
-    ∙ too-large (args .bound) (10 * l .value + (wide .result - 48)) _ (omega arith)
+    let at-wide = c .before .before .before in
+    let in-loop = at-wide .before .before in
+    let at-loop = in-loop .before in
+    sym (at-loop .loop .inv .2)
+    ∙ digit _ _ _ _ _ (in-loop .loop-test .taken) (at-wide .wide .ensures) (omega arith) (omega arith)
+    ∙ too-large _ (10 * at-loop .loop .value + (at-wide .wide .result - 48)) _ (omega arith)
 
 add-i : tie.Need-add-i Inv-loop μ-loop
 add-i c = search needs
@@ -66,21 +63,19 @@ loop-less c = search needs
 
 loop-again : tie.Need-loop-again Inv-loop μ-loop
 loop-again c =
-    let args = c .before .before .before .before .before .before .before .before .args in
-    let l = c .before .before .before .before .before .before .loop in
-    let loop-test = c .before .before .before .before .before .loop-test in
-    let wide = c .before .before .before .wide in
-    (search needs, omega arith, sym (digit (args .bound) (l .value) (args .s .now) (l .i) (wide .result) (loop-test .taken) (wide .ensures) (omega arith) (omega arith)) ∙ l .inv .2)
+    let at-wide = c .before .before .before in
+    let in-loop = at-wide .before .before in
+    let at-loop = in-loop .before in
+    (search needs, omega arith, sym (digit _ _ _ _ _ (in-loop .loop-test .taken) (at-wide .wide .ensures) (omega arith) (omega arith)) ∙ at-loop .loop .inv .2)
 
 cast-t12 : tie.Need-cast-t12 Inv-loop μ-loop
 cast-t12 c = omega arith
 
 returns-4 : tie.Need-returns-4 Inv-loop μ-loop
 returns-4 c =
-    let args = c .before .before .before .args in
-    let l = c .before .loop in
-    sym (l .inv .2)
-    ∙ no-more (args .bound) (l .value) (args .s .now) (l .i) (c .loop-test .left) (l .inv .1)
+    let at-loop = c .before in
+    sym (at-loop .loop .inv .2)
+    ∙ no-more _ _ _ _ (c .loop-test .left) (at-loop .loop .inv .1)
 
 pub digits-spec : {M : Type 1} → statement M
 digits-spec =

@@ -6,16 +6,15 @@ use Rattle.text.proofs.number_below.Statement.{statement}
 use Rattle.text.proofs.number_below.Tie as tie
 
 returns : tie.Need-returns
-returns c = no-digit (c .before .before .args .bound) (c .before .before .args .s .now) (c .if1 .taken)
+returns c = no-digit _ _ (c .if1 .taken)
 
 digits-requires : tie.Need-digits-requires
 digits-requires c κs = search needs
 
 returns-2 : tie.Need-returns-2
 returns-2 c =
-    let args = c .before .before .before .before .args in
-    let if2 = c .before .if2 in
-    one-digit (args .bound) (args .s .now) (if2 .taken)
+    let at-if2 = c .before in
+    one-digit _ _ (at-if2 .if2 .taken)
     ∙ c .digits .ensures
 
 shared-slice-read-if3 : tie.Need-shared-slice-read-if3
@@ -23,20 +22,18 @@ shared-slice-read-if3 c = search needs
 
 returns-3 : tie.Need-returns-3
 returns-3 c =
-    let args = c .before .before .before .before .before .args in
-    let if1 = c .before .before .before .if1 in
-    let if2 = c .before .before .if2 in
-    zero-first (args .bound) (args .s .now) (if1 .left) (if2 .left) (c .if3 .taken)
+    let at-if2 = c .before .before in
+    let at-if1 = at-if2 .before in
+    zero-first _ _ (at-if1 .if1 .left) (at-if2 .if2 .left) (c .if3 .taken)
 
 digits-requires-2 : tie.Need-digits-requires-2
 digits-requires-2 c κs = search needs
 
 returns-4 : tie.Need-returns-4
 returns-4 c =
-    let args = c .before .before .before .before .before .before .args in
-    let if1 = c .before .before .before .before .if1 in
-    let if3 = c .before .if3 in
-    other-first (args .bound) (args .s .now) (if1 .left) (if3 .left)
+    let at-if3 = c .before in
+    let at-if1 = at-if3 .before .before .before in
+    other-first _ _ (at-if1 .if1 .left) (at-if3 .if3 .left)
     ∙ c .digits2 .ensures
 
 pub number-below-spec : {M : Type 1} → statement M

@@ -16,7 +16,7 @@ abbrev μ-loop : tie.MeasureT-loop
 μ-loop s key i₀ i = length s - i
 
 returns : tie.Need-returns Inv-loop μ-loop
-returns c = lengths-differ (c .before .args .s .now) (c .before .args .key .now) (c .if1 .taken)
+returns c = lengths-differ _ _ (c .if1 .taken)
 
 loop-holds : tie.Need-loop-holds Inv-loop μ-loop
 loop-holds c = (search needs, refl)
@@ -29,11 +29,10 @@ shared-slice-read-if2-2 c = omega arith
 
 returns-2 : tie.Need-returns-2 Inv-loop μ-loop
 returns-2 c =
-    let args = c .before .before .before .before .before .before .args in
-    let l = c .before .before .before .before .loop in
-    let loop-test = c .before .before .before .loop-test in
-    bytes-differ (args .s .now) (args .key .now) (l .i) (loop-test .taken) (omega arith) (c .if2 .taken)
-    ∙ l .inv .1
+    let in-loop = c .before .before .before in
+    let at-loop = in-loop .before in
+    bytes-differ _ _ _ (in-loop .loop-test .taken) (omega arith) (c .if2 .taken)
+    ∙ at-loop .loop .inv .1
 
 add-i : tie.Need-add-i Inv-loop μ-loop
 add-i c = search needs
@@ -43,17 +42,15 @@ loop-less c = search needs
 
 loop-again : tie.Need-loop-again Inv-loop μ-loop
 loop-again c =
-    let args = c .before .before .before .before .before .before .args in
-    let l = c .before .before .before .before .loop in
-    let loop-test = c .before .before .before .loop-test in
-    (search needs, sym (goes-on (args .s .now) (args .key .now) (l .i) (loop-test .taken) (omega arith) (c .if2 .left)) ∙ l .inv .1)
+    let in-loop = c .before .before .before in
+    let at-loop = in-loop .before in
+    (search needs, sym (goes-on _ _ _ (in-loop .loop-test .taken) (omega arith) (c .if2 .left)) ∙ at-loop .loop .inv .1)
 
 returns-3 : tie.Need-returns-3 Inv-loop μ-loop
 returns-3 c =
-    let args = c .before .before .before .args in
-    let l = c .before .loop in
-    at-end (args .s .now) (args .key .now) (l .i) (c .loop-test .left) (omega arith)
-    ∙ l .inv .1
+    let at-loop = c .before in
+    at-end _ _ _ (c .loop-test .left) (omega arith)
+    ∙ at-loop .loop .inv .1
 
 pub same-spec : {M : Type 1} → statement M
 same-spec =
