@@ -15,6 +15,7 @@ use Rattle.spec.specs.declared.Refusal.the-variants.{LineNotDue}
 use Rattle.text.specs.declared.Number.{Number}
 use Rattle.text.specs.declared.Number.the-variants.{Value, Bad}
 use Rattle.text.specs.Numbers.{numberOf}
+use Rattle.stringtable.proofs.Strings.{partOf}
 use Rattle.filelines.specs.Lines.{keyedValue, nextIn, lineRead}
 use Rattle.filelines.proofs.DueLines.{due-line}
 use Rattle.filelines.proofs.InOrder.{Going, start, more, stops, ends}
@@ -57,7 +58,7 @@ count = length-map numberLines dueNumber
 
 -- The key that the code looks for at line i.
 abbrev keyOf : ℕ → List ℕ
-keyOf i = take (getD starts (i + 1) 0 - getD starts i 0) (drop (getD starts i 0) keyBytes)
+keyOf i = partOf keyBytes (getD starts i 0) (getD starts (i + 1) 0)
 
 module _ {file ns rest : List ℕ} {i : ℕ} (g : NumbersGoing file ns rest i) (h : i < lineCount) (n : Number)
     (found : keyedValue (keyOf i) number rest ≡ numberOf n) where

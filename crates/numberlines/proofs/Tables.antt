@@ -2,7 +2,6 @@
 use mathlib.Core.Path.{_≡_, refl, _∙_}
 use mathlib.Core.List.{List, [], _∷_, map}
 use Prim.Native.Nat.{ℕ, zero, suc, _+_, _<_}
-use native.Mathlib.Numerals.{add-one}
 use native.Mathlib.Omega.{arith}
 use lib.ListN.{length, getD, length-map, List·getD-map}
 use Rattle.spec.specs.Text.{text}
@@ -10,7 +9,7 @@ use Rattle.spec.specs.LaunchFile.{NumberLine, numberLines}
 use Rattle.spec.specs.declared.Refusal.{Refusal}
 use Rattle.spec.specs.declared.Refusal.the-variants.{LineNotDue}
 use Rattle.numberlines.specs.Answered.{lineCount}
-use Rattle.numberlines.proofs.KeyTable.{joined, startsFrom, IsPart, key-at}
+use Rattle.stringtable.proofs.Strings.{joined, startsFrom, IsPart, string-at}
 
 -- Stands for a line where there is none.
 abbrev pub noLine : NumberLine
@@ -73,5 +72,5 @@ module _ (i : ℕ) where
     pub key-part : IsPart keyBytes (getD starts i 0) (getD starts (i + 1) 0) (text (lineAt i .key))
     unfolding keyBytes starts lineCount
     key-part =
-        rw (add-one i, ← List·getD-map (λ l. text (l .key)) numberLines i noLine)
-        (key-at [] keys i (omega (arith, length-map numberLines (λ l. text (l .key)))))
+        rw (← List·getD-map (λ l. text (l .key)) numberLines i noLine)
+        (string-at keys i (omega (arith, length-map numberLines (λ l. text (l .key)))))

@@ -2,12 +2,12 @@
 use mathlib.Core.Path.{_≡_, refl, ap, subst, subst⁻¹, _∙_}
 use mathlib.Core.List.{List, [], map}
 use mathlib.Core.Bool.{true}
-use Prim.Native.Nat.{ℕ, _+_, _-_, _≤_, _<_}
+use Prim.Native.Nat.{ℕ, _+_, _≤_, _<_}
 use lib.ListN.{length, getD}
 use Rattle.spec.specs.Lists.{every}
 use Rattle.spec.specs.Text.{text, decimal}
 use Rattle.spec.specs.Entries.{over}
-use Rattle.stringtable.proofs.Strings.{joined, startsFrom, between, StringAt, string-at, isWithin, at-most}
+use Rattle.stringtable.proofs.Strings.{joined, startsFrom, IsPart, string-at, isWithin, at-most}
 use Rattle.reportlines.specs.Words.{words, IsWord, Spells}
 use Rattle.reportlines.specs.declared.Spelling.{Spelling}
 use Rattle.reportlines.specs.declared.Spelling.the-variants.{Word, Digits}
@@ -31,15 +31,9 @@ pub few-words : {i : ℕ} {w : List ℕ} → IsWord i w → i < 10
 unfolding words
 few-words d = d .listed
 
-pub word-at : {i : ℕ} {w : List ℕ} → IsWord i w → StringAt wordBytes starts words i (i + 1)
+pub word-at : {i : ℕ} {w : List ℕ} → IsWord i w → IsPart wordBytes (getD starts i 0) (getD starts (i + 1) 0) w
 unfolding wordBytes starts
-word-at {i} d = string-at words i (d .listed)
-
-pub word-size : {i : ℕ} {w : List ℕ} → IsWord i w → getD starts (i + 1) 0 - getD starts i 0 ≡ length w
-word-size d = word-at d .size ∙ ap length (d .word)
-
-pub word-part : {i : ℕ} {w : List ℕ} → IsWord i w → between wordBytes starts i (i + 1) ≡ w
-word-part d = word-at d .cut ∙ d .word
+word-at {i} d = rw (← d .word) (string-at words i (d .listed))
 
 all-short : every (isWithin 10) words ≡ true
 unfolding every isWithin words text

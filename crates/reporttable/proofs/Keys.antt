@@ -10,7 +10,7 @@ use Rattle.spec.specs.Text.{text}
 use Rattle.spec.specs.declared.Value.{Value}
 use Rattle.spec.specs.declared.Value.the-variants as value
 use Rattle.spec.specs.Report.{_is_, detailsOf, details, headWith, headLines, endLine, refusalLines, valueText, keyLine, lineBytes}
-use Rattle.stringtable.proofs.Strings.{joined, startsFrom, between, StringAt, string-at, isWithin, at-most}
+use Rattle.stringtable.proofs.Strings.{joined, startsFrom, partOf, IsPart, part-size, string-at, isWithin, at-most}
 use Rattle.reportlines.proofs.Lines.{line-size}
 use Rattle.reporttable.specs.Numbered.{keys, keyCount, tableLine}
 
@@ -31,20 +31,20 @@ all-short : every (isWithin 20) keys ≡ true
 unfolding every isWithin keys headLines headWith refusalLines endLine _is_ text
 all-short = refl
 
-pub key-at : (i : ℕ) → i < keyCount → StringAt keyBytes starts keys i (i + 1)
+pub key-at : (i : ℕ) → i < keyCount → IsPart keyBytes (getD starts i 0) (getD starts (i + 1) 0) (getD keys i [])
 unfolding keyBytes starts
 key-at i h = string-at keys i (omega (arith, many))
 
 pub key-short : (i : ℕ) → i < keyCount → getD starts (i + 1) 0 - getD starts i 0 ≤ 20
-key-short i h = omega (arith, key-at i h .size, at-most 20 keys i all-short)
+key-short i h = omega (arith, part-size (key-at i h), at-most 20 keys i all-short)
 
 -- Line i as the code writes it, and its length.
 pub line-by-key : (values : List Value) (i : ℕ) → i < keyCount
-    → keyLine (between keyBytes starts i (i + 1)) (valueText (getD values i value.Hyphen)) ≡ lineBytes (tableLine values i)
+    → keyLine (partOf keyBytes (getD starts i 0) (getD starts (i + 1) 0)) (valueText (getD values i value.Hyphen)) ≡ lineBytes (tableLine values i)
 unfolding lineBytes tableLine
-line-by-key values i h = ap (λ (k : List ℕ). keyLine k (valueText (getD values i value.Hyphen))) (key-at i h .cut)
+line-by-key values i h = ap (λ (k : List ℕ). keyLine k (valueText (getD values i value.Hyphen))) (key-at i h .part)
 
 pub size-by-key : (values : List Value) (i : ℕ) → i < keyCount
     → getD starts (i + 1) 0 - getD starts i 0 + length (valueText (getD values i value.Hyphen)) + 2 ≡ length (lineBytes (tableLine values i))
 unfolding lineBytes tableLine
-size-by-key values i h = omega (arith, key-at i h .size, line-size (getD keys i []) (valueText (getD values i value.Hyphen)))
+size-by-key values i h = omega (arith, part-size (key-at i h), line-size (getD keys i []) (valueText (getD values i value.Hyphen)))

@@ -4,8 +4,9 @@ use Prim.Native.Nat.{ℕ}
 use native.Mathlib.Omega.{arith}
 use lib.ListN.{length}
 use Rattle.spec.specs.Report.{valueText}
+use Rattle.stringtable.proofs.Strings.{part-size}
 use Rattle.reportlines.specs.Words.{IsWord}
-use Rattle.reportlines.proofs.Words.{starts, as-word, as-digits, few-words, word-at, word-size, word-short}
+use Rattle.reportlines.proofs.Words.{starts, as-word, as-digits, few-words, word-at, word-short}
 use borrow.Author.Needs.{needs}
 use Rattle.reportlines.proofs.value_length.Statement.{statement}
 use Rattle.reportlines.proofs.value_length.Tie as tie
@@ -47,7 +48,7 @@ digits-requires c κs = search needs
 
 returns : tie.Need-returns
 unfolding starts
-returns c = (word-size (word c), omega (arith, word-size (word c), word-short (word c)))
+returns c = (part-size (word-at (word c)), omega (arith, part-size (word-at (word c)), word-short (word c)))
 
 returns-2 : tie.Need-returns-2
 returns-2 c = let text = as-digits (c .before .before .n .given .1) (c .before .before .before .before .spelled .ensures) in

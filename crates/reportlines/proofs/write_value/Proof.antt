@@ -6,7 +6,7 @@ use lib.ListN.{length}
 use Rattle.spec.specs.Report.{valueText}
 use Rattle.spec.specs.Entries.{over}
 use Rattle.reportlines.specs.Words.{IsWord}
-use Rattle.reportlines.proofs.Words.{wordBytes, starts, as-word, as-digits, few-words, word-at, word-part, room-for, wrote}
+use Rattle.reportlines.proofs.Words.{wordBytes, starts, as-word, as-digits, few-words, word-at, room-for, wrote}
 use borrow.Author.Needs.{needs}
 use Rattle.reportlines.proofs.write_value.Statement.{statement}
 use Rattle.reportlines.proofs.write_value.Tie as tie
@@ -50,7 +50,7 @@ part-put-end c = word-at (word (c .before)) .inside
 
 put-requires : tie.Need-put-requires
 unfolding wordBytes starts
-put-requires c κs = room-for (word-part (word (c .before .before .before))) (c .before .before .before .before .before .before .before .before .pre)
+put-requires c κs = room-for (word-at (word (c .before .before .before)) .part) (c .before .before .before .before .before .before .before .before .pre)
 
 enum-known-n : tie.Need-enum-known-n
 enum-known-n c = search needs
@@ -63,7 +63,7 @@ same-length c = search needs
 
 returns : tie.Need-returns
 unfolding wordBytes starts
-returns c = wrote _ (word-part (word (c .before .before .before .before .before .before))) (c .before .before .put .ensures)
+returns c = wrote _ (word-at (word (c .before .before .before .before .before .before)) .part) (c .before .before .put .ensures)
 
 same-length-2 : tie.Need-same-length-2
 same-length-2 c = search needs
