@@ -11,7 +11,8 @@ use Rattle.spec.specs.Table.{kindOf}
 use Rattle.spec.specs.Mask.{maskWord}
 use Rattle.spec.specs.Log.{conflictMask, raceKind, logged}
 use Rattle.layout.proofs.Memory.{LogIs}
-use Rattle.layout.proofs.LogBuffer.{ConflictIs, KindIs, LoggedIs, conflict-is, tested-load, tested-store, logged-load, logged-store, kind-rw, kind-ww, ConflictBy, LoggedBy}
+use Rattle.layout.proofs.LogBuffer.{ConflictIs, KindIs, LoggedIs, conflict-is, tested-load, tested-store, logged-load, logged-store, kind-rw, kind-ww}
+use Rattle.layout.proofs.LogBuffer.{ConflictBy, LoggedBy}
 
 pub mem-load : (op : ℕ) (m : Mem) → op ≡ 16 → opOf op ≡ MEM m → m ≡ LOAD
 unfolding opOf opTable
@@ -25,12 +26,14 @@ module _ (op k i : ℕ) (log : List ℕ) (h : i < k) where
   conflicts-load : (t w r : ℕ) → op ≡ 16 → w ≡ getD log (k + i) 0 → r ≡ bitAnd w (4294967295 - 2 ^ t) → ConflictIs op k i t log r
   unfolding kindOf
   conflicts-load t w r e ew q n v m G o few l L =
-      q ∙ conflict-is n k G log L i h few t l load w (ew ∙ tested-load n k G log L i h few t l) ∙ ap (λ x. maskWord (conflictMask G i t (kindOf x v))) (sym (mem-load op m e o))
+      q ∙ conflict-is n k G log L i h few t l load w (ew ∙ tested-load n k G log L i h few t l) ∙ ap (λ x. maskWord (conflictMask G i t (kindOf x v)))
+      (sym (mem-load op m e o))
 
   conflicts-store : (t w r : ℕ) → op ≡ 17 → w ≡ bitOr (getD log (k + i) 0) (getD log i 0) → r ≡ bitAnd w (4294967295 - 2 ^ t) → ConflictIs op k i t log r
   unfolding kindOf
   conflicts-store t w r e ew q n v m G o few l L =
-      q ∙ conflict-is n k G log L i h few t l (store v) w (ew ∙ tested-store n k G log L i h few t l v) ∙ ap (λ x. maskWord (conflictMask G i t (kindOf x v))) (sym (mem-store op m e o))
+      q ∙ conflict-is n k G log L i h few t l (store v) w (ew ∙ tested-store n k G log L i h few t l v)
+      ∙ ap (λ x. maskWord (conflictMask G i t (kindOf x v))) (sym (mem-store op m e o))
 
   pub kind-by-load : (u : ℕ) → op ≡ 16 → KindIs op k i u log WriteRead
   unfolding kindOf raceKind
@@ -58,7 +61,8 @@ module _ (op k i : ℕ) (log : List ℕ) (h : i < k) where
   pub conflict-by-load : (bit w r : ℕ) → op ≡ 16 → w ≡ getD log (k + i) 0 → r ≡ bitAnd w (4294967295 - bit) → ConflictBy op k i bit log r
   conflict-by-load bit w r e ew q t h b = conflicts-load t w r e ew (q ∙ ap (λ (x : ℕ). bitAnd w (4294967295 - x)) b)
 
-  pub conflict-by-store : (bit w r : ℕ) → op ≡ 17 → w ≡ bitOr (getD log (k + i) 0) (getD log i 0) → r ≡ bitAnd w (4294967295 - bit) → ConflictBy op k i bit log r
+  pub conflict-by-store : (bit w r : ℕ) → op ≡ 17 → w ≡ bitOr (getD log (k + i) 0) (getD log i 0) → r ≡ bitAnd w (4294967295 - bit)
+      → ConflictBy op k i bit log r
   conflict-by-store bit w r e ew q t h b = conflicts-store t w r e ew (q ∙ ap (λ (x : ℕ). bitAnd w (4294967295 - x)) b)
 
   pub logged-by-load : (bit : ℕ) → op ≡ 16 → LoggedBy op k i bit log (set log i (bitOr (getD log i 0) bit))

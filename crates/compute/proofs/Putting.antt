@@ -40,8 +40,8 @@ module _ (d : ℕ) (F : ℕ → ℕ) (regs : List ℕ) where
 pub ruleset putting = (puts-none, puts-more, puts-all, needs)
 
 -- Two that put the same into the lanes of n threads agree there.
-pub puts-agree : (d n : ℕ) (F G : ℕ → ℕ) (regs ys zs : List ℕ) → length regs ≡ 512 → n ≤ 32 → Puts d F regs ys 32 → Puts d G regs zs n → ((t : ℕ) → t < n → F t ≡ G t)
-    → (t r : ℕ) → t < n → lane r ys t ≡ lane r zs t
+pub puts-agree : (d n : ℕ) (F G : ℕ → ℕ) (regs ys zs : List ℕ) → length regs ≡ 512 → n ≤ 32 → Puts d F regs ys 32 → Puts d G regs zs n
+    → ((t : ℕ) → t < n → F t ≡ G t) → (t r : ℕ) → t < n → lane r ys t ≡ lane r zs t
 puts-agree d n F G regs ys zs s l P Q same t r h = by (ℕ-discrete r d)
   where
     by : Dec (r ≡ d) → lane r ys t ≡ lane r zs t
@@ -64,4 +64,5 @@ given-off on v d regs t n = sym (rw (ne-eqb on 1 n))
 module _ (v : List ℕ) (mask d : ℕ) (regs : List ℕ) (t : ℕ) where
   pub chosen-all : (n all : ℕ) → mask ≡ all → all ≡ 2 ^ n - 1 → t < n → getD v t 0 ≡ chosen v mask d regs t
   chosen-all n all e a h =
-      given-on (mask / 2 ^ t % 2) v d regs t (ap (λ z. z / 2 ^ t % 2) (e ∙ a ∙ ap (λ z. 2 ^ z - 1) (let q : n ≡ suc (n - 1 - t) + t = omega arith in q)) ∙ all-bits (n - 1 - t) t)
+      given-on (mask / 2 ^ t % 2) v d regs t
+      (ap (λ z. z / 2 ^ t % 2) (e ∙ a ∙ ap (λ z. 2 ^ z - 1) (let q : n ≡ suc (n - 1 - t) + t = omega arith in q)) ∙ all-bits (n - 1 - t) t)

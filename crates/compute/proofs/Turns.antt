@@ -99,21 +99,30 @@ module _ {op n d a b k : ℕ} {regs v : List ℕ} (mask : ℕ) (A : ComputeAsks 
     turn-off : (t : ℕ) → t < n → (mask / 2 ^ t % 2 ≡ 1 → ⊥) → after t ≡ after (suc t)
     unfolding after
     turn-off t h q =
-        sym (ap (set (after t) (d * 32 + t)) (sym (puts-old d new regs (after t) t (after-puts t (omega (arith, M .few))) ∙ given-off (mask / 2 ^ t % 2) v d regs t q)) ∙ set-getD (after t) (d * 32 + t) 0)
+        sym (ap (set (after t) (d * 32 + t))
+        (sym (puts-old d new regs (after t) t (after-puts t (omega (arith, M .few))) ∙ given-off (mask / 2 ^ t % 2) v d regs t q))
+        ∙ set-getD (after t) (d * 32 + t) 0)
 
-    step : (j t : ℕ) (rs : List ℕ) → Turning (turn c n x) n s j (t + 1) (mask / 2 ^ t / 2) rs cells log → Turning (turn c n x) n s j (suc t) (mask / 2 ^ suc t) rs cells log
+    step : (j t : ℕ) (rs : List ℕ) → Turning (turn c n x) n s j (t + 1) (mask / 2 ^ t / 2) rs cells log
+        → Turning (turn c n x) n s j (suc t) (mask / 2 ^ suc t) rs cells log
     step j t rs T = subst₂ (λ i m. Turning (turn c n x) n s j i m rs cells log) (add-one t) (shr-shr mask t 1 ∙ ap (λ i. mask / 2 ^ i) (add-one t)) T
 
     turns : (t : ℕ) → t ≤ n → (j : ℕ) × Turning (turn c n x) n s j t (mask / 2 ^ t) (after t) cells log
     unfolding after
-    turns zero h =
-        (0, subst (λ m. Turning (turn c n x) n s 0 0 m regs cells log) (let e : mask ≡ mask / 1 = omega arith in e) (turn-start (turn c n x) n s mask regs cells log em el M))
+    turns zero h = (
+      0,
+      subst (λ m. Turning (turn c n x) n s 0 0 m regs cells log) (let e : mask ≡ mask / 1 = omega arith in e)
+          (turn-start (turn c n x) n s mask regs cells log em el M),
+    )
     turns (suc t) h = by (turns t (omega arith)) (ℕ-discrete (mask / 2 ^ t % 2) 1)
       where
         by : (j : ℕ) × Turning (turn c n x) n s j t (mask / 2 ^ t) (after t) cells log → Dec (mask / 2 ^ t % 2 ≡ 1)
             → (j : ℕ) × Turning (turn c n x) n s j (suc t) (mask / 2 ^ suc t) (after (suc t)) cells log
-        by T (yes q) =
-            (T .0 + 1, step (T .0 + 1) t (after (suc t)) (turn-in (turn c n x) n s (T .0) t (mask / 2 ^ t) (after t) cells log (T .1) (after (suc t)) cells log h q (turn-of t h q)))
+        by T (yes q) = (
+          T .0 + 1,
+          step (T .0 + 1) t (after (suc t))
+              (turn-in (turn c n x) n s (T .0) t (mask / 2 ^ t) (after t) cells log (T .1) (after (suc t)) cells log h q (turn-of t h q)),
+        )
         by T (no q) = (
           T .0,
           subst (λ rs. Turning (turn c n x) n s (T .0) (suc t) (mask / 2 ^ suc t) rs cells log) (turn-off t h q)

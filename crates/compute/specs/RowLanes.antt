@@ -13,7 +13,8 @@ lane r regs t = getD regs (r * 32 + t) 0
 
 -- The lanes of a computing row. p and q are thread t's two registers, which ops 1 to 3 do not read.
 pub record RowLanes (op n a b k : ℕ) (regs v : List ℕ) : Type 0 where
-  pub at : (c : Calc) → opOf op ≡ CALC c → k ≡ a + 256 * b → (t p q : ℕ) → t < 32 → (4 ≤ op → p ≡ lane a regs t) → (4 ≤ op → q ≡ lane b regs t) → getD v t 0 ≡ value c n t a b p q
+  pub at : (c : Calc) → opOf op ≡ CALC c → k ≡ a + 256 * b → (t p q : ℕ) → t < 32 → (4 ≤ op → p ≡ lane a regs t) → (4 ≤ op → q ≡ lane b regs t)
+      → getD v t 0 ≡ value c n t a b p q
 
 -- Of register d the first t lanes hold F, and all else is as it was.
 pub record Puts (d : ℕ) (F : ℕ → ℕ) (regs regs′ : List ℕ) (t : ℕ) : Type 0 where

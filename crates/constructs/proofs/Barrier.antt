@@ -30,7 +30,9 @@ module _ (n : ℕ) (z : LockState) (s : State) (regs cells log saved openers : L
   some-on ne = any-some (z .enabled) (λ e. ne (R .enabled-is ∙ e))
 
   pub barrier-passes : 1 ≤ n → (q w a : ℕ) (log′ : List ℕ) → q ≡ s .row → w ≡ s .mask → a ≡ 2 ^ n - 1 → s .mask ≡ a → log′ ≡ replicate (length log) 0
-      → After n (barrierRow z) (next.Go (record { row = q + 1; mask = w; depth = s .depth; rows = s .rows + 1; steps = s .steps; barriers = s .barriers + 1 })) regs cells log′ saved openers
+      → After n (barrierRow z)
+      (next.Go (record { row = q + 1; mask = w; depth = s .depth; rows = s .rows + 1; steps = s .steps; barriers = s .barriers + 1 })) regs cells log′
+      saved openers
   unfolding barrierRow passBarrier
   barrier-passes o q w a log′ eq ew ea em el =
       let two : 2 ^ 1 ≤ 2 ^ n = pow-mono {i = 1} {j = n} o in
@@ -42,7 +44,13 @@ module _ (n : ℕ) (z : LockState) (s : State) (regs cells log saved openers : L
         record { row = q + 1; mask = w; depth = s .depth; rows = s .rows + 1; steps = s .steps; barriers = s .barriers + 1 },
         refl,
         record {
-          memory = record { few = M .few; regs-are = M .regs-are; cells-are = M .cells-are; log-is = cleared-is n (length (z .cells)) (z .log) log log′ (M .log-is) el };
+          memory = record {
+            few = M .few;
+            regs-are = M .regs-are;
+            cells-are = M .cells-are;
+            log-is = cleared-is n (length (z .cells)) (z .log) log
+                log′ (M .log-is) el;
+          };
           row-is = omega (arith, R .row-is);
           enabled-is = ew ∙ R .enabled-is;
           enabled-size = R .enabled-size;
@@ -56,7 +64,8 @@ module _ (n : ℕ) (z : LockState) (s : State) (regs cells log saved openers : L
         },
       )
 
-  pub barrier-stops : (a t w o : ℕ) → (s .mask ≡ 0 → ⊥) → a ≡ 2 ^ n - 1 → (s .mask ≡ a → ⊥) → t ≡ trailingZeros 32 (s .mask) → w ≡ bitAnd a (4294967295 - s .mask) → o ≡ trailingZeros 32 w
+  pub barrier-stops : (a t w o : ℕ) → (s .mask ≡ 0 → ⊥) → a ≡ 2 ^ n - 1 → (s .mask ≡ a → ⊥) → t ≡ trailingZeros 32 (s .mask)
+      → w ≡ bitAnd a (4294967295 - s .mask) → o ≡ trailingZeros 32 w
       → After n (barrierRow z) (next.Stop (Diverged t o) s) regs cells log saved openers
   unfolding barrierRow
   barrier-stops a t w o ne ea nm et ew eo =
@@ -65,7 +74,9 @@ module _ (n : ℕ) (z : LockState) (s : State) (regs cells log saved openers : L
       let few : length (z .enabled) ≤ 32 = omega (arith, R .enabled-size, R .memory .few) in
       let others : w ≡ maskWord (map not (z .enabled)) =
       ew ∙ ap₂ (λ x y. bitAnd x (4294967295 - y)) (ea ∙ ap (λ k. 2 ^ k - 1) (sym (R .enabled-size)) ∙ sym (word-all (length (z .enabled)))) (R .enabled-is)
-      ∙ word-minus (replicate (length (z .enabled)) true) (z .enabled) 32 (omega (arith, length-replicate (length (z .enabled)) true)) few ∙ ap maskWord (rest-is (z .enabled)) in
+      ∙ word-minus (replicate (length (z .enabled)) true) (z .enabled) 32 (omega (arith, length-replicate (length (z .enabled)) true)) few
+      ∙ ap maskWord (rest-is (z .enabled)) in
       let first : t ≡ lowest (z .enabled) = et ∙ ap (trailingZeros 32) (R .enabled-is) ∙ lowest-is (z .enabled) 32 few yes-any in
-      let other : o ≡ lowest (map not (z .enabled)) = eo ∙ ap (trailingZeros 32) others ∙ lowest-is (map not (z .enabled)) 32 (omega (arith, rest-size (z .enabled))) (rest-any (z .enabled) part) in
+      let other : o ≡ lowest (map not (z .enabled)) = eo ∙ ap (trailingZeros 32) others
+      ∙ lowest-is (map not (z .enabled)) 32 (omega (arith, rest-size (z .enabled))) (rest-any (z .enabled) part) in
       rw (yes-any, part) (s, ap₂ (λ x y. next.Stop (Diverged x y) s) first other, R)

@@ -25,7 +25,8 @@ module _ (n : ℕ) (regs : List (List ℕ)) (flat : List ℕ) (R : Regs n regs f
 
   places : (u r : ℕ) → u < n → r < 16 → Dec (u ≡ t) → Dec (r ≡ d)
       → getD (set flat (d * 32 + t) v) (r * 32 + u) 0 ≡ getD (getD (set regs t (set (getD regs t []) d v)) u []) r 0
-  places u r k q (no ne) x = getD-set-other flat (d * 32 + t) (r * 32 + u) v 0 (λ e. ne (omega arith)) ∙ R .at u r k q ∙ sym (ap (λ z. getD z r 0) (other-row u ne))
+  places u r k q (no ne) x =
+      getD-set-other flat (d * 32 + t) (r * 32 + u) v 0 (λ e. ne (omega arith)) ∙ R .at u r k q ∙ sym (ap (λ z. getD z r 0) (other-row u ne))
   places u r k q (yes e) (no ne) =
       getD-set-other flat (d * 32 + t) (r * 32 + u) v 0 (λ p. ne (omega arith)) ∙ R .at u r k q ∙ ap (λ z. getD (getD regs z []) r 0) e
       ∙ sym (getD-set-other (getD regs t []) d r v 0 ne) ∙ sym (ap (λ z. getD z r 0) same-row)
@@ -67,7 +68,8 @@ module _ (R W : List Mask) (k c : ℕ) (e : length R ≡ k) (h : c < k) where
 
   pub reader-set : (m : Mask) → set (map maskWord R ++ map maskWord W) c (maskWord m) ≡ map maskWord (set R c m) ++ map maskWord W
   reader-set m =
-      set-append-left (map maskWord R) (map maskWord W) c (maskWord m) (omega (arith, length-map R maskWord)) ∙ ap (λ z. z ++ map maskWord W) (sym (map-set maskWord R c m))
+      set-append-left (map maskWord R) (map maskWord W) c (maskWord m) (omega (arith, length-map R maskWord))
+      ∙ ap (λ z. z ++ map maskWord W) (sym (map-set maskWord R c m))
 
   pub writer-set : (m : Mask) → set (map maskWord R ++ map maskWord W) (k + c) (maskWord m) ≡ map maskWord R ++ map maskWord (set W c m)
   writer-set m =

@@ -12,4 +12,5 @@ map-set f (x ∷ l) (suc i) a = ap (λ z. f x ∷ z) (map-set f l i a)
 
 pub set-append-right : {A : Type 0} (xs ys : List A) (i : ℕ) (a : A) → set (xs ++ ys) (length xs + i) a ≡ xs ++ set ys i a
 set-append-right [] ys i a = ap (λ k. set ys k a) (let z : 0 + i ≡ i = omega arith in z)
-set-append-right (x ∷ xs) ys i a = ap (λ k. set (x ∷ (xs ++ ys)) k a) (let z : suc (length xs) + i ≡ suc (length xs + i) = omega arith in z) ∙ ap (λ z. x ∷ z) (set-append-right xs ys i a)
+set-append-right (x ∷ xs) ys i a =
+    ap (λ k. set (x ∷ (xs ++ ys)) k a) (let z : suc (length xs) + i ≡ suc (length xs + i) = omega arith in z) ∙ ap (λ z. x ∷ z) (set-append-right xs ys i a)

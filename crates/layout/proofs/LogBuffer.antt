@@ -75,7 +75,8 @@ module _ (n k : ℕ) (G : Log) (log : List ℕ) (L : LogIs n k G log) where
       logged-load e q =
           record {
             words-are =
-                ap₂ (λ y z. set y c z) (L .words-are) (q ∙ ap (λ z. bitOr z (2 ^ t)) reader-is ∙ word-set (getD (G .readers) c []) t (omega (arith, reader-size)))
+                ap₂ (λ y z. set y c z) (L .words-are)
+                (q ∙ ap (λ z. bitOr z (2 ^ t)) reader-is ∙ word-set (getD (G .readers) c []) t (omega (arith, reader-size)))
                 ∙ reader-set (G .readers) (G .writers) k c (L .readers-are .count) h (set (getD (G .readers) c []) t true);
             readers-are = masks-set n k (G .readers) c _ (L .readers-are) h (length-set (getD (G .readers) c []) t true ∙ reader-size);
             writers-are = L .writers-are;
@@ -86,7 +87,8 @@ module _ (n k : ℕ) (G : Log) (log : List ℕ) (L : LogIs n k G log) where
       logged-store v e q =
           record {
             words-are =
-                ap₂ (λ y z. set y (k + c) z) (L .words-are) (q ∙ ap (λ z. bitOr z (2 ^ t)) writer-is ∙ word-set (getD (G .writers) c []) t (omega (arith, writer-size)))
+                ap₂ (λ y z. set y (k + c) z) (L .words-are)
+                (q ∙ ap (λ z. bitOr z (2 ^ t)) writer-is ∙ word-set (getD (G .writers) c []) t (omega (arith, writer-size)))
                 ∙ writer-set (G .readers) (G .writers) k c (L .readers-are .count) h (set (getD (G .writers) c []) t true);
             readers-are = L .readers-are;
             writers-are = masks-set n k (G .writers) c _ (L .writers-are) h (length-set (getD (G .writers) c []) t true ∙ writer-size);
@@ -153,7 +155,8 @@ unfolding cleared logWords
 cleared-is n k G log log′ L e =
     record {
       words-are = e ∙ ap (λ j. replicate j 0) (log-size n k G log L ∙ twice) ∙ sym (replicate-append-replicate k k 0)
-          ∙ sym (ap₂ _++_ (zero-words (G .readers) ∙ ap (λ j. replicate j 0) (L .readers-are .count)) (zero-words (G .writers) ∙ ap (λ j. replicate j 0) (L .writers-are .count)));
+          ∙ sym (ap₂ _++_ (zero-words (G .readers) ∙ ap (λ j. replicate j 0) (L .readers-are .count))
+          (zero-words (G .writers) ∙ ap (λ j. replicate j 0) (L .writers-are .count)));
       readers-are = cleared-masks n k (G .readers) (L .readers-are);
       writers-are = cleared-masks n k (G .writers) (L .writers-are);
     }
@@ -163,7 +166,8 @@ cleared-is n k G log log′ L e =
 
 -- And at the start it is the empty one.
 empty-masks : (n k : ℕ) → Masks n k (replicate k (replicate n false))
-empty-masks n k = record { count = length-replicate k (replicate n false); each = λ c h. ap length (getD-replicate k c (replicate n false) [] h) ∙ length-replicate n false }
+empty-masks n k =
+    record { count = length-replicate k (replicate n false); each = λ c h. ap length (getD-replicate k c (replicate n false) [] h) ∙ length-replicate n false }
 
 empty-words : (n k : ℕ) → map maskWord (replicate k (replicate n false)) ≡ replicate k 0
 empty-words n zero = refl

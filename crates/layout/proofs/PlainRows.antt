@@ -20,7 +20,8 @@ pub counts-accessed : (s : State) (r : Next) (a : Access) (k : ℕ) → r ≡ ac
 counts-accessed s r Done k e h = subst (Counts s) (sym e) (counted-moved s (movedOn s k) k refl h)
 counts-accessed s r (Stop v) k e h = subst (Counts s) (sym e) refl
 
-pub memory-advance : (n r : ℕ) (m : Mask) (v : List Saved) (z : LockState) (regs cells log : List ℕ) → Memory n z regs cells log → Memory n (advance r m v z) regs cells log
+pub memory-advance : (n r : ℕ) (m : Mask) (v : List Saved) (z : LockState) (regs cells log : List ℕ) → Memory n z regs cells log
+    → Memory n (advance r m v z) regs cells log
 unfolding advance
 memory-advance n r m v z regs cells log M = record { few = M .few; regs-are = M .regs-are; cells-are = M .cells-are; log-is = M .log-is }
 
@@ -44,7 +45,8 @@ module _ (n : ℕ) (z : LockState) (s : State) (regs cells log saved openers : L
         barriers-is = R .barriers-is ∙ sym (K .barriers-same);
       }
 
-  pub stands : (k : ℕ) (y : LockState) (regs′ cells′ log′ : List ℕ) → Kept k z y → Memory n y regs′ cells′ log′ → Represents n y (heldBack s k) regs′ cells′ log′ saved openers
+  pub stands : (k : ℕ) (y : LockState) (regs′ cells′ log′ : List ℕ) → Kept k z y → Memory n y regs′ cells′ log′
+      → Represents n y (heldBack s k) regs′ cells′ log′ saved openers
   stands k y regs′ cells′ log′ K M =
       record {
         memory = M;
@@ -60,14 +62,17 @@ module _ (n : ℕ) (z : LockState) (s : State) (regs cells log saved openers : L
         barriers-is = R .barriers-is ∙ sym (K .barriers-same);
       }
 
-  pub plain-after : (f : LockState → ℕ → Step) (k : ℕ) (a : Access) (r : Next) (regs′ cells′ log′ : List ℕ) → Did n k z (inTurn f (members (z .enabled)) z) a regs′ cells′ log′ → r ≡ accessed s a k
+  pub plain-after : (f : LockState → ℕ → Step) (k : ℕ) (a : Access) (r : Next) (regs′ cells′ log′ : List ℕ)
+      → Did n k z (inTurn f (members (z .enabled)) z) a regs′ cells′ log′ → r ≡ accessed s a k
       → After n (forEnabled f z) r regs′ cells′ log′ saved openers
   unfolding forEnabled
   plain-after f k a r regs′ cells′ log′ D e = by (inTurn f (members (z .enabled)) z) D
     where
-      by : (x : Step) → Did n k z x a regs′ cells′ log′ → After n (andThen x (λ y. continues (advance (suc (y .row)) (y .enabled) (y .saved) y))) r regs′ cells′ log′ saved openers
+      by : (x : Step) → Did n k z x a regs′ cells′ log′
+          → After n (andThen x (λ y. continues (advance (suc (y .row)) (y .enabled) (y .saved) y))) r regs′ cells′ log′ saved openers
       by (continues y) D = unfold andThen in (movedOn s k, e ∙ ap (λ b. accessed s b k) (D .answer), moves-on k y regs′ cells′ log′ (D .kept) (D .memory))
       by (stops v y) D = unfold andThen in (heldBack s k, e ∙ ap (λ b. accessed s b k) (D .answer), stands k y regs′ cells′ log′ (D .kept) (D .memory))
 
-  pub after-is : (o o′ : Step) (r : Next) (regs′ cells′ log′ saved′ openers′ : List ℕ) → o ≡ o′ → After n o′ r regs′ cells′ log′ saved′ openers′ → After n o r regs′ cells′ log′ saved′ openers′
+  pub after-is : (o o′ : Step) (r : Next) (regs′ cells′ log′ saved′ openers′ : List ℕ) → o ≡ o′ → After n o′ r regs′ cells′ log′ saved′ openers′
+      → After n o r regs′ cells′ log′ saved′ openers′
   after-is o o′ r regs′ cells′ log′ saved′ openers′ e A = subst (λ x. After n x r regs′ cells′ log′ saved′ openers′) (sym e) A

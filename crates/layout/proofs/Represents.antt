@@ -8,7 +8,8 @@ use Rattle.spec.specs.Op.{WHILE, opOf}
 use Rattle.spec.specs.Table.{Table, Row, endOf}
 use Rattle.spec.specs.Shape.{Shape}
 use Rattle.spec.specs.Mask.{maskWord, holding}
-use Rattle.spec.specs.LockStep.{Saved, LockState, Step, continues, stops, advance, countSteps, savedAtWhile, leaveOrStay, elseRow, endifRow, endwhileRow, barrierRow, runRow}
+use Rattle.spec.specs.LockStep.{Saved, LockState, Step, continues, stops, advance, countSteps, savedAtWhile, leaveOrStay, elseRow, endifRow}
+use Rattle.spec.specs.LockStep.{endwhileRow, barrierRow, runRow}
 use Rattle.layout.specs.declared.Access.{Access}
 use Rattle.layout.specs.declared.Access.the-variants.{Done, Stop}
 use Rattle.layout.specs.declared.State.{State}
@@ -76,8 +77,10 @@ Becomes f n regs s saved openers r saved′ openers′ =
 pub record EnteredWhile (k : ℕ) (s : State) (saved openers saved′ openers′ : List ℕ) : Type 0 where
   pub some : 0 < k
   pub few : k ≤ 8
-  pub are : (n : ℕ) (z : LockState) → s .row ≡ z .row → s .mask ≡ maskWord (z .enabled) → length (z .enabled) ≡ n → s .depth ≡ length (z .saved) → Saves n (z .saved) saved openers → length saved ≡ 8 → length openers ≡ 8
-      → (k ≡ length (savedAtWhile (z .row) (z .enabled) (z .saved))) × Saves n (savedAtWhile (z .row) (z .enabled) (z .saved)) saved′ openers′ × (length saved′ ≡ 8) × (length openers′ ≡ 8)
+  pub are : (n : ℕ) (z : LockState) → s .row ≡ z .row → s .mask ≡ maskWord (z .enabled) → length (z .enabled) ≡ n → s .depth ≡ length (z .saved)
+      → Saves n (z .saved) saved openers → length saved ≡ 8 → length openers ≡ 8
+      → (k ≡ length (savedAtWhile (z .row) (z .enabled) (z .saved))) × Saves n (savedAtWhile (z .row) (z .enabled) (z .saved)) saved′ openers′
+      × (length saved′ ≡ 8) × (length openers′ ≡ 8)
 
 -- A WHILE has room for its mask, or has it on top already.
 abbrev pub RoomForWhile : State → List ℕ → Type 0
@@ -92,7 +95,8 @@ pub record DepthAsks (op : ℕ) (s : State) (openers : List ℕ) : Type 0 where
 -- A row of a construct, by its op; e is the row of a WHILE's ENDWHILE.
 abbrev pub ConstructDone : (op n a e : ℕ) → (regs : List ℕ) → (s : State) → (saved openers : List ℕ) → (r : State) → (saved′ openers′ : List ℕ) → Type 0
 ConstructDone op n a e regs s saved openers r saved′ openers′ =
-    Counted s r × ((cells log : List ℕ) (T : Table) (L : Shape) (x : Row) (z : LockState) → x .op ≡ opOf op → x .a ≡ a → (x .op ≡ WHILE → e ≡ endOf T (z .row)) → Represents n z s regs cells log saved openers
+    Counted s r × ((cells log : List ℕ) (T : Table) (L : Shape) (x : Row) (z : LockState) → x .op ≡ opOf op → x .a ≡ a
+    → (x .op ≡ WHILE → e ≡ endOf T (z .row)) → Represents n z s regs cells log saved openers
     → After n (runRow T L x z (x .op)) (next.Go r) regs cells log saved′ openers′)
 
 -- IF and WHILE by the register that they test.
@@ -120,4 +124,5 @@ WhileBecomes n a e regs s saved openers r saved′ openers′ =
 
 abbrev pub BarrierDone : (n : ℕ) (s : State) → (log : List ℕ) → (r : Next) → (log′ : List ℕ) → Type 0
 BarrierDone n s log r log′ =
-    Counts s r × ((regs cells saved openers : List ℕ) (z : LockState) → Represents n z s regs cells log saved openers → After n (barrierRow z) r regs cells log′ saved openers)
+    Counts s r × ((regs cells saved openers : List ℕ) (z : LockState) → Represents n z s regs cells log saved openers
+    → After n (barrierRow z) r regs cells log′ saved openers)

@@ -48,14 +48,18 @@ shapeBy n cells = record { threads = n; cells = length cells }
 -- What an access row comes to.
 abbrev pub AccessDone : (op n d a : ℕ) (s : State) → (regs cells log : List ℕ) → (r : Next) → (regs′ cells′ log′ : List ℕ) → Type 0
 AccessDone op n d a s regs cells log r regs′ cells′ log′ =
-    Counts s r × ((saved openers : List ℕ) (T : Table) (x : Row) (z : LockState) → x .op ≡ opOf op → x .d ≡ d → x .a ≡ a → Represents n z s regs cells log saved openers
+    Counts s r × ((saved openers : List ℕ) (T : Table) (x : Row) (z : LockState) → x .op ≡ opOf op → x .d ≡ d → x .a ≡ a
+    → Represents n z s regs cells log saved openers
     → After n (runRow T (shapeBy n cells) x z (x .op)) r regs′ cells′ log′ saved openers)
 
 -- What a step comes to.
-abbrev pub Steps : (table ends : List ℕ) (n : ℕ) (s : State) → (regs cells log saved openers : List ℕ) → (r : Next) → (regs′ cells′ log′ saved′ openers′ : List ℕ) → Type 0
+abbrev pub Steps : (table ends : List ℕ) (n : ℕ) (s : State) → (regs cells log saved openers : List ℕ) → (r : Next)
+    → (regs′ cells′ log′ saved′ openers′ : List ℕ) → Type 0
 Steps table ends n s regs cells log saved openers r regs′ cells′ log′ saved′ openers′ =
-    Counts s r × ((z : LockState) → s .row < length (rowsOf table) → (rowAt (rowsOf table) (s .row) .op ≡ WHILE → getD ends (s .row) 0 ≡ endOf (rowsOf table) (s .row)) → Represents n z s regs cells log saved openers
-    → After n (runRow (rowsOf table) (shapeBy n cells) (rowAt (rowsOf table) (z .row)) z (rowAt (rowsOf table) (z .row) .op)) r regs′ cells′ log′ saved′ openers′)
+    Counts s r × ((z : LockState) → s .row < length (rowsOf table)
+    → (rowAt (rowsOf table) (s .row) .op ≡ WHILE → getD ends (s .row) 0 ≡ endOf (rowsOf table) (s .row)) → Represents n z s regs cells log saved openers
+    → After n (runRow (rowsOf table) (shapeBy n cells) (rowAt (rowsOf table) (z .row)) z (rowAt (rowsOf table) (z .row) .op)) r regs′ cells′ log′
+    saved′ openers′)
 
 -- What the run comes to: the answer, the cells and the log are those of the definition's result o.
 pub record RunIs (o : LockResult) (r : Outcome) (cells log : List ℕ) : Type 0 where

@@ -13,10 +13,15 @@ use Rattle.layout.specs.declared.State.{State}
 use Rattle.layout.proofs.Represents.{Saves, EnteredWhile, RoomForWhile}
 
 -- a store above the saved masks leaves them
-pub saves-above : (n : ℕ) (v : List Saved) (saved openers : List ℕ) (i j x y : ℕ) → length v ≤ i → length v ≤ j → Saves n v saved openers → Saves n v (set saved i x) (set openers j y)
+pub saves-above : (n : ℕ) (v : List Saved) (saved openers : List ℕ) (i j x y : ℕ) → length v ≤ i → length v ≤ j → Saves n v saved openers
+    → Saves n v (set saved i x) (set openers j y)
 saves-above n [] saved openers i j x y h k S = tt
-saves-above n (f ∷ v) saved openers i j x y h k (p, q, r, S) =
-    (getD-set-other saved i (length v) x 0 (λ e. omega arith) ∙ p, q, getD-set-other openers j (length v) y 0 (λ e. omega arith) ∙ r, saves-above n v saved openers i j x y (omega arith) (omega arith) S)
+saves-above n (f ∷ v) saved openers i j x y h k (p, q, r, S) = (
+  getD-set-other saved i (length v) x 0 (λ e. omega arith) ∙ p,
+  q,
+  getD-set-other openers j (length v) y 0 (λ e. omega arith) ∙ r,
+  saves-above n v saved openers i j x y (omega arith) (omega arith) S,
+)
 
 -- a mask is saved
 pub saves-push : (n : ℕ) (v : List Saved) (saved openers : List ℕ) (d x y r : ℕ) (m : Mask) → length saved ≡ 8 → length openers ≡ 8 → d ≡ length v → d < 8
@@ -29,8 +34,8 @@ saves-push n v saved openers d x y r m ls lo ed h ex em ey S = (
 )
 
 -- the innermost construct's row is put in anew
-pub saves-anew : (n : ℕ) (v : List Saved) (saved openers : List ℕ) (d y r : ℕ) → length openers ≡ 8 → d ≡ length v → 0 < d → d ≤ 8 → y ≡ r → Saves n v saved openers
-    → Saves n (record { opener = r; mask = topMask v } ∷ pop v) saved (set openers (d - 1) y)
+pub saves-anew : (n : ℕ) (v : List Saved) (saved openers : List ℕ) (d y r : ℕ) → length openers ≡ 8 → d ≡ length v → 0 < d → d ≤ 8 → y ≡ r
+    → Saves n v saved openers → Saves n (record { opener = r; mask = topMask v } ∷ pop v) saved (set openers (d - 1) y)
 unfolding topMask pop
 saves-anew n [] saved openers d y r lo ed h k ey S = absurd (omega arith)
 saves-anew n (f ∷ v) saved openers d y r lo ed h k ey (p, q, o, S) =
@@ -43,11 +48,13 @@ saves-anew n (f ∷ v) saved openers d y r lo ed h k ey (p, q, o, S) =
   where
     only : (n : ℕ) (v : List Saved) (saved openers : List ℕ) (j y : ℕ) → length v ≤ j → Saves n v saved openers → Saves n v saved (set openers j y)
     only n [] saved openers j y k S = tt
-    only n (f ∷ v) saved openers j y k (p, q, r, S) = (p, q, getD-set-other openers j (length v) y 0 (λ e. omega arith) ∙ r, only n v saved openers j y (omega arith) S)
+    only n (f ∷ v) saved openers j y k (p, q, r, S) =
+        (p, q, getD-set-other openers j (length v) y 0 (λ e. omega arith) ∙ r, only n v saved openers j y (omega arith) S)
 
 -- what stands on top
 module _ (n : ℕ) where
-  pub saves-top : (v : List Saved) (saved openers : List ℕ) (d : ℕ) → d ≡ length v → 0 < d → Saves n v saved openers → getD saved (d - 1) 0 ≡ maskWord (topMask v)
+  pub saves-top : (v : List Saved) (saved openers : List ℕ) (d : ℕ) → d ≡ length v → 0 < d → Saves n v saved openers
+      → getD saved (d - 1) 0 ≡ maskWord (topMask v)
   unfolding topMask
   saves-top [] saved openers d e h S = absurd (omega arith)
   saves-top (f ∷ v) saved openers d e h S = ap (λ z. getD saved z 0) (let y : d - 1 ≡ length v = omega arith in y) ∙ S .0
@@ -78,7 +85,8 @@ anew-length [] d r e h = absurd (omega arith)
 anew-length (f ∷ v) d r e h = omega arith
 
 -- A WHILE come to from above, and from its ENDWHILE.
-pub saved-new : (r : ℕ) (m : Mask) (v : List Saved) → ((f : Saved) (w : List Saved) → v ≡ f ∷ w → f .opener ≡ r → ⊥) → savedAtWhile r m v ≡ record { opener = r; mask = m } ∷ v
+pub saved-new : (r : ℕ) (m : Mask) (v : List Saved) → ((f : Saved) (w : List Saved) → v ≡ f ∷ w → f .opener ≡ r → ⊥)
+    → savedAtWhile r m v ≡ record { opener = r; mask = m } ∷ v
 unfolding savedAtWhile
 saved-new r m [] h = refl
 saved-new r m (f ∷ v) h = rw (ne-eqb (f .opener) r (h f v refl))
@@ -100,7 +108,8 @@ module _ (s : State) (saved openers : List ℕ) where
         some = h;
         few = k;
         are = λ n z er em on ed S ls lo.
-            let q : savedAtWhile (z .row) (z .enabled) (z .saved) ≡ z .saved = saved-old (z .row) (z .enabled) (z .saved) (omega arith) (sym (saves-back n (z .saved) saved openers (s .depth) ed h S) ∙ e ∙ er) in
+            let q : savedAtWhile (z .row) (z .enabled) (z .saved) ≡ z .saved = saved-old (z .row) (z .enabled) (z .saved) (omega arith)
+            (sym (saves-back n (z .saved) saved openers (s .depth) ed h S) ∙ e ∙ er) in
             (ed ∙ sym (ap length q), subst (λ v. Saves n v saved openers) (sym q) S, ls, lo);
       }
 
@@ -121,7 +130,8 @@ module _ (s : State) (saved openers : List ℕ) where
             );
       }
     where
-      apart : (n : ℕ) (z : LockState) → s .row ≡ z .row → s .depth ≡ length (z .saved) → Saves n (z .saved) saved openers → (f : Saved) (w : List Saved) → z .saved ≡ f ∷ w → f .opener ≡ z .row → ⊥
+      apart : (n : ℕ) (z : LockState) → s .row ≡ z .row → s .depth ≡ length (z .saved) → Saves n (z .saved) saved openers
+          → (f : Saved) (w : List Saved) → z .saved ≡ f ∷ w → f .opener ≡ z .row → ⊥
       apart n z er ed S f w p o =
           let h : 0 < s .depth = omega (arith, ap length p) in
           ne h (saves-back n (z .saved) saved openers (s .depth) ed h S ∙ ap topOpener p ∙ back-cons f w ∙ o ∙ sym er)

@@ -40,7 +40,8 @@ pub record Turning (f : LockState → ℕ → Step) (n : ℕ) (s : LockState) (k
   pub counted : k + length (membersFrom t rest) ≡ length (members (s .enabled))
 
 module _ (f : LockState → ℕ → Step) (n : ℕ) (s : LockState) where
-  pub turn-start : (mask : ℕ) (regs cells log : List ℕ) → mask ≡ maskWord (s .enabled) → length (s .enabled) ≡ n → Memory n s regs cells log → Turning f n s 0 0 mask regs cells log
+  pub turn-start : (mask : ℕ) (regs cells log : List ℕ) → mask ≡ maskWord (s .enabled) → length (s .enabled) ≡ n → Memory n s regs cells log
+      → Turning f n s 0 0 mask regs cells log
   unfolding members
   turn-start mask regs cells log e l M =
       record { here = s; rest = s .enabled; mask = e; left = omega arith; same = refl; memory = M; kept = kept-none s; counted = omega arith }
@@ -49,8 +50,11 @@ module _ (f : LockState → ℕ → Step) (n : ℕ) (s : LockState) where
     pub turn-done : n ≤ t → Did n k s (inTurn f (members (s .enabled)) s) Done regs cells log
     turn-done h = by (C .rest) (C .left) (C .same)
       where
-        by : (rest : Mask) → t + length rest ≡ n → inTurn f (membersFrom t rest) (C .here) ≡ inTurn f (members (s .enabled)) s → Did n k s (inTurn f (members (s .enabled)) s) Done regs cells log
-        by [] l e = let e′ : continues (C .here) ≡ inTurn f (members (s .enabled)) s = (unfold membersFrom inTurn in e) in subst (λ o. Did n k s o Done regs cells log) e′ (record { answer = refl; memory = C .memory; kept = C .kept })
+        by : (rest : Mask) → t + length rest ≡ n → inTurn f (membersFrom t rest) (C .here) ≡ inTurn f (members (s .enabled)) s
+            → Did n k s (inTurn f (members (s .enabled)) s) Done regs cells log
+        by [] l e =
+            let e′ : continues (C .here) ≡ inTurn f (members (s .enabled)) s = (unfold membersFrom inTurn in e) in
+            subst (λ o. Did n k s o Done regs cells log) e′ (record { answer = refl; memory = C .memory; kept = C .kept })
         by (b ∷ rest) l e = absurd (omega arith)
 
     pub turn-count : n ≤ t → k ≡ length (members (s .enabled))
@@ -87,11 +91,13 @@ module _ (f : LockState → ℕ → Step) (n : ℕ) (s : LockState) where
               counted = ap (λ z. k + length (membersFrom z rest)) u ∙ (unfold membersFrom in c);
             }
 
-    pub turn-in : (regs′ cells′ log′ : List ℕ) → t < n → m % 2 ≡ 1 → OneTurn f n t regs cells log Done regs′ cells′ log′ → Turning f n s (k + 1) (t + 1) (m / 2) regs′ cells′ log′
+    pub turn-in : (regs′ cells′ log′ : List ℕ) → t < n → m % 2 ≡ 1 → OneTurn f n t regs cells log Done regs′ cells′ log′
+        → Turning f n s (k + 1) (t + 1) (m / 2) regs′ cells′ log′
     turn-in regs′ cells′ log′ h o d = by (C .rest) (C .mask) (C .left) (C .same) (C .counted)
       where
-        at : (rest : Mask) (x : Step) → inTurn f (t ∷ membersFrom (suc t) rest) (C .here) ≡ andThen x (inTurn f (membersFrom (suc t) rest)) → Did n (stepsOf x) (C .here) x Done regs′ cells′ log′
-            → m / 2 ≡ maskWord rest → t + 1 + length rest ≡ n → inTurn f (t ∷ membersFrom (suc t) rest) (C .here) ≡ inTurn f (members (s .enabled)) s
+        at : (rest : Mask) (x : Step) → inTurn f (t ∷ membersFrom (suc t) rest) (C .here) ≡ andThen x (inTurn f (membersFrom (suc t) rest))
+            → Did n (stepsOf x) (C .here) x Done regs′ cells′ log′ → m / 2 ≡ maskWord rest → t + 1 + length rest ≡ n
+            → inTurn f (t ∷ membersFrom (suc t) rest) (C .here) ≡ inTurn f (members (s .enabled)) s
             → k + 1 + length (membersFrom (suc t) rest) ≡ length (members (s .enabled)) → Turning f n s (k + 1) (t + 1) (m / 2) regs′ cells′ log′
         at rest (stops v z) p D e l q c = let z : _≡_ {A = ℕ} 0 1 = cc (D .answer) in absurd (omega arith)
         at rest (continues z) p D e l q c =
@@ -114,7 +120,8 @@ module _ (f : LockState → ℕ → Step) (n : ℕ) (s : LockState) where
         by (false ∷ rest) e l q c = let z : _≡_ {A = ℕ} 0 1 = sym (word-odd false rest) ∙ sym (ap (λ z. z % 2) e) ∙ o in absurd (omega arith)
         by (true ∷ rest) e l q c =
             at rest (f (C .here) t) (unfold inTurn in refl) (d (C .here) (C .memory)) (ap (λ z. z / 2) e ∙ word-half true rest) (omega arith)
-            (unfold membersFrom in q) (let c′ : k + suc (length (membersFrom (suc t) rest)) ≡ length (members (s .enabled)) = (unfold membersFrom in c) in omega arith)
+            (unfold membersFrom in q)
+            (let c′ : k + suc (length (membersFrom (suc t) rest)) ≡ length (members (s .enabled)) = (unfold membersFrom in c) in omega arith)
 
     pub turn-stop : (v : Verdict) (regs′ cells′ log′ : List ℕ) → t < n → m % 2 ≡ 1 → OneTurn f n t regs cells log (Stop v) regs′ cells′ log′
         → Did n k s (inTurn f (members (s .enabled)) s) (Stop v) regs′ cells′ log′
@@ -126,7 +133,12 @@ module _ (f : LockState → ℕ → Step) (n : ℕ) (s : LockState) where
         at ts (stops w z) D q =
             let q′ : stops w z ≡ inTurn f (members (s .enabled)) s = (unfold andThen in q) in
             subst (λ x. Did n k s x (Stop v) regs′ cells′ log′) q′
-            (record { answer = D .answer; memory = D .memory; kept = subst (λ j. Kept j s z) (let e : k + 0 ≡ k = omega arith in e) (kept-more k 0 s (C .here) z (C .kept) (D .kept)) })
+            (record {
+              answer = D .answer;
+              memory = D .memory;
+              kept = subst (λ j. Kept j s z) (let e : k + 0 ≡ k = omega arith in e)
+                  (kept-more k 0 s (C .here) z (C .kept) (D .kept));
+            })
 
         by : (rest : Mask) → m ≡ maskWord rest → t + length rest ≡ n → inTurn f (membersFrom t rest) (C .here) ≡ inTurn f (members (s .enabled)) s
             → Did n k s (inTurn f (members (s .enabled)) s) (Stop v) regs′ cells′ log′
@@ -135,8 +147,9 @@ module _ (f : LockState → ℕ → Step) (n : ℕ) (s : LockState) where
         by (true ∷ rest) e l q = at (membersFrom (suc t) rest) (f (C .here) t) (d (C .here) (C .memory)) (unfold membersFrom inTurn in q)
 
     -- as the code has it: what the callee answered, and the buffers as the branches leave them
-    pub go-in : (r : Access) (regs₁ cells₁ log₁ regs₂ cells₂ log₂ : List ℕ) (k₂ : ℕ) → t < n → m % 2 ≡ 1 → OneTurn f n t regs cells log r regs₁ cells₁ log₁ → r ≡ Done
-        → regs₂ ≡ regs₁ → cells₂ ≡ cells₁ → log₂ ≡ log₁ → k₂ ≡ k + 1 → Turning f n s k₂ (t + 1) (m / 2) regs₂ cells₂ log₂
+    pub go-in : (r : Access) (regs₁ cells₁ log₁ regs₂ cells₂ log₂ : List ℕ) (k₂ : ℕ) → t < n → m % 2 ≡ 1
+        → OneTurn f n t regs cells log r regs₁ cells₁ log₁ → r ≡ Done → regs₂ ≡ regs₁ → cells₂ ≡ cells₁ → log₂ ≡ log₁ → k₂ ≡ k + 1
+        → Turning f n s k₂ (t + 1) (m / 2) regs₂ cells₂ log₂
     go-in r regs₁ cells₁ log₁ regs₂ cells₂ log₂ k₂ h o d e er ec el ek =
         subst (λ z. Turning f n s z (t + 1) (m / 2) regs₂ cells₂ log₂) (sym ek)
         (subst (λ z. Turning f n s (k + 1) (t + 1) (m / 2) z cells₂ log₂) (sym er)
@@ -144,7 +157,8 @@ module _ (f : LockState → ℕ → Step) (n : ℕ) (s : LockState) where
         (subst (λ z. Turning f n s (k + 1) (t + 1) (m / 2) regs₁ cells₁ z) (sym el)
         (turn-in regs₁ cells₁ log₁ h o (λ y M. subst (λ z. Did n (stepsOf (f y t)) y (f y t) z regs₁ cells₁ log₁) e (d y M))))))
 
-    pub go-out : (regs₂ cells₂ log₂ : List ℕ) (k₂ : ℕ) → t < n → (m % 2 ≡ 1 → ⊥) → regs₂ ≡ regs → cells₂ ≡ cells → log₂ ≡ log → k₂ ≡ k → Turning f n s k₂ (t + 1) (m / 2) regs₂ cells₂ log₂
+    pub go-out : (regs₂ cells₂ log₂ : List ℕ) (k₂ : ℕ) → t < n → (m % 2 ≡ 1 → ⊥) → regs₂ ≡ regs → cells₂ ≡ cells → log₂ ≡ log → k₂ ≡ k
+        → Turning f n s k₂ (t + 1) (m / 2) regs₂ cells₂ log₂
     go-out regs₂ cells₂ log₂ k₂ h o er ec el ek =
         subst (λ z. Turning f n s z (t + 1) (m / 2) regs₂ cells₂ log₂) (sym ek)
         (subst (λ z. Turning f n s k (t + 1) (m / 2) z cells₂ log₂) (sym er)
@@ -153,8 +167,10 @@ module _ (f : LockState → ℕ → Step) (n : ℕ) (s : LockState) where
 
     pub go-stop : (r : Access) (v : Verdict) (regs₁ cells₁ log₁ : List ℕ) → t < n → m % 2 ≡ 1 → OneTurn f n t regs cells log r regs₁ cells₁ log₁ → r ≡ Stop v
         → Did n k s (inTurn f (members (s .enabled)) s) (Stop v) regs₁ cells₁ log₁
-    go-stop r v regs₁ cells₁ log₁ h o d e = turn-stop v regs₁ cells₁ log₁ h o (λ y M. subst (λ z. Did n (stepsOf (f y t)) y (f y t) z regs₁ cells₁ log₁) e (d y M))
+    go-stop r v regs₁ cells₁ log₁ h o d e =
+        turn-stop v regs₁ cells₁ log₁ h o (λ y M. subst (λ z. Did n (stepsOf (f y t)) y (f y t) z regs₁ cells₁ log₁) e (d y M))
 
 -- The loop's state, for every state that the buffers stood for at its start.
 abbrev pub Turns : (LockState → ℕ → Step) → (n mask : ℕ) → (regs₀ cells₀ log₀ : List ℕ) → (k t m : ℕ) → (regs cells log : List ℕ) → Type 0
-Turns f n mask regs₀ cells₀ log₀ k t m regs cells log = (s : LockState) → mask ≡ maskWord (s .enabled) → length (s .enabled) ≡ n → Memory n s regs₀ cells₀ log₀ → Turning f n s k t m regs cells log
+Turns f n mask regs₀ cells₀ log₀ k t m regs cells log =
+    (s : LockState) → mask ≡ maskWord (s .enabled) → length (s .enabled) ≡ n → Memory n s regs₀ cells₀ log₀ → Turning f n s k t m regs cells log

@@ -194,8 +194,12 @@ lowest-lt (false ∷ m) h = omega (arith, lowest-lt m h)
 pub ones-are : (m : Mask) (k : ℕ) → ones (maskWord m) ≡ length (membersFrom k m)
 unfolding membersFrom maskWord ones
 ones-are [] k = refl
-ones-are (true ∷ m) k = ones-step (maskWord (true ∷ m)) ∙ ap₂ _+_ (word-odd true m) (ap ones (word-half true m) ∙ ones-are m (suc k)) ∙ (let z : 1 + length (membersFrom (suc k) m) ≡ suc (length (membersFrom (suc k) m)) = omega arith in z)
-ones-are (false ∷ m) k = ones-step (maskWord (false ∷ m)) ∙ ap₂ _+_ (word-odd false m) (ap ones (word-half false m) ∙ ones-are m (suc k)) ∙ (let z : 0 + length (membersFrom (suc k) m) ≡ length (membersFrom (suc k) m) = omega arith in z)
+ones-are (true ∷ m) k =
+    ones-step (maskWord (true ∷ m)) ∙ ap₂ _+_ (word-odd true m) (ap ones (word-half true m) ∙ ones-are m (suc k))
+    ∙ (let z : 1 + length (membersFrom (suc k) m) ≡ suc (length (membersFrom (suc k) m)) = omega arith in z)
+ones-are (false ∷ m) k =
+    ones-step (maskWord (false ∷ m)) ∙ ap₂ _+_ (word-odd false m) (ap ones (word-half false m) ∙ ones-are m (suc k))
+    ∙ (let z : 0 + length (membersFrom (suc k) m) ≡ length (membersFrom (suc k) m) = omega arith in z)
 
 pub word-all : (n : ℕ) → maskWord (replicate n true) ≡ 2 ^ n - 1
 unfolding maskWord

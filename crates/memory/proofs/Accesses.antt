@@ -50,7 +50,8 @@ module _ (n t : ℕ) (s : LockState) (regs cells log : List ℕ) (M : Memory n s
   log-here : LogIs n (length cells) (s .log) log
   log-here = subst (λ k. LogIs n k (s .log) log) (sym cells-size) (M .log-is)
 
-  module _ (op d a b j i : ℕ) (m : Mem) (x : Row) (o : opOf op ≡ MEM m) (p : 16 ≤ op) (q : op ≤ 17) (r : CellRegister op d a b) (ed : x .d ≡ d) (ea : x .a ≡ a) (ld : d < 16) (la : a < 16) (ej : j ≡ t)
+  module _ (op d a b j i : ℕ) (m : Mem) (x : Row) (o : opOf op ≡ MEM m) (p : 16 ≤ op) (q : op ≤ 17) (r : CellRegister op d a b) (ed : x .d ≡ d)
+      (ea : x .a ≡ a) (ld : d < 16) (la : a < 16) (ej : j ≡ t)
       (ei : i ≡ getD regs (b * 32 + j) 0) where
     abbrev shape : Shape
     shape = record { threads = n; cells = length cells }
@@ -73,7 +74,8 @@ module _ (n t : ℕ) (s : LockState) (regs cells log : List ℕ) (M : Memory n s
     unfolding accessTurn bound address
     turn-at = ap₂ (λ c e. cond (leb (length cells) c) (stops (Outside t c) s) (tryAccess s t e c kind)) number-is ed
 
-    did : (y : Step) (w : Access) (regs′ cells′ log′ : List ℕ) → turn ≡ y → Did n (stepsOf y) s y w regs′ cells′ log′ → Did n (stepsOf turn) s turn w regs′ cells′ log′
+    did : (y : Step) (w : Access) (regs′ cells′ log′ : List ℕ) → turn ≡ y → Did n (stepsOf y) s y w regs′ cells′ log′
+        → Did n (stepsOf turn) s turn w regs′ cells′ log′
     did y w regs′ cells′ log′ e D = subst (λ z. Did n (stepsOf z) s z w regs′ cells′ log′) (sym e) D
 
     pub outside-did : (v : ℕ) → v ≡ i → length cells ≤ i → Did n (stepsOf turn) s turn (Stop (Outside t v)) regs cells log
@@ -109,8 +111,8 @@ module _ (n t : ℕ) (s : LockState) (regs cells log : List ℕ) (M : Memory n s
           })
 
       -- made: the buffers after it
-      made : (regs′ cells′ log′ : List ℕ) → Transferred op (d * 32 + j) (a * 32 + j) i regs cells regs′ cells′ → LogIs n (length (s .cells)) (logged (s .log) i t kind) log′
-          → Memory n (madeAccess s t d i kind) regs′ cells′ log′
+      made : (regs′ cells′ log′ : List ℕ) → Transferred op (d * 32 + j) (a * 32 + j) i regs cells regs′ cells′
+          → LogIs n (length (s .cells)) (logged (s .log) i t kind) log′ → Memory n (madeAccess s t d i kind) regs′ cells′ log′
       unfolding madeAccess
       made regs′ cells′ log′ T G = by (which op d a b m p q o r)
         where
@@ -120,7 +122,8 @@ module _ (n t : ℕ) (s : LockState) (regs cells log : List ℕ) (M : Memory n s
           mine : List ℕ
           mine = getD (s .regs) t []
 
-          memory : (k : Kind) → kind ≡ k → Regs n (set (s .regs) t (registersAfter k d old mine)) regs′ → cells′ ≡ set (s .cells) i (cellAfter k old) → Memory n (madeAccess s t d i kind) regs′ cells′ log′
+          memory : (k : Kind) → kind ≡ k → Regs n (set (s .regs) t (registersAfter k d old mine)) regs′ → cells′ ≡ set (s .cells) i (cellAfter k old)
+              → Memory n (madeAccess s t d i kind) regs′ cells′ log′
           memory k e R C =
               record {
                 few = M .few;
@@ -138,11 +141,12 @@ module _ (n t : ℕ) (s : LockState) (regs cells log : List ℕ) (M : Memory n s
               (unfold cellAfter in (T .load-cells e ∙ M .cells-are ∙ sym (set-getD (s .cells) i 0)))
           by (inr (e, f, g)) =
               memory (store (reg s t (x .a))) (unfold kindOf in (ap (λ y. kindOf y (reg s t (x .a))) f))
-              (unfold registersAfter in (subst (λ z. Regs n z regs′) (sym (set-getD (s .regs) t [])) (subst (λ z. Regs n (s .regs) z) (sym (T .store-regs e)) (M .regs-are))))
+              (unfold registersAfter in
+              (subst (λ z. Regs n z regs′) (sym (set-getD (s .regs) t [])) (subst (λ z. Regs n (s .regs) z) (sym (T .store-regs e)) (M .regs-are))))
               (unfold cellAfter in (T .store-cells e ∙ ap₂ (λ y z. set y i z) (M .cells-are) (reg-is a j (x .a) ej ea la)))
 
-      pub made-did : (regs′ cells′ log′ : List ℕ) → w ≡ 0 → Transferred op (d * 32 + j) (a * 32 + j) i regs cells regs′ cells′ → LoggedIs op (length cells) i t log log′
-          → Did n (stepsOf turn) s turn Done regs′ cells′ log′
+      pub made-did : (regs′ cells′ log′ : List ℕ) → w ≡ 0 → Transferred op (d * 32 + j) (a * 32 + j) i regs cells regs′ cells′
+          → LoggedIs op (length cells) i t log log′ → Did n (stepsOf turn) s turn Done regs′ cells′ log′
       made-did regs′ cells′ log′ z T E =
           let G : LogIs n (length (s .cells)) (logged (s .log) i t kind) log′ =
           subst (λ k. LogIs n k (logged (s .log) i t kind) log′) cells-size (E n (reg s t (x .a)) m (s .log) o (M .few) h log-here) in
@@ -151,5 +155,6 @@ module _ (n t : ℕ) (s : LockState) (regs cells log : List ℕ) (M : Memory n s
           (record {
             answer = refl;
             memory = made regs′ cells′ log′ T G;
-            kept = unfold madeAccess in (record { row-same = refl; enabled-same = refl; saved-same = refl; rows-same = refl; barriers-same = refl; steps-more = omega arith });
+            kept = unfold madeAccess in
+                (record { row-same = refl; enabled-same = refl; saved-same = refl; rows-same = refl; barriers-same = refl; steps-more = omega arith });
           })

@@ -23,7 +23,8 @@ use Rattle.reader.specs.Answer.{ifLoop}
 use Rattle.reader.specs.Parts.{IsTable, ownRefusal, Opens, Ends, Passes, Fails, Notes, Span, Stops, Body, Construct, BodyIs, ConstructIs, ClosesIs}
 use Rattle.reader.proofs.RowBytes.{rows-length, row-bytes}
 use Rattle.reader.proofs.OpBytes.{byte-if, byte-else, byte-endif, byte-while, byte-endwhile}
-use Rattle.reader.proofs.Passing.{fail-row, pass-plain, too-deep, pass-none, pass-on, fail-on, Reaches, reach-pass, reach-fail, reach-left, reach-open, reach-else, reach-end, reach-misfit, loop-end}
+use Rattle.reader.proofs.Passing.{fail-row, pass-plain, too-deep, pass-none, pass-on, fail-on, Reaches, reach-pass, reach-fail, reach-left}
+use Rattle.reader.proofs.Passing.{reach-open, reach-else, reach-end, reach-misfit, loop-end}
 use Rattle.reader.proofs.Noting.{NoLoop, plain-no-loop, notes-none, notes-row, notes-on, notes-loop}
 
 -- A row that ends a body, and does not go on with or close the construct around it, fits nothing.
@@ -79,7 +80,13 @@ module _ (t : List ℕ) (w : IsTable t) where
   span-none d a x l = record { on = omega arith; within = l; passes = pass-none T d a; notes = notes-none a x }
 
   pub span-on : {d a b c : ℕ} {x y z : List ℕ} → Span t d a b x y → Span t d b c y z → Span t d a c x z
-  span-on p q = record { on = omega (arith, p .on, q .on); within = q .within; passes = pass-on (p .passes) (q .passes); notes = notes-on (p .on) (q .on) (p .notes) (q .notes) }
+  span-on p q =
+      record {
+        on = omega (arith, p .on, q .on);
+        within = q .within;
+        passes = pass-on (p .passes) (q .passes);
+        notes = notes-on (p .on) (q .on) (p .notes) (q .notes);
+      }
 
   -- A plain row.
   pub span-plain : (d r : ℕ) (x : List ℕ) → r * 4 < length t → ownRefusal r (rowAt T r) ≡ none → Plain (opOf (getD t (r * 4) 0)) → Span t d r (r + 1) x x
@@ -111,7 +118,8 @@ module _ (t : List ℕ) (w : IsTable t) where
     first-fails (inl e) m f = reach-fail (reach-open (in-table a l) own (op-of a 32 l e byte-if) startsIf m) (rw (add-one d, add-one a) at f)
     first-fails (inr e) m f = reach-fail (reach-open (in-table a l) own (op-of a 35 l e byte-while) startsLoop m) (rw (add-one d, add-one a) at f)
 
-    pub first-refused : (x y : List ℕ) {r : Reach} {why : Refusal} → r ≡ Refused why → Opens (getD t (a * 4) 0) → d < 8 → BodyIs t (d + 1) (a + 1) x y r → ConstructIs t d a x y r
+    pub first-refused : (x y : List ℕ) {r : Reach} {why : Refusal} → r ≡ Refused why → Opens (getD t (a * 4) 0) → d < 8
+        → BodyIs t (d + 1) (a + 1) x y r → ConstructIs t d a x y r
     first-refused x y e o m b = rw e (first-fails o m (rw e at b))
 
     -- Row k, where a body in the open construct o ends, and the byte of the op that closes o.

@@ -103,7 +103,8 @@ pass-all T a p e = p .refusals [] refl ∙ ap (λ i. rowsRefusal (drop i T) i []
 
 pub reach-left : {T : Table} {d a b : ℕ} {o : Open} → Reaches T d a b o → b ≡ length T → Fails T d a (LeftOpen (opener o))
 unfolding rowsRefusal leftOpen
-reach-left {T} {o} p e os n = p .refusals os n ∙ ap (λ i. rowsRefusal (drop i T) i (o ∷ os)) e ∙ ap (λ rows. rowsRefusal rows (length T) (o ∷ os)) (drop-length T)
+reach-left {T} {o} p e os n =
+    p .refusals os n ∙ ap (λ i. rowsRefusal (drop i T) i (o ∷ os)) e ∙ ap (λ rows. rowsRefusal rows (length T) (o ∷ os)) (drop-length T)
 
 end-closes : (o : Open) → role (endOp o) ≡ closing
 unfolding endOp role
@@ -112,20 +113,28 @@ end-closes (inElse k) = refl
 end-closes (inLoop k) = refl
 
 module _ {T : Table} {d a : ℕ} where
-  pub reach-open : {op : Op} {o : Open} → a < length T → ownRefusal a (rowAt T a) ≡ none → rowAt T a .op ≡ op → Starts a op o → d < maxNesting → Reaches T d a (suc a) o
+  pub reach-open : {op : Op} {o : Open} → a < length T → ownRefusal a (rowAt T a) ≡ none → rowAt T a .op ≡ op → Starts a op o → d < maxNesting
+      → Reaches T d a (suc a) o
   unfolding role scanRow
-  reach-open l own e startsIf m = record { refusals = λ os n. pass-step T a l own (rw e (opens {os = os} startsIf (omega arith))); levels = λ k. level-step T a l k ∙ rw e }
-  reach-open l own e startsLoop m = record { refusals = λ os n. pass-step T a l own (rw e (opens {os = os} startsLoop (omega arith))); levels = λ k. level-step T a l k ∙ rw e }
+  reach-open l own e startsIf m =
+      record { refusals = λ os n. pass-step T a l own (rw e (opens {os = os} startsIf (omega arith))); levels = λ k. level-step T a l k ∙ rw e }
+  reach-open l own e startsLoop m =
+      record { refusals = λ os n. pass-step T a l own (rw e (opens {os = os} startsLoop (omega arith))); levels = λ k. level-step T a l k ∙ rw e }
 
   module _ {b : ℕ} (l : b < length T) (own : ownRefusal b (rowAt T b) ≡ none) where
     pub reach-else : {k : ℕ} → Reaches T d a b (inThen k) → rowAt T b .op ≡ ELSE → Reaches T d a (suc b) (inElse k)
     unfolding role scanRow
-    reach-else p e = record { refusals = λ os n. p .refusals os n ∙ pass-step T b l own (rw e divides); levels = λ k. p .levels k ∙ level-step T b l (suc k) ∙ rw e }
+    reach-else p e =
+        record { refusals = λ os n. p .refusals os n ∙ pass-step T b l own (rw e divides); levels = λ k. p .levels k ∙ level-step T b l (suc k) ∙ rw e }
 
     pub reach-end : {o : Open} → Reaches T d a b o → rowAt T b .op ≡ endOp o → Passes T d a (suc b)
     unfolding scanRow
     reach-end {o} p e =
-        record { refusals = λ os n. p .refusals os n ∙ pass-step T b l own (rw e closes); levels = λ k. p .levels k ∙ level-step T b l (suc k) ∙ rw (e, end-closes o) }
+        record {
+          refusals = λ os n. p .refusals os n ∙ pass-step T b l own (rw e closes);
+          levels = λ k. p .levels k ∙ level-step T b l (suc k)
+              ∙ rw (e, end-closes o);
+        }
 
     pub reach-misfit : {o : Open} → Reaches T d a b o → ((os : List Open) → fits (rowAt T b .op) (o ∷ os) ≡ false) → Fails T d a (Misplaced b)
     reach-misfit {o} p f os n = p .refusals os n ∙ misplaced T b l own (o ∷ os) (f os)

@@ -56,7 +56,8 @@ module _ (t : List ℕ) (w : IsTable t) (k : ℕ) (y : List ℕ) (b : Body t 0 0
   pub stray : k * 4 < length t → Fails (rowsOf t) 0 0 (Misplaced k)
   stray l =
       fail-on (b .span .passes)
-      (λ os n. misplaced (rowsOf t) k (in-table t w k l) (b .stops l .own) os (rw (op-is t w k l, none-open os n) (misfit-none (getD t (k * 4) 0) (b .stops l .byte))))
+      (λ os n. misplaced (rowsOf t) k (in-table t w k l) (b .stops l .own) os
+      (rw (op-is t w k l, none-open os n) (misfit-none (getD t (k * 4) 0) (b .stops l .byte))))
 
   pub accepted : length t ≤ k * 4 → tableRefusal (rowsOf t) ≡ none
   unfolding tableRefusal
@@ -68,7 +69,8 @@ module _ (t : List ℕ) (w : IsTable t) (k : ℕ) (y : List ℕ) (b : Body t 0 0
     where
       by : (i < k) ⊎ (k ≤ i) → getD y i 0 ≡ ifLoop (rowAt (rowsOf t) i .op) (endOf (rowsOf t) i) 0
       by (inl h) = b .span .notes .inside i (omega arith) h ∙ ap (ifLoop (rowAt (rowsOf t) i .op) (endOf (rowsOf t) i)) (zeros 256 i)
-      by (inr h) = b .span .notes .below i h ∙ zeros 256 i ∙ sym (past (rowsOf t) i (endOf (rowsOf t) i) (omega (arith, at-end t w k (omega (arith, b .span .within)))))
+      by (inr h) =
+          b .span .notes .below i h ∙ zeros 256 i ∙ sym (past (rowsOf t) i (endOf (rowsOf t) i) (omega (arith, at-end t w k (omega (arith, b .span .within)))))
 
 -- For who goes by the noted ends: at a WHILE of an accepted table stands the row of its ENDWHILE.
 pub end-at-loop : (T : Table) (i : ℕ) → tableRefusal T ≡ none → rowAt T i .op ≡ WHILE → endAt T i ≡ endOf T i

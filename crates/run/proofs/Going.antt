@@ -35,7 +35,8 @@ use Rattle.layout.proofs.Running.{Ready, Runnable, Steps, RunIs, endedAs, shape
 use Rattle.step.proofs.Tables.{row-bytes, row-inside, rows-length}
 use Rattle.run.proofs.RowBytes.{row-asks}
 
--- Between two rows: the code's state stands for some state of the lock-step run, which is simulated by the threads' machine, and from which the rest of the run is the whole run.
+-- Between two rows: the code's state stands for some state of the lock-step run, which is simulated by the threads' machine, and from which the rest of the run
+-- is the whole run.
 pub record Going (table : List ℕ) (n limit : ℕ) (cells₀ : List ℕ) (s : State) (regs cells log saved openers : List ℕ) : Type 0 where
   pub here : LockState
   pub frames : List Frame
@@ -53,11 +54,14 @@ start-regs n l =
       size = length-replicate {A = ℕ} 512 0;
       threads = length-replicate n (replicate 16 0);
       sixteen = λ t h. ap length (getD-replicate n t (replicate 16 0) [] h) ∙ length-replicate {A = ℕ} 16 0;
-      at = λ t r h q. getD-replicate {A = ℕ} 512 (r * 32 + t) 0 0 (omega arith) ∙ sym (ap (λ x. getD x r 0) (getD-replicate n t (replicate 16 0) [] h) ∙ getD-replicate {A = ℕ} 16 r 0 0 q);
+      at = λ t r h q. getD-replicate {A = ℕ} 512 (r * 32 + t) 0 0 (omega arith)
+          ∙ sym (ap (λ x. getD x r 0) (getD-replicate n t (replicate 16 0) [] h) ∙ getD-replicate {A = ℕ} 16 r 0 0 q);
     }
 
-pub go-start : (table ends : List ℕ) (n limit m : ℕ) (cells log : List ℕ) → Runnable table ends → n ≤ 32 → m ≡ 2 ^ n - 1 → length log ≡ 2 * length cells → (log′ : List ℕ) → log′ ≡ replicate (length log) 0
-    → Going table n limit cells (record { row = 0; mask = m; depth = 0; rows = 0; steps = 0; barriers = 0 }) (replicate 512 0) cells log′ (replicate 8 0) (replicate 8 0)
+pub go-start : (table ends : List ℕ) (n limit m : ℕ) (cells log : List ℕ) → Runnable table ends → n ≤ 32 → m ≡ 2 ^ n - 1
+    → length log ≡ 2 * length cells → (log′ : List ℕ) → log′ ≡ replicate (length log) 0
+    → Going table n limit cells (record { row = 0; mask = m; depth = 0; rows = 0; steps = 0; barriers = 0 }) (replicate 512 0) cells log′
+    (replicate 8 0) (replicate 8 0)
 unfolding initialState lockstep shapeOf
 go-start table ends n limit m cells log A l em el log′ ez =
     record {
@@ -172,7 +176,8 @@ which k h l n = by (ℕ-discrete k 33) (ℕ-discrete k 34)
     by (no f) (no e) = inr (inr (omega arith))
 
 -- One row of the definition.
-run-row : (T : Table) (L : Shape) (k : ℕ) (z : LockState) → z .row < length T → runFrom T L (suc k) z ≡ resultOf (runRow T L (rowAt T (z .row)) z (rowAt T (z .row) .op)) (runFrom T L k)
+run-row : (T : Table) (L : Shape) (k : ℕ) (z : LockState) → z .row < length T
+    → runFrom T L (suc k) z ≡ resultOf (runRow T L (rowAt T (z .row)) z (rowAt T (z .row) .op)) (runFrom T L k)
 unfolding runFrom
 run-row T L k z h = rw (lt-leb (length T) (z .row) h, runFrom)
 
@@ -185,8 +190,8 @@ run-spent : (T : Table) (L : Shape) (z : LockState) → z .row < length T → ru
 unfolding runFrom
 run-spent T L z h = rw (lt-leb (length T) (z .row) h)
 
-ran-is : (n : ℕ) (o : LockResult) (v : Verdict) (z : LockState) (s : State) (r : Outcome) (regs cells log saved openers : List ℕ) → record { verdict = v; state = z } ≡ o → r ≡ endedAs v s
-    → Represents n z s regs cells log saved openers → RunIs o r cells log
+ran-is : (n : ℕ) (o : LockResult) (v : Verdict) (z : LockState) (s : State) (r : Outcome) (regs cells log saved openers : List ℕ)
+    → record { verdict = v; state = z } ≡ o → r ≡ endedAs v s → Represents n z s regs cells log saved openers → RunIs o r cells log
 unfolding outcomeOf
 ran-is n o v z s r regs cells log saved openers eo er R =
     subst (λ x. RunIs x r cells log) eo
@@ -196,7 +201,8 @@ ran-is n o v z s r regs cells log saved openers eo er R =
       log-is = R .memory .log-is .words-are;
     })
 
-module _ (table ends : List ℕ) (n limit : ℕ) (cells₀ : List ℕ) (s : State) (regs cells log saved openers : List ℕ) (G : Going table n limit cells₀ s regs cells log saved openers) (A : Runnable table ends) where
+module _ (table ends : List ℕ) (n limit : ℕ) (cells₀ : List ℕ) (s : State) (regs cells log saved openers : List ℕ)
+    (G : Going table n limit cells₀ s regs cells log saved openers) (A : Runnable table ends) where
   abbrev T : Table
   T = rowsOf table
 
@@ -213,7 +219,8 @@ module _ (table ends : List ℕ) (n limit : ℕ) (cells₀ : List ℕ) (s : Stat
   pub go-passed : (r : Outcome) → length table / 4 ≤ s .row → r ≡ endedAs Passed s → RunIs (lockstep T n cells₀ limit) r cells log
   go-passed r h e =
       let l : length T ≤ G .here .row = omega (arith, rows-length table, G .rep .row-is) in
-      ran-is n (lockstep T n cells₀ limit) Passed (G .here) s r regs cells log saved openers (sym (run-end T L (limit - s .rows) (G .here) l) ∙ G .same) e (G .rep)
+      ran-is n (lockstep T n cells₀ limit) Passed (G .here) s r regs cells log saved openers
+      (sym (run-end T L (limit - s .rows) (G .here) l) ∙ G .same) e (G .rep)
 
   pub go-spent : (r : Outcome) → s .row < length table / 4 → s .rows ≡ limit → r ≡ endedAs Spent s → RunIs (lockstep T n cells₀ limit) r cells log
   go-spent r h m e =
@@ -248,7 +255,8 @@ module _ (table ends : List ℕ) (n limit : ℕ) (cells₀ : List ℕ) (s : Stat
     fits : (o : Op) → rowAt T (G .here .row) .op ≡ o → Fits o (innermost T (openBefore T (G .here .row)))
     fits o q = subst (λ y. Fits y (innermost T (openBefore T (G .here .row)))) q (well-formed T (A .accepted) .fitting (G .here .row) (at-row inside))
 
-    nonempty : (o : Op) → rowAt T (G .here .row) .op ≡ o → isWhile o ≡ false → (innermost T (openBefore T (G .here .row)) ≡ UNKNOWN → ⊥) → (0 < s .depth) × (s .depth ≤ 8)
+    nonempty : (o : Op) → rowAt T (G .here .row) .op ≡ o → isWhile o ≡ false → (innermost T (openBefore T (G .here .row)) ≡ UNKNOWN → ⊥)
+        → (0 < s .depth) × (s .depth ≤ 8)
     nonempty o e q n =
         let d = depth-opens o e q in
         (omega (arith, some-open T (openBefore T (G .here .row)) n), omega (arith, upto))
@@ -277,7 +285,8 @@ module _ (table ends : List ℕ) (n limit : ℕ) (cells₀ : List ℕ) (s : Stat
             inr (
               (let z : 0 < s .depth = omega arith in z),
               (let z : s .depth ≤ 8 = omega (arith, l8) in z),
-              saves-back n (G .here .saved) saved openers (s .depth) (G .rep .depth-is) (omega arith) (G .rep .saves) ∙ ap topOpener sv ∙ back-cons _ _ ∙ p ∙ sym (G .rep .row-is),
+              saves-back n (G .here .saved) saved openers (s .depth) (G .rep .depth-is) (omega arith) (G .rep .saves) ∙ ap topOpener sv
+                  ∙ back-cons _ _ ∙ p ∙ sym (G .rep .row-is),
             )
 
     pub go-ready : 1 ≤ n → n ≤ 32 → limit ≤ 1000000 → length log ≡ 2 * length cells → length cells ≤ 1024 → Ready table n s cells log openers
@@ -286,7 +295,12 @@ module _ (table ends : List ℕ) (n limit : ℕ) (cells₀ : List ℕ) (s : Stat
           some = o;
           few = l;
           inside = row-inside table (s .row) inside;
-          room = record { row-few = omega (arith, A .few, inside); rows-few = omega (arith, G .rows-most); steps-few = G .steps-few; barriers-few = G .barriers-few };
+          room = record {
+            row-few = omega (arith, A .few, inside);
+            rows-few = omega (arith, G .rows-most);
+            steps-few = G .steps-few;
+            barriers-few = G .barriers-few;
+          };
           asks = row-asks table (A .accepted) (s .row) inside;
           depths = record {
             opens-if = λ e. let q = op-is 32 IF op-if e in let d = depth-opens IF q while-if in omega (arith, deeper (role-if _ q));
@@ -309,10 +323,12 @@ module _ (table ends : List ℕ) (n limit : ℕ) (cells₀ : List ℕ) (s : Stat
     sims : RowDone T L (G .here) (G .group) done
     sims = row-done T (well-formed T (A .accepted)) L (G .here) (G .frames) (G .group) (G .sim) (at-row inside)
 
-    module _ (len : length cells ≡ length cells₀) (r : Next) (regs′ cells′ log′ saved′ openers′ : List ℕ) (S : Steps table ends n s regs cells log saved openers r regs′ cells′ log′ saved′ openers′) where
+    module _ (len : length cells ≡ length cells₀) (r : Next) (regs′ cells′ log′ saved′ openers′ : List ℕ)
+        (S : Steps table ends n s regs cells log saved openers r regs′ cells′ log′ saved′ openers′) where
       stepped : After n done r regs′ cells′ log′ saved′ openers′
       stepped =
-          subst (λ k. After n (runRow T (record { threads = n; cells = k }) (rowAt T (G .here .row)) (G .here) (rowAt T (G .here .row) .op)) r regs′ cells′ log′ saved′ openers′) len
+          subst (λ k. After n (runRow T (record { threads = n; cells = k }) (rowAt T (G .here .row)) (G .here) (rowAt T (G .here .row) .op)) r regs′
+          cells′ log′ saved′ openers′) len
           (S .1 (G .here) inside (A .ends-are (s .row) inside) (G .rep))
 
       pub go-next : (s′ : State) → r ≡ next.Go s′ → Going table n limit cells₀ s′ regs′ cells′ log′ saved′ openers′
@@ -321,7 +337,8 @@ module _ (table ends : List ℕ) (n limit : ℕ) (cells₀ : List ℕ) (s : Stat
           counted : Counted s s′
           counted = subst (Counts s) e (S .0)
 
-          by : (o : Step) → After n o r regs′ cells′ log′ saved′ openers′ → RowDone T L (G .here) (G .group) o → resultOf o (runFrom T L (limit - (s .rows + 1))) ≡ lockstep T n cells₀ limit
+          by : (o : Step) → After n o r regs′ cells′ log′ saved′ openers′ → RowDone T L (G .here) (G .group) o
+              → resultOf o (runFrom T L (limit - (s .rows + 1))) ≡ lockstep T n cells₀ limit
               → Going table n limit cells₀ s′ regs′ cells′ log′ saved′ openers′
           by (stops v z) (u, f, R) W q = let y : _≡_ {A = ℕ} 0 1 = cc in absurd (omega arith)
           by (continues z) (u, f, R) W q =
@@ -341,13 +358,15 @@ module _ (table ends : List ℕ) (n limit : ℕ) (cells₀ : List ℕ) (s : Stat
       pub go-stop : (v : Verdict) (s′ : State) (q : Outcome) → r ≡ next.Stop v s′ → q ≡ endedAs v s′ → RunIs (lockstep T n cells₀ limit) q cells′ log′
       go-stop v s′ q e eq = by done stepped came
         where
-          by : (o : Step) → After n o r regs′ cells′ log′ saved′ openers′ → resultOf o (runFrom T L (limit - (s .rows + 1))) ≡ lockstep T n cells₀ limit → RunIs (lockstep T n cells₀ limit) q cells′ log′
+          by : (o : Step) → After n o r regs′ cells′ log′ saved′ openers′
+              → resultOf o (runFrom T L (limit - (s .rows + 1))) ≡ lockstep T n cells₀ limit → RunIs (lockstep T n cells₀ limit) q cells′ log′
           by (continues z) (u, f, R) c = let y : _≡_ {A = ℕ} 0 1 = cc in absurd (omega arith)
           by (stops w z) (u, f, R) c =
               let eu : u ≡ s′ = cc in
               let ev : v ≡ w = cc in
               let c′ : record { verdict = w; state = z } ≡ lockstep T n cells₀ limit = (unfold resultOf in c) in
-              ran-is n (lockstep T n cells₀ limit) w z s′ q regs′ cells′ log′ saved′ openers′ c′ (eq ∙ ap (λ y. endedAs y s′) ev) (subst (λ x. Represents n z x regs′ cells′ log′ saved′ openers′) eu R)
+              ran-is n (lockstep T n cells₀ limit) w z s′ q regs′ cells′ log′ saved′ openers′ c′ (eq ∙ ap (λ y. endedAs y s′) ev)
+              (subst (λ x. Represents n z x regs′ cells′ log′ saved′ openers′) eu R)
 
       -- where the row stops, its number still fits
       pub go-stop-row : (v : Verdict) (s′ : State) → r ≡ next.Stop v s′ → s′ .row ≤ 256

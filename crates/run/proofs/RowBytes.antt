@@ -64,9 +64,19 @@ unfolding operandsFit usesD usesA usesB
 registers setForm d a b e = record { inD = λ u. register d e; inA = λ u. never u; inB = λ u. never u }
 registers dForm d a b e = record { inD = λ u. register d (and-left _ _ (and-left _ _ e)); inA = λ u. never u; inB = λ u. never u }
 registers dabForm d a b e =
-    record { inD = λ u. register d (and-left _ _ (and-left _ _ e)); inA = λ u. register a (and-right (isRegister d) _ (and-left _ _ e)); inB = λ u. register b (and-right (isRegister d && isRegister a) (isRegister b) e) }
-registers daForm d a b e = record { inD = λ u. register d (and-left _ _ (and-left _ _ e)); inA = λ u. register a (and-right (isRegister d) _ (and-left _ _ e)); inB = λ u. never u }
-registers aForm d a b e = record { inD = λ u. never u; inA = λ u. register a (and-right (isUnused d) (isRegister a) (and-left (isUnused d && isRegister a) (isUnused b) e)); inB = λ u. never u }
+    record {
+      inD = λ u. register d (and-left _ _ (and-left _ _ e));
+      inA = λ u. register a (and-right (isRegister d) _ (and-left _ _ e));
+      inB = λ u. register b (and-right (isRegister d && isRegister a) (isRegister b) e);
+    }
+registers daForm d a b e =
+    record { inD = λ u. register d (and-left _ _ (and-left _ _ e)); inA = λ u. register a (and-right (isRegister d) _ (and-left _ _ e)); inB = λ u. never u }
+registers aForm d a b e =
+    record {
+      inD = λ u. never u;
+      inA = λ u. register a (and-right (isUnused d) (isRegister a) (and-left (isUnused d && isRegister a) (isUnused b) e));
+      inB = λ u. never u;
+    }
 registers noForm d a b e = record { inD = λ u. never u; inA = λ u. never u; inB = λ u. never u }
 registers unknownForm d a b e = record { inD = λ u. never u; inA = λ u. never u; inB = λ u. never u }
 
@@ -121,7 +131,9 @@ module _ (k d a b : ℕ) (known : isKnown (opOf k) ≡ true) (fit : operandsFit 
 
   place : cond (ltb k 16) (low k f) (cond (ltb k 32) (middle k f) (high k f)) ≡ true
   unfolding placed
-  place = sym (ap (λ z. cond z (cond (ltb k 16) (low k f) (cond (ltb k 32) (middle k f) (high k f))) true) known) ∙ below 256 placed all-placed k (known-small k known)
+  place =
+      sym (ap (λ z. cond z (cond (ltb k 16) (low k f) (cond (ltb k 32) (middle k f) (high k f))) true) known)
+      ∙ below 256 placed all-placed k (known-small k known)
 
   in-low : k < 16 → low k f ≡ true
   in-low h = sym (ap (λ z. cond z (low k f) (cond (ltb k 32) (middle k f) (high k f))) (lt-ltb k 16 h)) ∙ place

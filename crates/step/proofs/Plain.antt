@@ -17,9 +17,11 @@ use Rattle.layout.proofs.Memory.{Did}
 use Rattle.layout.proofs.Represents.{Represents, After, movedOn, accessed}
 use Rattle.layout.proofs.PlainRows.{plain-after}
 
-module _ (n : ℕ) (z : LockState) (s : State) (regs cells log saved openers : List ℕ) (R : Represents n z s regs cells log saved openers) (T : Table) (x : Row) where
-  row-after : (L : Shape) (f : LockState → ℕ → Step) (k : ℕ) (a : Access) (r : Next) (regs′ cells′ log′ : List ℕ) → runRow T L x z (x .op) ≡ forEnabled f z
-      → Did n k z (inTurn f (members (z .enabled)) z) a regs′ cells′ log′ → r ≡ accessed s a k → After n (runRow T L x z (x .op)) r regs′ cells′ log′ saved openers
+module _ (n : ℕ) (z : LockState) (s : State) (regs cells log saved openers : List ℕ) (R : Represents n z s regs cells log saved openers) (T : Table)
+    (x : Row) where
+  row-after : (L : Shape) (f : LockState → ℕ → Step) (k : ℕ) (a : Access) (r : Next) (regs′ cells′ log′ : List ℕ)
+      → runRow T L x z (x .op) ≡ forEnabled f z → Did n k z (inTurn f (members (z .enabled)) z) a regs′ cells′ log′ → r ≡ accessed s a k
+      → After n (runRow T L x z (x .op)) r regs′ cells′ log′ saved openers
   row-after L f k a r regs′ cells′ log′ q D e =
       subst (λ o. After n o r regs′ cells′ log′ saved openers) (sym q) (plain-after n z s regs cells log saved openers R f k a r regs′ cells′ log′ D e)
 
@@ -32,6 +34,7 @@ module _ (n : ℕ) (z : LockState) (s : State) (regs cells log saved openers : L
       (ap (runRow T (record { threads = n; cells = k }) x z) q) D (ap next.Go (e ∙ ap (movedOn s) ej))
 
   pub access-after : (L : Shape) (m : Mem) (k : ℕ) (a : Access) (r : Next) (regs′ cells′ log′ : List ℕ) → x .op ≡ MEM m
-      → Did n k z (inTurn (accessTurn L m x) (members (z .enabled)) z) a regs′ cells′ log′ → r ≡ accessed s a k → After n (runRow T L x z (x .op)) r regs′ cells′ log′ saved openers
+      → Did n k z (inTurn (accessTurn L m x) (members (z .enabled)) z) a regs′ cells′ log′ → r ≡ accessed s a k
+      → After n (runRow T L x z (x .op)) r regs′ cells′ log′ saved openers
   unfolding runRow
   access-after L m k a r regs′ cells′ log′ q D e = row-after L (accessTurn L m x) k a r regs′ cells′ log′ (ap (runRow T L x z) q) D e

@@ -31,7 +31,12 @@ row-bytes (o ∷ d ∷ a ∷ []) r h = absurd (omega arith)
 row-bytes (o ∷ d ∷ a ∷ b ∷ t) zero h = refl
 row-bytes (o ∷ d ∷ a ∷ b ∷ t) (suc r) h =
     row-bytes t r (omega arith)
-    ∙ (λ i. record { op = opOf (sym (shift0 o d a b t r) i); d = sym (shift o d a b t r 1 (omega arith)) i; a = sym (shift o d a b t r 2 (omega arith)) i; b = sym (shift o d a b t r 3 (omega arith)) i })
+    ∙ (λ i. record {
+      op = opOf (sym (shift0 o d a b t r) i);
+      d = sym (shift o d a b t r 1 (omega arith)) i;
+      a = sym (shift o d a b t r 2 (omega arith)) i;
+      b = sym (shift o d a b t r 3 (omega arith)) i;
+    })
 
 pub rows-length : (t : List ℕ) → length (rowsOf t) ≡ length t / 4
 unfolding rowsOf rowOf
@@ -58,12 +63,19 @@ unfolding opOf opTable
 compute-op zero h l = absurd (omega arith)
 compute-op (suc k) h l = (getD codes k SET, code-at codes (drop 15 opTable) k (omega arith))
 
-pub row-here : (t : List ℕ) (n : ℕ) (z : LockState) (s : State) (regs cells log saved openers : List ℕ) → Represents n z s regs cells log saved openers → s .row < length (rowsOf t) → rowAt (rowsOf t) (z .row) ≡ rowBytes t (s .row)
+pub row-here : (t : List ℕ) (n : ℕ) (z : LockState) (s : State) (regs cells log saved openers : List ℕ)
+    → Represents n z s regs cells log saved openers → s .row < length (rowsOf t) → rowAt (rowsOf t) (z .row) ≡ rowBytes t (s .row)
 row-here t n z s regs cells log saved openers R h = ap (rowAt (rowsOf t)) (sym (R .row-is)) ∙ row-bytes t (s .row) h
 
 pub compute-asks : (op d a b d′ a′ b′ : ℕ) → d′ ≡ d → a′ ≡ a → b′ ≡ b → ComputeAsks op d a b → ComputeAsks op d′ a′ b′
 compute-asks op d a b d′ a′ b′ ed ea eb A =
-    record { known = A .known; small = A .small; target = omega (arith, A .target); left = λ h. omega (arith, A .left h); right = λ h. omega (arith, A .right h) }
+    record {
+      known = A .known;
+      small = A .small;
+      target = omega (arith, A .target);
+      left = λ h. omega (arith, A .left h);
+      right = λ h. omega (arith, A .right h);
+    }
 
 -- Ops 16 and 17 access a cell.
 pub mem-op : (k : ℕ) → 16 ≤ k → k ≤ 17 → (m : Mem) × (opOf k ≡ MEM m)

@@ -70,9 +70,11 @@ module _ (a : ℕ) (regs : List ℕ) where
 
     pub lane-zero : (z₂ : ℕ) → t < 32 → lane t ≡ 0 → z₂ ≡ bitOr z ((1 * 2 ^ t) % 4294967296) → ZerosAre a regs (t + 1) z₂
     lane-zero z₂ h o e =
-        let small : z < 2 ^ t = subst (λ (k : ℕ). z < 2 ^ k) (zeros-size 0 t) (subst (λ (y : ℕ). y < 2 ^ length (zeros a regs 0 t)) (sym Z) (word-lt (zeros a regs 0 t))) in
+        let small : z < 2 ^ t = subst (λ (k : ℕ). z < 2 ^ k) (zeros-size 0 t)
+        (subst (λ (y : ℕ). y < 2 ^ length (zeros a regs 0 t)) (sym Z) (word-lt (zeros a regs 0 t))) in
         next z₂ true (is-zero (lane t) o)
-        (e ∙ ap (bitOr z) (one-bit t h ∙ sym (one-mul (2 ^ t))) ∙ or-shifted-r 1 t z small ∙ (let y : 1 * 2 ^ t + z ≡ maskWord (zeros a regs 0 t) + 2 ^ t = omega (arith, Z, one-mul (2 ^ t)) in y))
+        (e ∙ ap (bitOr z) (one-bit t h ∙ sym (one-mul (2 ^ t))) ∙ or-shifted-r 1 t z small
+        ∙ (let y : 1 * 2 ^ t + z ≡ maskWord (zeros a regs 0 t) + 2 ^ t = omega (arith, Z, one-mul (2 ^ t)) in y))
 
   -- The threads of a mask without them are those that hold.
   module _ (n : ℕ) (rs : List (List ℕ)) (R : Regs n rs regs) (l : a < 16) where
@@ -90,7 +92,8 @@ module _ (a : ℕ) (regs : List ℕ) where
         (without on (suc i) k (omega arith) (omega arith))
         ∙ sym (ap (holding a (b ∷ on)) (drop-cons rs i [] (omega (arith, R .threads))))
 
-    pub held : (mask z r : ℕ) (on : Mask) → n ≤ 32 → mask ≡ maskWord on → length on ≡ n → ZerosAre a regs 32 z → r ≡ bitAnd mask (4294967295 - z) → r ≡ maskWord (holding a on rs)
+    pub held : (mask z r : ℕ) (on : Mask) → n ≤ 32 → mask ≡ maskWord on → length on ≡ n → ZerosAre a regs 32 z → r ≡ bitAnd mask (4294967295 - z)
+        → r ≡ maskWord (holding a on rs)
     held mask z r on few em el Z e =
         e
         ∙ ap₂ (λ (x y : ℕ). bitAnd x (4294967295 - y)) em Z

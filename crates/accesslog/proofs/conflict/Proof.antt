@@ -19,7 +19,9 @@ minus-requires : tie.Need-minus-requires
 minus-requires c κs = search needs
 
 returns : tie.Need-returns
-returns c = conflict-by-load _ _ _ _ (c .before .before .before .before .pre .inside) _ _ _ (c .before .if1 .taken) refl (c .minus .ensures)
+returns c =
+    let start = c .before .before .before .before in
+    conflict-by-load _ _ _ _ (start .pre .inside) _ _ _ (c .before .if1 .taken) refl (c .minus .ensures)
 
 mul-minus : tie.Need-mul-minus
 mul-minus c = search needs
@@ -31,7 +33,9 @@ minus-requires-2 : tie.Need-minus-requires-2
 minus-requires-2 c κs = search needs
 
 returns-2 : tie.Need-returns-2
-returns-2 c = conflict-by-store _ _ _ _ (c .before .before .before .before .before .pre .inside) _ _ _ (omega (arith, c .before .before .before .before .before .pre .known, c .before .before .before .before .before .pre .small)) refl (c .minus2 .ensures)
+returns-2 c =
+    let pre = c .before .before .before .before .before .pre in
+    conflict-by-store _ _ _ _ (pre .inside) _ _ _ (omega (arith, pre .known, pre .small)) refl (c .minus2 .ensures)
 
 pub conflict-spec : {M : Type 1} → statement M
 conflict-spec =

@@ -20,10 +20,14 @@ bit-requires : tie.Need-bit-requires
 bit-requires c κs = search needs
 
 returns-2 : tie.Need-returns-2
-returns-2 c = kind-by-reader _ _ _ _ (c .before .before .before .before .before .pre .1 .inside) _ _ (omega (arith, c .before .before .before .before .before .pre .1 .known, c .before .before .before .before .before .pre .1 .small)) (c .before .bit .ensures) (c .if2 .taken)
+returns-2 c =
+    let pre = c .before .before .before .before .before .pre .1 in
+    kind-by-reader _ _ _ _ (pre .inside) _ _ (omega (arith, pre .known, pre .small)) (c .before .bit .ensures) (c .if2 .taken)
 
 returns-3 : tie.Need-returns-3
-returns-3 c = kind-by-writer _ _ _ _ (c .before .before .before .before .before .pre .1 .inside) _ _ (omega (arith, c .before .before .before .before .before .pre .1 .known, c .before .before .before .before .before .pre .1 .small)) (c .before .bit .ensures) (c .if2 .left)
+returns-3 c =
+    let pre = c .before .before .before .before .before .pre .1 in
+    kind-by-writer _ _ _ _ (pre .inside) _ _ (omega (arith, pre .known, pre .small)) (c .before .bit .ensures) (c .if2 .left)
 
 pub race-kind-spec : {M : Type 1} → statement M
 race-kind-spec =

@@ -26,17 +26,21 @@ put-requires c κs = search needs
 
 returns : tie.Need-returns
 returns c =
-    let s = c .before .before .before .before .before .before in
-    let g = s .args in
-    let v = c .before .before .before .before .value-lanes in
-    row-done (g .mask) (s .pre .1) (v .ensures) (c .put-all .ensures) (λ t. chosen-all (v .result) (g .mask) (g .d) (g .regs .now) t (g .n) (c .before .before .before .all .result) (c .before .before .if1 .taken) (c .before .before .before .all .ensures))
+    let all = c .before .before .before .all in
+    let value-lanes = c .before .before .before .before .value-lanes in
+    let start = c .before .before .before .before .before .before in
+    let args = start .args in
+    row-done (args .mask) (start .pre .1) (value-lanes .ensures) (c .put-all .ensures)
+    (λ t. chosen-all (value-lanes .result) (args .mask) (args .d) (args .regs .now) t (args .n) (all .result) (c .before .before .if1 .taken) (all .ensures))
 
 returns-2 : tie.Need-returns-2
 returns-2 c =
-    let s = c .before .before .before .before .before .before .before in
-    let g = s .args in
-    let v = c .before .before .before .before .before .value-lanes in
-    row-done (g .mask) (s .pre .1) (v .ensures) (c .put .ensures) (λ t h. ap (λ (on : ℕ). given on (v .result) (g .d) (g .regs .now) t) (c .before .bits-of .ensures .below t (omega (arith, h, s .pre .0))))
+    let value-lanes = c .before .before .before .before .before .value-lanes in
+    let start = c .before .before .before .before .before .before .before in
+    let args = start .args in
+    let pre = start .pre in
+    row-done (args .mask) (pre .1) (value-lanes .ensures) (c .put .ensures)
+    (λ t h. ap (λ (on : ℕ). given on (value-lanes .result) (args .d) (args .regs .now) t) (c .before .bits-of .ensures .below t (omega (arith, h, pre .0))))
 
 pub compute-row-spec : {M : Type 1} → statement M
 compute-row-spec =

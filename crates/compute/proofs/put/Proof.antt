@@ -15,13 +15,14 @@ abbrev μ-loop : tie.MeasureT-loop
 
 loop-again : tie.Need-loop-again Inv-loop μ-loop
 loop-again c =
-    let g = c .before .before .before .before .args in
-    let l = c .before .before .before .loop in
-    let F = picked (g .t3) (g .t4) (g .d) (g .regs .now) in
-    puts-more (g .d) F (g .regs .now) (l .regs) (l .t) (l .inv) (c .if1 .regs) (search putting) (search putting)
+    let turn = c .before .before .before .loop in
+    let args = c .before .before .before .before .args in
+    let regs = args .regs .now in
+    let F = picked (args .t3) (args .t4) (args .d) regs in
+    puts-more (args .d) F regs (turn .regs) (turn .t) (turn .inv) (c .if1 .regs) (search putting) (search putting)
     (⊎-elim
-    (λ w. w .1 ∙ given-on _ (g .t3) (g .d) (g .regs .now) (l .t) (w .0 .taken))
-    (λ w. w .1 ∙ puts-old (g .d) F (g .regs .now) (l .regs) (l .t) (l .inv) ∙ given-off _ (g .t3) (g .d) (g .regs .now) (l .t) (w .0 .left))
+    (λ w. w .1 ∙ given-on _ (args .t3) (args .d) regs (turn .t) (w .0 .taken))
+    (λ w. w .1 ∙ puts-old (args .d) F regs (turn .regs) (turn .t) (turn .inv) ∙ given-off _ (args .t3) (args .d) regs (turn .t) (w .0 .left))
     (c .if1 .came))
 
 pub put-spec : {M : Type 1} → statement M

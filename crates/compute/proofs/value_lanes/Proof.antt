@@ -28,7 +28,8 @@ alu-lanes-requires c κs = search needs
 
 returns-4 : tie.Need-returns-4
 returns-4 c =
-    by-registers (c .before .before .before .if1 .left) (c .alu-lanes .ensures) (c .before .before .lanes-of .ensures) (c .before .lanes-of2 .ensures)
+    let test = c .before .before .before .if1 in
+    by-registers (test .left) (c .alu-lanes .ensures) (c .before .before .lanes-of .ensures) (c .before .lanes-of2 .ensures)
 
 pub value-lanes-spec : {M : Type 1} → statement M
 value-lanes-spec =

@@ -26,9 +26,14 @@ same-length c = search needs
 
 returns : tie.Need-returns
 returns c =
-    let g = c .before .before .before .before .before .before .before .before .before .before .args in (
+    let clear = c .before .before .before .before .before .clear in
+    let all-here = c .before .before .before .before .before .before .before .if1 .taken in
+    let all = c .before .before .before .before .before .before .before .before .all in
+    let start = c .before .before .before .before .before .before .before .before .before .before in
+    let args = start .args in (
       record { rows-one = refl; steps-some = omega arith; barriers-one = omega arith },
-      λ regs cells saved openers z R. barrier-passes (g .n) z (g .s) regs cells (g .log .now) saved openers R (c .before .before .before .before .before .before .before .before .before .before .pre .1) (g .s .row) (g .s .mask) (c .before .before .before .before .before .before .before .before .all .result) (c .before .before .before .before .before .clear .last .0) refl refl (c .before .before .before .before .before .before .before .before .all .ensures) (c .before .before .before .before .before .before .before .if1 .taken) (c .before .before .before .before .before .clear .ensures),
+      λ regs cells saved openers z R. barrier-passes (args .n) z (args .s) regs cells (args .log .now) saved openers R (start .pre .1) (args .s .row)
+          (args .s .mask) (all .result) (clear .last .0) refl refl (all .ensures) all-here (clear .ensures),
     )
 
 moved-requires : tie.Need-moved-requires
@@ -36,9 +41,10 @@ moved-requires c κs = search needs
 
 returns-2 : tie.Need-returns-2
 returns-2 c =
-    let g = c .before .before .before .before .before .args in (
-      counted-moved (g .s) (c .moved .result) 0 (c .moved .ensures) (omega arith),
-      λ regs cells saved openers z R. barrier-skips (g .n) z (g .s) regs cells (g .log .now) saved openers R (c .moved .result) (c .before .if2 .taken) (c .moved .ensures),
+    let args = c .before .before .before .before .before .args in (
+      counted-moved (args .s) (c .moved .result) 0 (c .moved .ensures) (omega arith),
+      λ regs cells saved openers z R. barrier-skips (args .n) z (args .s) regs cells (args .log .now) saved openers R (c .moved .result)
+          (c .before .if2 .taken) (c .moved .ensures),
     )
 
 lowest-requires : tie.Need-lowest-requires
@@ -52,8 +58,15 @@ lowest-requires-2 c κs = search needs
 
 returns-3 : tie.Need-returns-3
 returns-3 c =
-    let g = c .before .before .before .before .before .before .before .args in
-    (refl, λ regs cells saved openers z R. barrier-stops (g .n) z (g .s) regs cells (g .log .now) saved openers R (c .before .before .before .before .before .all .result) (c .before .before .lowest .result) (c .before .minus .result) (c .lowest2 .result) (c .before .before .before .if2 .left) (c .before .before .before .before .before .all .ensures) (c .before .before .before .before .if1 .left) (c .before .before .lowest .ensures .0) (c .before .minus .ensures) (c .lowest2 .ensures .0))
+    let some-here = c .before .before .before .if2 .left in
+    let some-away = c .before .before .before .before .if1 .left in
+    let all = c .before .before .before .before .before .all in
+    let args = c .before .before .before .before .before .before .before .args in (
+      refl,
+      λ regs cells saved openers z R. barrier-stops (args .n) z (args .s) regs cells (args .log .now) saved openers R (all .result)
+          (c .before .before .lowest .result) (c .before .minus .result) (c .lowest2 .result) some-here (all .ensures) some-away
+          (c .before .before .lowest .ensures .0) (c .before .minus .ensures) (c .lowest2 .ensures .0),
+    )
 
 pub barrier-row-spec : {M : Type 1} → statement M
 barrier-row-spec =

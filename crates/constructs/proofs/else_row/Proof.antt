@@ -41,10 +41,15 @@ add-t17 c = omega (arith, c .before .before .before .before .before .pre .0, c .
 
 returns : tie.Need-returns
 returns c =
-    let g = c .before .before .before .before .before .args in
+    let count = c .before .count in
+    let minus = c .before .before .before .minus in
+    let start = c .before .before .before .before .before in
+    let args = start .args in
+    let pre = start .pre in
     λ n regs. (
-      record { rows-one = refl; steps-some = omega (arith, c .before .count .ensures); barriers-one = omega arith },
-      λ cells log z R. else-done n z (g .s) regs cells log (g .saved .now) (g .openers .now) R (c .before .before .before .minus .result) (c .before .count .result) (g .s .depth) (g .s .row) (g .s .mask) _ refl refl refl (c .before .before .before .before .before .pre .1) (c .before .before .before .before .before .pre .2) refl (c .before .before .before .minus .ensures) (c .before .count .ensures .0),
+      record { rows-one = refl; steps-some = omega (arith, count .ensures); barriers-one = omega arith },
+      λ cells log z R. else-done n z (args .s) regs cells log (args .saved .now) (args .openers .now) R (minus .result) (count .result) (args .s .depth)
+          (args .s .row) (args .s .mask) _ refl refl refl (pre .1) (pre .2) refl (minus .ensures) (count .ensures .0),
     )
 
 pub else-row-spec : {M : Type 1} → statement M

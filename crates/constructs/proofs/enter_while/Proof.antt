@@ -24,7 +24,11 @@ element-copy-out-if2 : tie.Need-element-copy-out-if2
 element-copy-out-if2 c = let l = atmost (c .before .args .s) (c .before .args .openers .now) (c .before .pre) in omega (arith, c .if1 .taken)
 
 returns : tie.Need-returns
-returns c = enter-old (c .before .before .before .args .s) (c .before .before .before .args .saved .now) (c .before .before .before .args .openers .now) (c .before .before .if1 .taken) (atmost (c .before .before .before .args .s) (c .before .before .before .args .openers .now) (c .before .before .before .pre)) (c .if2 .taken)
+returns c =
+    let start = c .before .before .before in
+    let args = start .args in
+    let openers = args .openers .now in
+    enter-old (args .s) (args .saved .now) openers (c .before .before .if1 .taken) (atmost (args .s) openers (start .pre)) (c .if2 .taken)
 
 mul-saved : tie.Need-mul-saved
 mul-saved c = let l = new-room c in omega arith
@@ -42,7 +46,9 @@ add-result : tie.Need-add-result
 add-result c = let l = new-room c in omega arith
 
 returns-2 : tie.Need-returns-2
-returns-2 c = enter-new (c .before .args .s) (c .before .args .saved .now) (c .before .args .openers .now) (c .before .args .s .depth) (c .before .args .s .mask) (c .before .args .s .row) refl refl refl (new-room c) (apart c)
+returns-2 c =
+    let args = c .before .args in
+    enter-new (args .s) (args .saved .now) (args .openers .now) (args .s .depth) (args .s .mask) (args .s .row) refl refl refl (new-room c) (apart c)
 
 pub enter-while-spec : {M : Type 1} → statement M
 enter-while-spec =

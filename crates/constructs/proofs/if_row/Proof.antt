@@ -38,9 +38,14 @@ add-t19 c = omega (arith, c .before .before .before .before .pre .0, c .before .
 
 returns : tie.Need-returns
 returns c =
-    let g = c .before .before .before .before .args in (
-      record { rows-one = refl; steps-some = omega (arith, c .before .count .ensures); barriers-one = omega arith },
-      λ cells log z R. if-done (g .n) z (g .s) (g .regs .now) cells log (g .saved .now) (g .openers .now) R (g .a) (c .before .before .before .holding .result) (c .before .count .result) (g .s .depth) (g .s .row) (g .s .mask) refl refl refl (c .before .before .before .before .pre .3) (c .before .before .before .holding .ensures (g .n) (z .enabled) (z .regs) (R .memory .few) (R .enabled-is) (R .enabled-size) (R .memory .regs-are)) (c .before .count .ensures .0),
+    let count = c .before .count in
+    let holding = c .before .before .before .holding in
+    let start = c .before .before .before .before in
+    let args = start .args in (
+      record { rows-one = refl; steps-some = omega (arith, count .ensures); barriers-one = omega arith },
+      λ cells log z R. if-done (args .n) z (args .s) (args .regs .now) cells log (args .saved .now) (args .openers .now) R (args .a) (holding .result)
+          (count .result) (args .s .depth) (args .s .row) (args .s .mask) refl refl refl (start .pre .3)
+          (holding .ensures (args .n) (z .enabled) (z .regs) (R .memory .few) (R .enabled-is) (R .enabled-size) (R .memory .regs-are)) (count .ensures .0),
     )
 
 pub if-row-spec : {M : Type 1} → statement M

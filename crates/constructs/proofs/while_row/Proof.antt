@@ -34,14 +34,23 @@ add-t21 : tie.Need-add-t21
 add-t21 c = search needs
 
 add-t22 : tie.Need-add-t22
-add-t22 c = omega (arith, c .before .before .before .before .before .before .before .before .before .pre .0, c .before .before .before .before .before .count .ensures)
+add-t22 c =
+    let count = c .before .before .before .before .before .count in
+    let pre = c .before .before .before .before .before .before .before .before .before .pre .0 in
+    omega (arith, pre, count .ensures)
 
 returns : tie.Need-returns
 returns c =
-    let g = c .before .before .before .before .before .before .before .before .before .args in
-    let w = c .before .before .before .before .before .before .enter-while in (
-      record { rows-one = refl; steps-some = omega (arith, c .before .before .before .before .before .count .ensures); barriers-one = omega arith },
-      λ T cells log z ee R. while-leaves (g .n) z (g .s) (g .regs .now) cells log (g .saved .now) (g .openers .now) R T (g .a) (c .before .before .before .before .holding .result) (c .before .before .before .before .before .count .result) (w .result) (g .s .mask) (w .last .0) (w .last .1 .0) (w .ensures) refl (c .before .before .before .before .holding .ensures (g .n) (z .enabled) (z .regs) (R .memory .few) (R .enabled-is) (R .enabled-size) (R .memory .regs-are)) (c .before .before .before .before .before .count .ensures .0) (g .end) _ ee (c .before .before .before .if1 .taken) refl,
+    let none-stay = c .before .before .before .if1 .taken in
+    let holding = c .before .before .before .before .holding in
+    let count = c .before .before .before .before .before .count in
+    let enter-while = c .before .before .before .before .before .before .enter-while in
+    let args = c .before .before .before .before .before .before .before .before .before .args in (
+      record { rows-one = refl; steps-some = omega (arith, count .ensures); barriers-one = omega arith },
+      λ T cells log z ee R. while-leaves (args .n) z (args .s) (args .regs .now) cells log (args .saved .now) (args .openers .now) R T (args .a)
+          (holding .result) (count .result) (enter-while .result) (args .s .mask) (enter-while .last .0) (enter-while .last .1 .0) (enter-while .ensures)
+          refl (holding .ensures (args .n) (z .enabled) (z .regs) (R .memory .few) (R .enabled-is) (R .enabled-size) (R .memory .regs-are))
+          (count .ensures .0) (args .end) _ ee none-stay refl,
     )
 
 add-t23 : tie.Need-add-t23
@@ -51,14 +60,22 @@ add-t24 : tie.Need-add-t24
 add-t24 c = search needs
 
 add-t25 : tie.Need-add-t25
-add-t25 c = omega (arith, c .before .before .before .before .before .before .before .before .pre .0, c .before .before .before .before .count .ensures)
+add-t25 c =
+    let count = c .before .before .before .before .count in
+    let pre = c .before .before .before .before .before .before .before .before .pre .0 in
+    omega (arith, pre, count .ensures)
 
 returns-2 : tie.Need-returns-2
 returns-2 c =
-    let g = c .before .before .before .before .before .before .before .before .args in
-    let w = c .before .before .before .before .before .enter-while in (
-      record { rows-one = refl; steps-some = omega (arith, c .before .before .before .before .count .ensures); barriers-one = omega arith },
-      λ T cells log z ee R. while-stays (g .n) z (g .s) (g .regs .now) cells log (g .saved .now) (g .openers .now) R T (g .a) (c .before .before .before .holding .result) (c .before .before .before .before .count .result) (w .result) (g .s .mask) (w .last .0) (w .last .1 .0) (w .ensures) refl (c .before .before .before .holding .ensures (g .n) (z .enabled) (z .regs) (R .memory .few) (R .enabled-is) (R .enabled-size) (R .memory .regs-are)) (c .before .before .before .before .count .ensures .0) (g .s .row) refl (c .before .before .if1 .left),
+    let holding = c .before .before .before .holding in
+    let count = c .before .before .before .before .count in
+    let enter-while = c .before .before .before .before .before .enter-while in
+    let args = c .before .before .before .before .before .before .before .before .args in (
+      record { rows-one = refl; steps-some = omega (arith, count .ensures); barriers-one = omega arith },
+      λ T cells log z ee R. while-stays (args .n) z (args .s) (args .regs .now) cells log (args .saved .now) (args .openers .now) R T (args .a)
+          (holding .result) (count .result) (enter-while .result) (args .s .mask) (enter-while .last .0) (enter-while .last .1 .0) (enter-while .ensures)
+          refl (holding .ensures (args .n) (z .enabled) (z .regs) (R .memory .few) (R .enabled-is) (R .enabled-size) (R .memory .regs-are))
+          (count .ensures .0) (args .s .row) refl (c .before .before .if1 .left),
     )
 
 pub while-row-spec : {M : Type 1} → statement M

@@ -28,11 +28,17 @@ index-requires-2 c κs = search needs
 
 returns : tie.Need-returns
 returns c =
-    let g = c .before .before .before .before .before .before .before .args in
+    let cell = c .before .index2 in
+    let register = c .before .before .before .cell-register in
+    let thread = c .before .before .before .before .index in
+    let start = c .before .before .before .before .before .before .before in
+    let args = start .args in
+    let pre = start .pre .1 in
     λ n m x o h ed ea s M.
-    outside-did n (g .t) s (g .regs .now) (g .cells .now) (g .log .now) M h (g .op) (g .d) (g .a) (c .before .before .before .cell-register .result) (c .before .before .before .before .index .result) (c .before .index2 .result) m x o
-    (c .before .before .before .before .before .before .before .pre .1 .known) (c .before .before .before .before .before .before .before .pre .1 .small) (c .before .before .before .cell-register .ensures) ed ea (c .before .before .before .before .before .before .before .pre .1 .target) (c .before .before .before .before .before .before .before .pre .1 .source) (c .before .before .before .before .index .ensures) (c .before .index2 .ensures)
-    _ (sym (c .before .index2 .ensures)) (c .if1 .taken)
+    outside-did n (args .t) s (args .regs .now) (args .cells .now) (args .log .now) M h (args .op) (args .d) (args .a) (register .result)
+    (thread .result) (cell .result) m x o
+    (pre .known) (pre .small) (register .ensures) ed ea (pre .target) (pre .source) (thread .ensures) (cell .ensures)
+    _ (sym (cell .ensures)) (c .if1 .taken)
 
 conflict-requires : tie.Need-conflict-requires
 conflict-requires c κs = search needs
@@ -51,28 +57,54 @@ same-length-2 c = search needs
 
 returns-2 : tie.Need-returns-2
 returns-2 c =
-    let g = c .before .before .before .before .before .before .before .before .before .before .before .before .before .before .before .before .before .before .before .args in
+    let at-enter = c .before .before .before .before .before .before .before in
+    let no-foe = at-enter .before .before .if2 .taken in
+    let conflict = c .before .before .before .before .before .before .before .before .before .before .conflict in
+    let within = at-enter .before .before .before .before .before .if1 .left in
+    let cell = at-enter .before .before .before .before .before .before .index2 in
+    let register = at-enter .before .before .before .before .before .before .before .before .cell-register in
+    let thread = at-enter .before .before .before .before .before .before .before .before .before .index in
+    let start = at-enter .before .before .before .before .before .before .before .before .before .before .before .before in
+    let args = start .args in
+    let pre = start .pre in
     λ n m x o h ed ea s M.
-    made-did n (g .t) s (g .regs .now) (g .cells .now) (g .log .now) M h (g .op) (g .d) (g .a) (c .before .before .before .before .before .before .before .before .before .before .before .before .before .before .before .cell-register .result) (c .before .before .before .before .before .before .before .before .before .before .before .before .before .before .before .before .index .result) (c .before .before .before .before .before .before .before .before .before .before .before .before .before .index2 .result) m x o
-    (c .before .before .before .before .before .before .before .before .before .before .before .before .before .before .before .before .before .before .before .pre .1 .known) (c .before .before .before .before .before .before .before .before .before .before .before .before .before .before .before .before .before .before .before .pre .1 .small) (c .before .before .before .before .before .before .before .before .before .before .before .before .before .before .before .cell-register .ensures) ed ea (c .before .before .before .before .before .before .before .before .before .before .before .before .before .before .before .before .before .before .before .pre .1 .target) (c .before .before .before .before .before .before .before .before .before .before .before .before .before .before .before .before .before .before .before .pre .1 .source) (c .before .before .before .before .before .before .before .before .before .before .before .before .before .before .before .before .index .ensures) (c .before .before .before .before .before .before .before .before .before .before .before .before .before .index2 .ensures)
-    (c .before .before .before .before .before .before .before .before .before .before .before .before .if1 .left) (c .before .before .before .before .before .before .before .before .before .before .conflict .result) (c .before .before .before .before .before .before .before .before .before .before .conflict .ensures (g .t) (c .before .before .before .before .before .before .before .before .before .before .before .before .before .before .before .before .before .before .before .pre .0) (c .before .before .before .before .before .before .before .before .before .before .before .before .before .before .before .before .before .before .before .pre .2)) _ _ _ (c .before .before .before .before .before .before .before .before .before .if2 .taken) (c .before .before .transfer .ensures) (c .before .before .before .before .before .before .before .enter .ensures (g .t) (c .before .before .before .before .before .before .before .before .before .before .before .before .before .before .before .before .before .before .before .pre .0) (c .before .before .before .before .before .before .before .before .before .before .before .before .before .before .before .before .before .before .before .pre .2))
+    made-did n (args .t) s (args .regs .now) (args .cells .now) (args .log .now) M h (args .op) (args .d) (args .a) (register .result)
+    (thread .result) (cell .result) m x o
+    (pre .1 .known) (pre .1 .small) (register .ensures) ed ea (pre .1 .target) (pre .1 .source) (thread .ensures) (cell .ensures)
+    within (conflict .result) (conflict .ensures (args .t) (pre .0) (pre .2)) _ _ _ no-foe (c .before .before .transfer .ensures)
+    (at-enter .enter .ensures (args .t) (pre .0) (pre .2))
 
 lowest-requires : tie.Need-lowest-requires
 lowest-requires c κs = search needs
 
 race-kind-requires : tie.Need-race-kind-requires
-race-kind-requires c κs = (c .before .lowest .ensures .1 (omega (arith, c .before .before .if2 .left)), record { known = c .before .before .before .before .before .before .before .before .before .before .before .before .pre .1 .known; small = c .before .before .before .before .before .before .before .before .before .before .before .before .pre .1 .small; twice = c .before .before .before .before .before .before .before .before .before .before .before .before .pre .1 .twice; inside = c .before .before .before .before .before .if1 .left; few = c .before .before .before .before .before .before .before .before .before .before .before .before .pre .1 .cells-few })
+race-kind-requires c κs =
+    let within = c .before .before .before .before .before .if1 .left in
+    let pre = c .before .before .before .before .before .before .before .before .before .before .before .before .pre .1 in (
+      c .before .lowest .ensures .1 (omega (arith, c .before .before .if2 .left)),
+      record { known = pre .known; small = pre .small; twice = pre .twice; inside = within; few = pre .cells-few },
+    )
 
 same-length-3 : tie.Need-same-length-3
 same-length-3 c = search needs
 
 returns-3 : tie.Need-returns-3
 returns-3 c =
-    let g = c .before .before .before .before .before .before .before .before .before .before .before .before .before .args in
+    let a-foe = c .before .before .before .if2 .left in
+    let conflict = c .before .before .before .before .conflict in
+    let within = c .before .before .before .before .before .before .if1 .left in
+    let cell = c .before .before .before .before .before .before .before .index2 in
+    let register = c .before .before .before .before .before .before .before .before .before .cell-register in
+    let thread = c .before .before .before .before .before .before .before .before .before .before .index in
+    let start = c .before .before .before .before .before .before .before .before .before .before .before .before .before in
+    let args = start .args in
+    let pre = start .pre in
     λ n m x o h ed ea s M.
-    race-did n (g .t) s (g .regs .now) (g .cells .now) (g .log .now) M h (g .op) (g .d) (g .a) (c .before .before .before .before .before .before .before .before .before .cell-register .result) (c .before .before .before .before .before .before .before .before .before .before .index .result) (c .before .before .before .before .before .before .before .index2 .result) m x o
-    (c .before .before .before .before .before .before .before .before .before .before .before .before .before .pre .1 .known) (c .before .before .before .before .before .before .before .before .before .before .before .before .before .pre .1 .small) (c .before .before .before .before .before .before .before .before .before .cell-register .ensures) ed ea (c .before .before .before .before .before .before .before .before .before .before .before .before .before .pre .1 .target) (c .before .before .before .before .before .before .before .before .before .before .before .before .before .pre .1 .source) (c .before .before .before .before .before .before .before .before .before .before .index .ensures) (c .before .before .before .before .before .before .before .index2 .ensures)
-    (c .before .before .before .before .before .before .if1 .left) (c .before .before .before .before .conflict .result) (c .before .before .before .before .conflict .ensures (g .t) (c .before .before .before .before .before .before .before .before .before .before .before .before .before .pre .0) (c .before .before .before .before .before .before .before .before .before .before .before .before .before .pre .2)) _ _ _ (sym (c .before .before .before .before .before .before .before .index2 .ensures)) (c .before .before .before .if2 .left) (c .before .before .lowest .ensures .0) (c .race-kind .ensures)
+    race-did n (args .t) s (args .regs .now) (args .cells .now) (args .log .now) M h (args .op) (args .d) (args .a) (register .result)
+    (thread .result) (cell .result) m x o
+    (pre .1 .known) (pre .1 .small) (register .ensures) ed ea (pre .1 .target) (pre .1 .source) (thread .ensures) (cell .ensures)
+    within (conflict .result) (conflict .ensures (args .t) (pre .0) (pre .2)) _ _ _ (sym (cell .ensures)) a-foe
+    (c .before .before .lowest .ensures .0) (c .race-kind .ensures)
 
 pub access-one-spec : {M : Type 1} → statement M
 access-one-spec =

@@ -26,21 +26,32 @@ abbrev μ-loop : tie.MeasureT-loop
 
 loop-holds : tie.Need-loop-holds Inv-loop μ-loop
 loop-holds c =
-    let g = c .before .before .args in (
+    let args = c .before .before .args in
+    let memory = args .cells .now in (
       omega arith,
       omega arith,
       refl,
       refl,
       λ y x o ed ea s e l M.
-          turn-start (accessTurn (record { threads = g .n; cells = length (g .cells .now) }) y x) (g .n) s (g .mask) (g .regs .now) (g .cells .now) (g .log .now) e l M,
+          turn-start (accessTurn (record { threads = args .n; cells = length memory }) y x) (args .n) s (args .mask) (args .regs .now) memory (args .log .now) e l M,
       λ h. refl,
     )
 
 access-one-requires : tie.Need-access-one-requires Inv-loop μ-loop
 access-one-requires c κs =
-    let p = c .before .before .before .before .before .before .before .before .pre .1 in
-    let i = c .before .before .before .before .before .loop .inv in
-    (omega (arith, c .before .before .before .before .before .before .before .before .pre .0), record { known = p .known; small = p .small; target = p .target; source = p .source; twice = omega (arith, i .2, i .3, p .twice); cells-few = omega (arith, i .2, p .cells-few) }, i .5 (omega (arith, c .before .before .before .before .before .before .before .before .pre .0)))
+    let turn = c .before .before .before .before .before .loop in
+    let pre = c .before .before .before .before .before .before .before .before .pre in (
+      omega (arith, pre .0),
+      record {
+        known = pre .1 .known;
+        small = pre .1 .small;
+        target = pre .1 .target;
+        source = pre .1 .source;
+        twice = omega (arith, turn .inv .2, turn .inv .3, pre .1 .twice);
+        cells-few = omega (arith, turn .inv .2, pre .1 .cells-few);
+      },
+      turn .inv .5 (omega (arith, pre .0)),
+    )
 
 enum-told : tie.Need-enum-told Inv-loop μ-loop
 enum-told c = search needs
@@ -49,21 +60,34 @@ enum-known-v : tie.Need-enum-known-v Inv-loop μ-loop
 enum-known-v c = search needs
 
 same-length : tie.Need-same-length Inv-loop μ-loop
-same-length c = c .before .before .before .before .before .before .before .access-one .kept .1 .0 ∙ c .before .before .before .before .before .before .before .before .before .before .before .before .before .loop .inv .2
+same-length c =
+    let access-one = c .before .before .before .before .before .before .before .access-one in
+    let turn = c .before .before .before .before .before .before .before .before .before .before .before .before .before .loop in
+    access-one .kept .1 .0 ∙ turn .inv .2
 
 same-length-2 : tie.Need-same-length-2 Inv-loop μ-loop
-same-length-2 c = c .before .before .before .before .before .before .before .access-one .kept .1 .1 .0 ∙ c .before .before .before .before .before .before .before .before .before .before .before .before .before .loop .inv .3
+same-length-2 c =
+    let access-one = c .before .before .before .before .before .before .before .access-one in
+    let turn = c .before .before .before .before .before .before .before .before .before .before .before .before .before .loop in
+    access-one .kept .1 .1 .0 ∙ turn .inv .3
 
 returns : tie.Need-returns Inv-loop μ-loop
 returns c =
-    let g = c .before .before .before .before .before .before .before .before .before .before .before .before .before .before .before .before .args in
-    let l = c .before .before .before .before .before .before .before .before .before .before .before .before .before .loop in
-    let a = c .before .before .before .before .before .before .before .access-one in
-    let h = c .before .before .before .before .before .before .before .before .before .before .before .before .loop-test .taken in (
-      omega (arith, l .inv .0, l .inv .1, c .before .before .before .before .before .before .before .before .before .before .before .before .before .before .before .before .pre .0),
+    let access-one = c .before .before .before .before .before .before .before .access-one in
+    let enabled = c .before .before .before .before .before .before .before .before .before .before .before .if1 .taken in
+    let some-left = c .before .before .before .before .before .before .before .before .before .before .before .before .loop-test .taken in
+    let turn = c .before .before .before .before .before .before .before .before .before .before .before .before .before .loop in
+    let start = c .before .before .before .before .before .before .before .before .before .before .before .before .before .before .before .before in
+    let args = start .args in
+    let memory = args .cells .now in (
+      omega (arith, turn .inv .0, turn .inv .1, start .pre .0),
       λ y x o ed ea s e q M.
-          go-stop (accessTurn (record { threads = g .n; cells = length (g .cells .now) }) y x) (g .n) s (l .k) (l .t) (l .m) (l .regs) (l .cells) (l .log) (l .inv .4 y x o ed ea s e q M) (a .result) _ (a .last .0) (a .last .1 .0) (a .last .1 .1 .0) h (c .before .before .before .before .before .before .before .before .before .before .before .if1 .taken)
-          (subst (λ k. OneTurn (accessTurn (record { threads = g .n; cells = k }) y x) (g .n) (l .t) (l .regs) (l .cells) (l .log) (a .result) (a .last .0) (a .last .1 .0) (a .last .1 .1 .0)) (l .inv .2) (a .ensures (g .n) y x o h ed ea)) (c .before .v .given .1),
+          go-stop (accessTurn (record { threads = args .n; cells = length memory }) y x) (args .n) s (turn .k) (turn .t) (turn .m) (turn .regs)
+          (turn .cells) (turn .log) (turn .inv .4 y x o ed ea s e q M) (access-one .result) _ (access-one .last .0) (access-one .last .1 .0)
+          (access-one .last .1 .1 .0) some-left enabled
+          (subst (λ k. OneTurn (accessTurn (record { threads = args .n; cells = k }) y x) (args .n) (turn .t) (turn .regs) (turn .cells) (turn .log)
+          (access-one .result) (access-one .last .0) (access-one .last .1 .0) (access-one .last .1 .1 .0)) (turn .inv .2)
+          (access-one .ensures (args .n) y x o some-left ed ea)) (c .before .v .given .1),
     )
 
 add-k : tie.Need-add-k Inv-loop μ-loop
@@ -77,28 +101,33 @@ loop-less c = omega (arith, c .before .loop-test .taken)
 
 loop-again : tie.Need-loop-again Inv-loop μ-loop
 loop-again c =
-    let g = c .before .before .before .before .before .args in
-    let l = c .before .before .loop in
-    let h = c .before .loop-test .taken in
+    let some-left = c .before .loop-test .taken in
+    let turn = c .before .before .loop in
+    let args = c .before .before .before .before .before .args in
+    let memory = args .cells .now in
     ⊎-elim
     (λ w. (
-      omega (arith, h),
+      omega (arith, some-left),
       omega (arith, w .14),
-      ap length (w .12) ∙ w .4 .kept .1 .0 ∙ l .inv .2,
-      ap length (w .13) ∙ w .4 .kept .1 .1 .0 ∙ l .inv .3,
+      ap length (w .12) ∙ w .4 .kept .1 .0 ∙ turn .inv .2,
+      ap length (w .13) ∙ w .4 .kept .1 .1 .0 ∙ turn .inv .3,
       λ y x o ed ea s e q M.
-          go-in (accessTurn (record { threads = g .n; cells = length (g .cells .now) }) y x) (g .n) s (l .k) (l .t) (l .m) (l .regs) (l .cells) (l .log) (l .inv .4 y x o ed ea s e q M) (w .4 .result) (w .4 .last .0) (w .4 .last .1 .0) (w .4 .last .1 .1 .0) _ _ _ _ h (w .0 .taken)
-          (subst (λ k. OneTurn (accessTurn (record { threads = g .n; cells = k }) y x) (g .n) (l .t) (l .regs) (l .cells) (l .log) (w .4 .result) (w .4 .last .0) (w .4 .last .1 .0) (w .4 .last .1 .1 .0)) (l .inv .2) (w .4 .ensures (g .n) y x o h ed ea)) (w .10 .given .1) (w .11) (w .12) (w .13) (w .14),
-      next-bit (l .t) (l .bit) (l .inv .5),
+          go-in (accessTurn (record { threads = args .n; cells = length memory }) y x) (args .n) s (turn .k) (turn .t) (turn .m) (turn .regs) (turn .cells)
+          (turn .log) (turn .inv .4 y x o ed ea s e q M) (w .4 .result) (w .4 .last .0) (w .4 .last .1 .0) (w .4 .last .1 .1 .0) _ _ _ _ some-left (w .0 .taken)
+          (subst (λ k. OneTurn (accessTurn (record { threads = args .n; cells = k }) y x) (args .n) (turn .t) (turn .regs) (turn .cells) (turn .log)
+          (w .4 .result) (w .4 .last .0) (w .4 .last .1 .0) (w .4 .last .1 .1 .0)) (turn .inv .2) (w .4 .ensures (args .n) y x o some-left ed ea))
+          (w .10 .given .1) (w .11) (w .12) (w .13) (w .14),
+      next-bit (turn .t) (turn .bit) (turn .inv .5),
     ))
     (λ w. (
-      omega (arith, h),
+      omega (arith, some-left),
       omega (arith, w .4),
-      ap length (w .2) ∙ l .inv .2,
-      ap length (w .3) ∙ l .inv .3,
+      ap length (w .2) ∙ turn .inv .2,
+      ap length (w .3) ∙ turn .inv .3,
       λ y x o ed ea s e q M.
-          go-out (accessTurn (record { threads = g .n; cells = length (g .cells .now) }) y x) (g .n) s (l .k) (l .t) (l .m) (l .regs) (l .cells) (l .log) (l .inv .4 y x o ed ea s e q M) _ _ _ _ h (w .0 .left) (w .1) (w .2) (w .3) (w .4),
-      next-bit (l .t) (l .bit) (l .inv .5),
+          go-out (accessTurn (record { threads = args .n; cells = length memory }) y x) (args .n) s (turn .k) (turn .t) (turn .m) (turn .regs) (turn .cells)
+          (turn .log) (turn .inv .4 y x o ed ea s e q M) _ _ _ _ some-left (w .0 .left) (w .1) (w .2) (w .3) (w .4),
+      next-bit (turn .t) (turn .bit) (turn .inv .5),
     ))
     (c .if1 .came)
 
@@ -113,11 +142,13 @@ same-length-4 c = c .before .before .loop .inv .3
 
 returns-2 : tie.Need-returns-2 Inv-loop μ-loop
 returns-2 c =
-    let g = c .before .before .before .before .before .args in
-    let l = c .before .before .loop in (
+    let turn = c .before .before .loop in
+    let args = c .before .before .before .before .before .args in
+    let memory = args .cells .now in (
       c .count .ensures .1,
       λ y x o ed ea s e q M.
-          turn-whole (accessTurn (record { threads = g .n; cells = length (g .cells .now) }) y x) (g .n) s (l .k) (l .t) (l .m) (l .regs) (l .cells) (l .log) (l .inv .4 y x o ed ea s e q M) (g .mask) (c .count .result) e (c .count .ensures .0) (c .before .loop-test .left),
+          turn-whole (accessTurn (record { threads = args .n; cells = length memory }) y x) (args .n) s (turn .k) (turn .t) (turn .m) (turn .regs)
+          (turn .cells) (turn .log) (turn .inv .4 y x o ed ea s e q M) (args .mask) (c .count .result) e (c .count .ensures .0) (c .before .loop-test .left),
     )
 
 pub access-row-spec : {M : Type 1} → statement M

@@ -40,13 +40,25 @@ slice-write-cells : tie.Need-slice-write-cells
 slice-write-cells c = search needs
 
 returns : tie.Need-returns
-returns c = record { load-regs = λ e. refl; load-cells = λ e. refl; store-regs = λ n. absurd (n (c .before .if1 .taken)); store-cells = λ n. absurd (n (c .before .if1 .taken)) }
+returns c =
+    record {
+      load-regs = λ e. refl;
+      load-cells = λ e. refl;
+      store-regs = λ n. absurd (n (c .before .if1 .taken));
+      store-cells = λ n. absurd (n (c .before .if1 .taken));
+    }
 
 same-length : tie.Need-same-length
 same-length c = search needs
 
 returns-2 : tie.Need-returns-2
-returns-2 c = record { load-regs = λ e. absurd (c .before .if1 .left e); load-cells = λ e. absurd (c .before .if1 .left e); store-regs = λ n. refl; store-cells = λ n. refl }
+returns-2 c =
+    record {
+      load-regs = λ e. absurd (c .before .if1 .left e);
+      load-cells = λ e. absurd (c .before .if1 .left e);
+      store-regs = λ n. refl;
+      store-cells = λ n. refl;
+    }
 
 pub transfer-spec : {M : Type 1} → statement M
 transfer-spec =

@@ -1,4 +1,5 @@
--- `reader::body` and `reader::construct` meet their contracts: the rows that are left fall, and the loop keeps that the rows behind it are read. Assumes nothing.
+-- `reader::body` and `reader::construct` meet their contracts: the rows that are left fall, and the loop keeps that the rows behind it are read. Assumes
+-- nothing.
 use mathlib.Core.Path.{_≡_, sym, _∙_, ap, subst}
 use mathlib.Core.Logic.{inl, inr, ⊎-elim}
 use mathlib.Core.Option.{none}
@@ -16,7 +17,8 @@ use Rattle.admission.specs.Refusing.{refusalOf}
 use Rattle.reader.specs.Parts.{ownRefusal, Fails, Span, Body, Construct, BodyIs, ConstructIs, ClosesIs}
 use Rattle.reader.proofs.OpBytes.{plain-byte}
 use Rattle.reader.proofs.Passing.{fail-on}
-use Rattle.reader.proofs.Constructs.{else-there, else-none, span-none, span-on, span-plain, span-refused, ninth, first-refused, if-closes, second-refused, else-closes, loop-refused, loop-closes}
+use Rattle.reader.proofs.Constructs.{else-there, else-none, span-none, span-on, span-plain, span-refused, ninth, first-refused, if-closes}
+use Rattle.reader.proofs.Constructs.{second-refused, else-closes, loop-refused, loop-closes}
 use Rattle.reader.proofs.body.Reads as body
 use Rattle.reader.proofs.body.Kinds as body-kinds
 use Rattle.reader.proofs.+body+construct.Lts-body as body-lts
@@ -62,7 +64,11 @@ body-μ-loop table from depth ends₀ rows row₀ ends row = rows - row
 
 module _ (t : ℕ) where
   body-loop-holds : body-lts.Need-loop-holds (body-calls t) (body-at t) body.Post body-Inv-loop body-μ-loop
-  body-loop-holds c = let a = c .before .args in span-none (a .table .now) (c .before .pre .1 .0) (a .depth) (a .from) (a .ends .now) (c .before .pre .1 .1)
+  body-loop-holds c =
+      let start = c .before in
+      let args = start .args in
+      let pre = start .pre .1 in
+      span-none (args .table .now) (pre .0) (args .depth) (args .from) (args .ends .now) (pre .1)
 
   body-row-fits-requires : body-lts.Need-row-fits-requires (body-calls t) (body-at t) body.Post body-Inv-loop body-μ-loop
   body-row-fits-requires c κs = search needs
@@ -72,8 +78,10 @@ module _ (t : ℕ) where
 
   body-returns : body-lts.Need-returns (body-calls t) (body-at t) body.Post body-Inv-loop body-μ-loop
   body-returns c =
-      let s = c .before .before .before .before .before .before .before in
-      span-refused (s .args .table .now) (s .pre .1 .0) (c .before .before .before .before .before .loop .inv) (omega arith) (sym (c .before .before .before .row-fits .ensures) ∙ ap refusalOf (c .before .why .given .1))
+      let row-fits = c .before .before .before .row-fits in
+      let turn = c .before .before .before .before .before .loop in
+      let start = c .before .before .before .before .before .before .before in
+      span-refused (start .args .table .now) (start .pre .1 .0) (turn .inv) (omega arith) (sym (row-fits .ensures) ∙ ap refusalOf (c .before .why .given .1))
 
   body-enum-told : body-lts.Need-enum-told (body-calls t) (body-at t) body.Post body-Inv-loop body-μ-loop
   body-enum-told c = search needs
@@ -88,49 +96,69 @@ module _ (t : ℕ) where
   abbrev Fitting : Type 0
   Fitting = body-lts.After-enum-told (body-calls t) (body-at t) body.Post body-Inv-loop body-μ-loop
 
-  inside : (c : Fitting) → c .before .before .before .before .loop .row * 4 < length (c .before .before .before .before .before .before .args .table .now)
+  inside : (c : Fitting)
+      → let turn = c .before .before .before .before .loop in
+      let start = c .before .before .before .before .before .before in
+      turn .row * 4 < length (start .args .table .now)
   inside c = omega arith
 
-  own : (c : Fitting) → let r = c .before .before .before .before .loop .row in ownRefusal r (rowAt (rowsOf (c .before .before .before .before .before .before .args .table .now)) r) ≡ none
+  own : (c : Fitting)
+      → let turn = c .before .before .before .before .loop in
+      let start = c .before .before .before .before .before .before in
+      ownRefusal (turn .row) (rowAt (rowsOf (start .args .table .now)) (turn .row)) ≡ none
   own c = sym (c .before .before .row-fits .ensures) ∙ ap refusalOf (c .enum-told .given .1)
 
   body-construct-requires : body-lts.Need-construct-requires (body-calls t) (body-at t) body.Post body-Inv-loop body-μ-loop
   body-construct-requires c κs =
-      let p = c .before .before .before .before .before .before .before .before .before .pre .1 in
-      (omega arith, (p .0, inside (c .before .before .before), p .2, c .before .match2 .keys1, own (c .before .before .before), c .before .before .before .before .before .before .before .loop .inv .notes .size ∙ p .3))
+      let fitting = c .before .before .before in
+      let turn = c .before .before .before .before .before .before .before .loop in
+      let pre = c .before .before .before .before .before .before .before .before .before .pre .1 in
+      (omega arith, (pre .0, inside fitting, pre .2, c .before .match2 .keys1, own fitting, turn .inv .notes .size ∙ pre .3))
 
   body-enum-known-next : body-lts.Need-enum-known-next (body-calls t) (body-at t) body.Post body-Inv-loop body-μ-loop
   body-enum-known-next c = search needs
 
   -- The construct at the loop's row, up to the row behind it.
   read : (c : body-lts.After-known-told2 (body-calls t) (body-at t) body.Post body-Inv-loop body-μ-loop)
-      → let a = c .before .before .before .before .before .before .before .before .before .before .before .before .before .args in let l = c .before .before .before .before .before .before .before .before .before .before .before .loop in Construct (a .table .now) (a .depth) (l .row) (c .before .next .given .0 .0) (l .ends) (c .before .before .before .construct .last .1 .1 .1 .0)
+      → let nested = c .before .before .before .construct in
+      let turn = c .before .before .before .before .before .before .before .before .before .before .before .loop in
+      let args = c .before .before .before .before .before .before .before .before .before .before .before .before .before .args in
+      Construct (args .table .now) (args .depth) (turn .row) (c .before .next .given .0 .0) (turn .ends) (nested .last .1 .1 .1 .0)
   read c =
-      let a = c .before .before .before .before .before .before .before .before .before .before .before .before .before .args in
-      let l = c .before .before .before .before .before .before .before .before .before .before .before .loop in
-      subst (ConstructIs (a .table .now) (a .depth) (l .row) (l .ends) (c .before .before .before .construct .last .1 .1 .1 .0)) (c .before .next .given .1) (c .before .before .before .construct .ensures)
+      let nested = c .before .before .before .construct in
+      let turn = c .before .before .before .before .before .before .before .before .before .before .before .loop in
+      let args = c .before .before .before .before .before .before .before .before .before .before .before .before .before .args in
+      subst (ConstructIs (args .table .now) (args .depth) (turn .row) (turn .ends) (nested .last .1 .1 .1 .0)) (c .before .next .given .1) (nested .ensures)
 
   body-loop-less : body-lts.Need-loop-less (body-calls t) (body-at t) body.Post body-Inv-loop body-μ-loop
   body-loop-less c = omega (arith, (read c) .onward, (read c) .span .within)
 
   body-loop-again : body-lts.Need-loop-again (body-calls t) (body-at t) body.Post body-Inv-loop body-μ-loop
-  body-loop-again c = span-on (c .before .before .before .before .before .before .before .before .before .before .before .before .before .args .table .now) (c .before .before .before .before .before .before .before .before .before .before .before .before .before .pre .1 .0) (c .before .before .before .before .before .before .before .before .before .before .before .loop .inv) ((read c) .span)
+  body-loop-again c =
+      let turn = c .before .before .before .before .before .before .before .before .before .before .before .loop in
+      let start = c .before .before .before .before .before .before .before .before .before .before .before .before .before in
+      span-on (start .args .table .now) (start .pre .1 .0) (turn .inv) ((read c) .span)
 
   body-enum-known-why-2 : body-lts.Need-enum-known-why-2 (body-calls t) (body-at t) body.Post body-Inv-loop body-μ-loop
   body-enum-known-why-2 c = search needs
 
   body-returns-2 : body-lts.Need-returns-2 (body-calls t) (body-at t) body.Post body-Inv-loop body-μ-loop
   body-returns-2 c =
-      let a = c .before .before .before .before .before .before .before .before .before .before .before .before .before .args in
-      let l = c .before .before .before .before .before .before .before .before .before .before .before .loop in
-      fail-on (l .inv .passes)
-      (subst (ConstructIs (a .table .now) (a .depth) (l .row) (l .ends) (c .before .before .before .construct .last .1 .1 .1 .0)) (c .before .why2 .given .1) (c .before .before .before .construct .ensures))
+      let nested = c .before .before .before .construct in
+      let turn = c .before .before .before .before .before .before .before .before .before .before .before .loop in
+      let args = c .before .before .before .before .before .before .before .before .before .before .before .before .before .args in
+      fail-on (turn .inv .passes)
+      (subst (ConstructIs (args .table .now) (args .depth) (turn .row) (turn .ends) (nested .last .1 .1 .1 .0)) (c .before .why2 .given .1) (nested .ensures))
 
   body-returns-3 : body-lts.Need-returns-3 (body-calls t) (body-at t) body.Post body-Inv-loop body-μ-loop
-  body-returns-3 c = record { span = c .before .before .before .before .before .before .loop .inv; stops = λ l. record { byte = inl (c .match2 .keys2); own = own (c .before .before) } }
+  body-returns-3 c =
+      let turn = c .before .before .before .before .before .before .loop in
+      record { span = turn .inv; stops = λ l. record { byte = inl (c .match2 .keys2); own = own (c .before .before) } }
 
   body-returns-4 : body-lts.Need-returns-4 (body-calls t) (body-at t) body.Post body-Inv-loop body-μ-loop
-  body-returns-4 c = record { span = c .before .before .before .before .before .before .loop .inv; stops = λ l. record { byte = inr (c .match2 .keys3); own = own (c .before .before) } }
+  body-returns-4 c =
+      let turn = c .before .before .before .before .before .before .loop in
+      record { span = turn .inv; stops = λ l. record { byte = inr (c .match2 .keys3); own = own (c .before .before) } }
 
   body-add-row : body-lts.Need-add-row (body-calls t) (body-at t) body.Post body-Inv-loop body-μ-loop
   body-add-row c = search needs
@@ -140,25 +168,33 @@ module _ (t : ℕ) where
 
   body-loop-again-2 : body-lts.Need-loop-again-2 (body-calls t) (body-at t) body.Post body-Inv-loop body-μ-loop
   body-loop-again-2 c =
-      let s = c .before .before .before .before .before .before .before .before in
-      let t = s .args .table .now in
-      let r = c .before .before .before .before .before .before .loop .row in
+      let turn = c .before .before .before .before .before .before .loop in
+      let start = c .before .before .before .before .before .before .before .before in
+      let args = start .args in
+      let table = args .table .now in
+      let pre = start .pre .1 .0 in
       let n = c .match2 .rest in
       let p =
-      plain-byte (getD t (r * 4) 0) (c .before .shared-slice-known2 .given (r * 4) .fits) (λ e. n .0 .0 .1 (inl e)) (λ e. n .0 .1 (inl e)) (n .1) (λ e. n .0 .0 .1 (inr e)) (λ e. n .0 .1 (inr e)) in
-      span-on t (s .pre .1 .0) (c .before .before .before .before .before .before .loop .inv) (span-plain t (s .pre .1 .0) (s .args .depth) r (c .before .before .before .before .before .before .loop .ends) (inside (c .before .before)) (own (c .before .before)) p)
+      plain-byte (getD table (turn .row * 4) 0) (c .before .shared-slice-known2 .given (turn .row * 4) .fits) (λ e. n .0 .0 .1 (inl e))
+      (λ e. n .0 .1 (inl e)) (n .1) (λ e. n .0 .0 .1 (inr e)) (λ e. n .0 .1 (inr e)) in
+      span-on table pre (turn .inv) (span-plain table pre (args .depth) (turn .row) (turn .ends) (inside (c .before .before)) (own (c .before .before)) p)
 
   body-returns-5 : body-lts.Need-returns-5 (body-calls t) (body-at t) body.Post body-Inv-loop body-μ-loop
-  body-returns-5 c = record { span = c .before .loop .inv; stops = λ l. absurd (omega (arith, c .before .before .before .pre .1 .0)) }
+  body-returns-5 c =
+      let pre = c .before .before .before .pre .1 .0 in
+      record { span = c .before .loop .inv; stops = λ l. absurd (omega (arith, pre)) }
 
   construct-cast-t12 : construct-lts.Need-cast-t12 (construct-calls t) (construct-at t) construct.Post
   construct-cast-t12 c = search needs
 
   construct-returns : construct-lts.Need-returns (construct-calls t) (construct-at t) construct.Post
   construct-returns c =
-      let a = c .before .before .args in
-      let p = c .before .before .pre .1 in
-      subst (λ d. Fails (rowsOf (a .table .now)) d (a .row) (TooDeep (a .row))) (sym (c .if1 .taken)) (ninth (a .table .now) (p .0) 8 (a .row) (p .1) (p .4) (p .3))
+      let start = c .before .before in
+      let args = start .args in
+      let table = args .table .now in
+      let pre = start .pre .1 in
+      subst (λ d. Fails (rowsOf table) d (args .row) (TooDeep (args .row))) (sym (c .if1 .taken))
+      (ninth table (pre .0) 8 (args .row) (pre .1) (pre .4) (pre .3))
 
   construct-add-body : construct-lts.Need-add-body (construct-calls t) (construct-at t) construct.Post
   construct-add-body c = search needs
@@ -177,10 +213,12 @@ module _ (t : ℕ) where
 
   construct-returns-2 : construct-lts.Need-returns-2 (construct-calls t) (construct-at t) construct.Post
   construct-returns-2 c =
-      let a = c .before .before .before .before .before .before .args in
-      let p = c .before .before .before .before .before .before .pre .1 in
-      first-refused (a .table .now) (p .0) (a .depth) (a .row) (p .1) (p .4) (a .ends .now) (c .before .before .body .last .1 .1 .1 .0)
-      (c .enum-told .given .1) (p .3) (omega (arith, p, c .before .before .before .before .if1 .left)) (c .before .before .body .ensures)
+      let not-deepest = c .before .before .before .before .if1 .left in
+      let start = c .before .before .before .before .before .before in
+      let args = start .args in
+      let pre = start .pre .1 in
+      first-refused (args .table .now) (pre .0) (args .depth) (args .row) (pre .1) (pre .4) (args .ends .now) (c .before .before .body .last .1 .1 .1 .0)
+      (c .enum-told .given .1) (pre .3) (omega (arith, pre, not-deepest)) (c .before .before .body .ensures)
 
   construct-mul-if2 : construct-lts.Need-mul-if2 (construct-calls t) (construct-at t) construct.Post
   construct-mul-if2 c = search needs
@@ -192,30 +230,48 @@ module _ (t : ℕ) where
   abbrev AfterFirst : Type 0
   AfterFirst = construct-lts.After-known-told (construct-calls t) (construct-at t) construct.Post
 
-  first : (c : AfterFirst) → let a = c .before .before .before .before .before .before .before .args in Body (a .table .now) (a .depth + 1) (a .row + 1) (c .before .first .given .0 .0) (a .ends .now) (c .before .before .before .body .last .1 .1 .1 .0)
+  first : (c : AfterFirst)
+      → let inner = c .before .before .before .body in
+      let args = c .before .before .before .before .before .before .before .args in
+      Body (args .table .now) (args .depth + 1) (args .row + 1) (c .before .first .given .0 .0) (args .ends .now) (inner .last .1 .1 .1 .0)
   first c =
-      let a = c .before .before .before .before .before .before .before .args in
-      subst (BodyIs (a .table .now) (a .depth + 1) (a .row + 1) (a .ends .now) (c .before .before .before .body .last .1 .1 .1 .0)) (c .before .first .given .1) (c .before .before .before .body .ensures)
+      let inner = c .before .before .before .body in
+      let args = c .before .before .before .before .before .before .before .args in
+      subst (BodyIs (args .table .now) (args .depth + 1) (args .row + 1) (args .ends .now) (inner .last .1 .1 .1 .0)) (c .before .first .given .1)
+      (inner .ensures)
 
   shallow : (c : AfterFirst) → c .before .before .before .before .before .before .before .args .depth < 8
-  shallow c = omega (arith, c .before .before .before .before .before .before .before .pre .1, c .before .before .before .before .before .if1 .left)
+  shallow c =
+      let not-deepest = c .before .before .before .before .before .if1 .left in
+      let pre = c .before .before .before .before .before .before .before .pre .1 in
+      omega (arith, pre, not-deepest)
 
   construct-closes-requires : construct-lts.Need-closes-requires (construct-calls t) (construct-at t) construct.Post
-  construct-closes-requires c κs = (c .before .before .before .before .before .before .before .before .before .pre .1 .0, omega (arith, (first (c .before .before)) .span .on), (first (c .before .before)) .span .within)
+  construct-closes-requires c κs =
+      let pre = c .before .before .before .before .before .before .before .before .before .pre .1 .0 in
+      (pre, omega (arith, (first (c .before .before)) .span .on), (first (c .before .before)) .span .within)
 
   construct-enum-known-closed : construct-lts.Need-enum-known-closed (construct-calls t) (construct-at t) construct.Post
   construct-enum-known-closed c = search needs
 
   -- The loop's ENDWHILE, which stands before the row `next`.
   ended : (c : construct-lts.After-known-told2 (construct-calls t) (construct-at t) construct.Post)
-      → let a = c .before .before .before .before .before .before .before .before .before .before .before .before .before .args in ClosesIs (a .table .now) (a .row) (c .before .before .before .before .before .before .before .first .given .0 .0) 36 (To (c .before .closed .given .0 .0))
-  ended c = let a = c .before .before .before .before .before .before .before .before .before .before .before .before .before .args in subst (ClosesIs (a .table .now) (a .row) (c .before .before .before .before .before .before .before .first .given .0 .0) 36) (c .before .closed .given .1) (c .before .before .before .closes .ensures)
+      → let k = c .before .before .before .before .before .before .before .first .given .0 .0 in
+      let args = c .before .before .before .before .before .before .before .before .before .before .before .before .before .args in
+      ClosesIs (args .table .now) (args .row) k 36 (To (c .before .closed .given .0 .0))
+  ended c =
+      let closes = c .before .before .before .closes in
+      let k = c .before .before .before .before .before .before .before .first .given .0 .0 in
+      let args = c .before .before .before .before .before .before .before .before .before .before .before .before .before .args in
+      subst (ClosesIs (args .table .now) (args .row) k 36) (c .before .closed .given .1) (closes .ensures)
 
   construct-sub-ends : construct-lts.Need-sub-ends (construct-calls t) (construct-at t) construct.Post
   construct-sub-ends c = omega (arith, (ended c) .0, (first (c .before .before .before .before .before .before)) .span .on)
 
   construct-cast-ends : construct-lts.Need-cast-ends (construct-calls t) (construct-at t) construct.Post
-  construct-cast-ends c = omega (arith, (ended c) .0, (ended c) .1, c .before .before .before .before .before .before .before .before .before .before .before .before .before .pre .1)
+  construct-cast-ends c =
+      let pre = c .before .before .before .before .before .before .before .before .before .before .before .before .before .pre .1 in
+      omega (arith, (ended c) .0, (ended c) .1, pre)
 
   construct-element-write-ends : construct-lts.Need-element-write-ends (construct-calls t) (construct-at t) construct.Post
   construct-element-write-ends c = omega arith
@@ -225,49 +281,85 @@ module _ (t : ℕ) where
 
   construct-returns-3 : construct-lts.Need-returns-3 (construct-calls t) (construct-at t) construct.Post
   construct-returns-3 c =
-      let a = c .before .before .before .before .before .before .before .before .before .before .before .before .before .args in
-      let p = c .before .before .before .before .before .before .before .before .before .before .before .before .before .pre .1 in
-      loop-closes (a .table .now) (p .0) (a .depth) (a .row) (p .1) (p .4) (c .before .before .before .before .if2 .taken) (shallow (c .before .before .before .before .before .before)) (first (c .before .before .before .before .before .before)) (omega (arith, p)) (ended c)
+      let is-while = c .before .before .before .before .if2 .taken in
+      let bodied = c .before .before .before .before .before .before in
+      let start = bodied .before .before .before .before .before .before .before in
+      let args = start .args in
+      let pre = start .pre .1 in
+      loop-closes (args .table .now) (pre .0) (args .depth) (args .row) (pre .1) (pre .4) is-while (shallow bodied) (first bodied)
+      (omega (arith, pre)) (ended c)
 
   construct-returns-4 : construct-lts.Need-returns-4 (construct-calls t) (construct-at t) construct.Post
   construct-returns-4 c =
-      let a = c .before .before .before .before .before .before .before .before .before .before .before .before .args in
-      let p = c .before .before .before .before .before .before .before .before .before .before .before .before .pre .1 in
-      loop-refused (a .table .now) (p .0) (a .depth) (a .row) (p .1) (p .4) (c .before .before .before .if2 .taken) (shallow (c .before .before .before .before .before)) (first (c .before .before .before .before .before)) (c .before .before .before .before .before .before .before .before .body .last .1 .1 .1 .0) (c .enum-told2 .given .1) (c .before .before .closes .ensures)
+      let is-while = c .before .before .before .if2 .taken in
+      let bodied = c .before .before .before .before .before in
+      let inner = c .before .before .before .before .before .before .before .before .body in
+      let start = bodied .before .before .before .before .before .before .before in
+      let args = start .args in
+      let pre = start .pre .1 in
+      loop-refused (args .table .now) (pre .0) (args .depth) (args .row) (pre .1) (pre .4) is-while (shallow bodied) (first bodied)
+      (inner .last .1 .1 .1 .0) (c .enum-told2 .given .1) (c .before .before .closes .ensures)
 
   construct-is-else-requires : construct-lts.Need-is-else-requires (construct-calls t) (construct-at t) construct.Post
-  construct-is-else-requires c κs = (c .before .before .before .before .before .before .before .before .before .pre .1 .0, (first (c .before .before)) .span .within)
+  construct-is-else-requires c κs =
+      let start = c .before .before .before .before .before .before .before .before .before in
+      (start .pre .1 .0, (first (c .before .before)) .span .within)
 
-  is-if : (c : construct-lts.Else2 (construct-calls t) (construct-at t) construct.Post) → getD (c .before .before .before .before .before .before .before .before .before .args .table .now) (c .before .before .before .before .before .before .before .before .before .args .row * 4) 0 ≡ 32
-  is-if c = ⊎-elim (λ e. e) (λ e. absurd (c .if2 .left e)) (c .before .before .before .before .before .before .before .before .before .pre .1 .3)
+  is-if : (c : construct-lts.Else2 (construct-calls t) (construct-at t) construct.Post)
+      → let args = c .before .before .before .before .before .before .before .before .before .args in
+      getD (args .table .now) (args .row * 4) 0 ≡ 32
+  is-if c =
+      let start = c .before .before .before .before .before .before .before .before .before in
+      ⊎-elim (λ e. e) (λ e. absurd (c .if2 .left e)) (start .pre .1 .3)
 
   construct-closes-requires-2 : construct-lts.Need-closes-requires-2 (construct-calls t) (construct-at t) construct.Post
-  construct-closes-requires-2 c κs = (c .before .before .before .before .before .before .before .before .before .before .before .pre .1 .0, omega (arith, (first (c .before .before .before .before)) .span .on), (first (c .before .before .before .before)) .span .within)
+  construct-closes-requires-2 c κs =
+      let bodied = c .before .before .before .before in
+      let pre = bodied .before .before .before .before .before .before .before .pre .1 .0 in
+      (pre, omega (arith, (first bodied) .span .on), (first bodied) .span .within)
 
   construct-returns-5 : construct-lts.Need-returns-5 (construct-calls t) (construct-at t) construct.Post
   construct-returns-5 c =
-      let a = c .before .before .before .before .before .before .before .before .before .before .before .before .args in
-      let p = c .before .before .before .before .before .before .before .before .before .before .before .before .pre .1 in
-      let n = else-none (a .table .now) (c .before .before .before .before .before .before .first .given .0 .0) (sym (c .before .before .is-else .ensures) ∙ not-true _ (c .before .if3 .taken)) in
-      if-closes (a .table .now) (p .0) (a .depth) (a .row) (p .1) (p .4) (is-if (c .before .before .before)) (shallow (c .before .before .before .before .before)) (first (c .before .before .before .before .before)) n (c .closes2 .result) (c .closes2 .ensures)
+      let otherwise = c .before .before .before in
+      let bodied = otherwise .before .before in
+      let k = bodied .before .first .given .0 .0 in
+      let start = bodied .before .before .before .before .before .before .before in
+      let args = start .args in
+      let table = args .table .now in
+      let pre = start .pre .1 in
+      let n = else-none table k (sym (c .before .before .is-else .ensures) ∙ not-true _ (c .before .if3 .taken)) in
+      if-closes table (pre .0) (args .depth) (args .row) (pre .1) (pre .4) (is-if otherwise) (shallow bodied) (first bodied) n (c .closes2 .result)
+      (c .closes2 .ensures)
 
   construct-add-body-3 : construct-lts.Need-add-body-3 (construct-calls t) (construct-at t) construct.Post
-  construct-add-body-3 c = omega (arith, (first (c .before .before .before .before)) .span .within, c .before .before .before .before .before .before .before .before .before .before .before .pre .1)
+  construct-add-body-3 c =
+      let bodied = c .before .before .before .before in
+      let pre = bodied .before .before .before .before .before .before .before .pre .1 in
+      omega (arith, (first bodied) .span .within, pre)
 
   construct-add-body-4 : construct-lts.Need-add-body-4 (construct-calls t) (construct-at t) construct.Post
   construct-add-body-4 c = search needs
 
   -- The ELSE at which that body ends.
   there : (c : construct-lts.Else3 (construct-calls t) (construct-at t) construct.Post)
-      → let t = c .before .before .before .before .before .before .before .before .before .before .before .args .table .now in let k = c .before .before .before .before .before .first .given .0 .0 in (k * 4 < length t) × (getD t (k * 4) 0 ≡ 33)
-  there c = else-there (c .before .before .before .before .before .before .before .before .before .before .before .args .table .now) (c .before .before .before .before .before .first .given .0 .0) (sym (c .before .is-else .ensures) ∙ not-false _ (c .if3 .left))
+      → let k = c .before .before .before .before .before .first .given .0 .0 in
+      let args = c .before .before .before .before .before .before .before .before .before .before .before .args in
+      let table = args .table .now in
+      (k * 4 < length table) × (getD table (k * 4) 0 ≡ 33)
+  there c =
+      let k = c .before .before .before .before .before .first .given .0 .0 in
+      let start = c .before .before .before .before .before .before .before .before .before .before .before in
+      else-there (start .args .table .now) k (sym (c .before .is-else .ensures) ∙ not-false _ (c .if3 .left))
 
   construct-body-requires-2 : construct-lts.Need-body-requires-2 (construct-calls t) (construct-at t) construct.Post
   construct-body-requires-2 c κs =
-      let p = c .before .before .before .before .before .before .before .before .before .before .before .before .pre .1 in
-      let b = first (c .before .before .before .before .before) in
-      let e = there (c .before) in
-      (omega (arith, p, b .span .on, e .0, c .before .before .before .before .before .before .before .before .before .before .before .before .pre .0), (p .0, omega (arith, e .0, p), omega (arith, shallow (c .before .before .before .before .before)), b .span .notes .size ∙ p .5))
+      let bodied = c .before .before .before .before .before in
+      let pre = bodied .before .before .before .before .before .before .before .pre in
+      let b = first bodied in
+      let e = there (c .before) in (
+        omega (arith, (pre .1), b .span .on, e .0, pre .0),
+        (pre .1 .0, omega (arith, e .0, (pre .1)), omega (arith, shallow bodied), b .span .notes .size ∙ pre .1 .5),
+      )
 
   construct-enum-known-second : construct-lts.Need-enum-known-second (construct-calls t) (construct-at t) construct.Post
   construct-enum-known-second c = search needs
@@ -277,28 +369,49 @@ module _ (t : ℕ) where
 
   construct-returns-6 : construct-lts.Need-returns-6 (construct-calls t) (construct-at t) construct.Post
   construct-returns-6 c =
-      let a = c .before .before .before .before .before .before .before .before .before .before .before .before .before .before .before .args in
-      let p = c .before .before .before .before .before .before .before .before .before .before .before .before .before .before .before .pre .1 in
-      let e = there (c .before .before .before .before) in
-      second-refused (a .table .now) (p .0) (a .depth) (a .row) (p .1) (p .4) (is-if (c .before .before .before .before .before .before)) (shallow (c .before .before .before .before .before .before .before .before)) (first (c .before .before .before .before .before .before .before .before)) (e .0) (e .1) (c .before .before .body2 .last .1 .1 .1 .0)
+      let at-else = c .before .before .before .before in
+      let otherwise = at-else .before .before in
+      let bodied = otherwise .before .before in
+      let start = bodied .before .before .before .before .before .before .before in
+      let args = start .args in
+      let pre = start .pre .1 in
+      let e = there at-else in
+      second-refused (args .table .now) (pre .0) (args .depth) (args .row) (pre .1) (pre .4) (is-if otherwise) (shallow bodied) (first bodied) (e .0)
+      (e .1) (c .before .before .body2 .last .1 .1 .1 .0)
       (c .enum-told3 .given .1) (c .before .before .body2 .ensures)
 
   -- The body behind the ELSE.
   second : (c : construct-lts.After-known-told3 (construct-calls t) (construct-at t) construct.Post)
-      → let a = c .before .before .before .before .before .before .before .before .before .before .before .before .before .before .before .before .args in Body (a .table .now) (a .depth + 1) (c .before .before .before .before .before .before .before .before .before .before .first .given .0 .0 + 1) (c .before .second .given .0 .0) (c .before .before .before .before .before .before .before .before .before .before .before .before .body .last .1 .1 .1 .0) (c .before .before .before .body2 .last .1 .1 .1 .0)
+      → let other = c .before .before .before .body2 in
+      let k = c .before .before .before .before .before .before .before .before .before .before .first .given .0 .0 in
+      let inner = c .before .before .before .before .before .before .before .before .before .before .before .before .body in
+      let args = c .before .before .before .before .before .before .before .before .before .before .before .before .before .before .before .before .args in
+      Body (args .table .now) (args .depth + 1) (k + 1) (c .before .second .given .0 .0) (inner .last .1 .1 .1 .0) (other .last .1 .1 .1 .0)
   second c =
-      let a = c .before .before .before .before .before .before .before .before .before .before .before .before .before .before .before .before .args in
-      subst (BodyIs (a .table .now) (a .depth + 1) (c .before .before .before .before .before .before .before .before .before .before .first .given .0 .0 + 1) (c .before .before .before .before .before .before .before .before .before .before .before .before .body .last .1 .1 .1 .0) (c .before .before .before .body2 .last .1 .1 .1 .0)) (c .before .second .given .1) (c .before .before .before .body2 .ensures)
+      let other = c .before .before .before .body2 in
+      let k = c .before .before .before .before .before .before .before .before .before .before .first .given .0 .0 in
+      let inner = c .before .before .before .before .before .before .before .before .before .before .before .before .body in
+      let args = c .before .before .before .before .before .before .before .before .before .before .before .before .before .before .before .before .args in
+      subst (BodyIs (args .table .now) (args .depth + 1) (k + 1) (inner .last .1 .1 .1 .0) (other .last .1 .1 .1 .0)) (c .before .second .given .1)
+      (other .ensures)
 
   construct-closes-requires-3 : construct-lts.Need-closes-requires-3 (construct-calls t) (construct-at t) construct.Post
-  construct-closes-requires-3 c κs = (c .before .before .before .before .before .before .before .before .before .before .before .before .before .before .before .before .pre .1 .0, omega (arith, (first (c .before .before .before .before .before .before .before .before .before)) .span .on, (second c) .span .on), (second c) .span .within)
+  construct-closes-requires-3 c κs =
+      let bodied = c .before .before .before .before .before .before .before .before .before in
+      let pre = bodied .before .before .before .before .before .before .before .pre .1 .0 in
+      (pre, omega (arith, (first bodied) .span .on, (second c) .span .on), (second c) .span .within)
 
   construct-returns-7 : construct-lts.Need-returns-7 (construct-calls t) (construct-at t) construct.Post
   construct-returns-7 c =
-      let a = c .before .before .before .before .before .before .before .before .before .before .before .before .before .before .before .before .before .args in
-      let p = c .before .before .before .before .before .before .before .before .before .before .before .before .before .before .before .before .before .pre .1 in
-      let e = there (c .before .before .before .before .before .before) in
-      else-closes (a .table .now) (p .0) (a .depth) (a .row) (p .1) (p .4) (is-if (c .before .before .before .before .before .before .before .before)) (shallow (c .before .before .before .before .before .before .before .before .before .before)) (first (c .before .before .before .before .before .before .before .before .before .before)) (e .0) (e .1) (second (c .before)) (c .closes3 .result) (c .closes3 .ensures)
+      let at-else = c .before .before .before .before .before .before in
+      let otherwise = at-else .before .before in
+      let bodied = otherwise .before .before in
+      let start = bodied .before .before .before .before .before .before .before in
+      let args = start .args in
+      let pre = start .pre .1 in
+      let e = there at-else in
+      else-closes (args .table .now) (pre .0) (args .depth) (args .row) (pre .1) (pre .4) (is-if otherwise) (shallow bodied) (first bodied) (e .0)
+      (e .1) (second (c .before)) (c .closes3 .result) (c .closes3 .ensures)
 
 pub +body+construct-spec : {M : Type 1} → statement M
 +body+construct-spec =

@@ -16,8 +16,14 @@ enum-known-row : tie.Need-enum-known-row
 enum-known-row c = search needs
 
 -- The table's body.
-whole : (c : tie.After-known-told) → Body (c .before .before .before .before .before .before .args .table .now) 0 0 (c .before .row .given .0 .0) (replicate 256 0) (c .before .before .before .body .last .1 .1 .1 .0)
-whole c = subst (BodyIs (c .before .before .before .before .before .before .args .table .now) 0 0 (replicate 256 0) (c .before .before .before .body .last .1 .1 .1 .0)) (c .before .row .given .1) (c .before .before .before .body .ensures)
+whole : (c : tie.After-known-told)
+    → let inner = c .before .before .before .body in
+    let start = c .before .before .before .before .before .before in
+    Body (start .args .table .now) 0 0 (c .before .row .given .0 .0) (replicate 256 0) (inner .last .1 .1 .1 .0)
+whole c =
+    let inner = c .before .before .before .body in
+    let start = c .before .before .before .before .before .before in
+    subst (BodyIs (start .args .table .now) 0 0 (replicate 256 0) (inner .last .1 .1 .1 .0)) (c .before .row .given .1) (inner .ensures)
 
 mul-if1 : tie.Need-mul-if1
 mul-if1 c = omega (arith, (whole c) .span .within, c .before .before .before .before .before .before .pre)
@@ -36,23 +42,34 @@ refused-requires-2 c κs = search needs
 
 returns : tie.Need-returns
 returns c =
-    let t = c .before .before .before .before .before .before .before .before .args .table .now in
-    let k = c .before .before .before .row .given .0 .0 in
-    refused-whole t (Misplaced k) (c .refused .result) (stray t (c .before .before .before .before .before .before .before .before .pre) k (c .before .before .before .before .before .body .last .1 .1 .1 .0) (whole (c .before .before)) (c .before .if1 .taken)) (c .refused .ensures)
+    let row = c .before .before .before .row in
+    let inner = c .before .before .before .before .before .body in
+    let start = c .before .before .before .before .before .before .before .before in
+    let args = start .args in
+    let table = args .table .now in
+    refused-whole table (Misplaced (row .given .0 .0)) (c .refused .result)
+    (stray table (start .pre) (row .given .0 .0) (inner .last .1 .1 .1 .0) (whole (c .before .before)) (c .before .if1 .taken)) (c .refused .ensures)
 
 returns-2 : tie.Need-returns-2
 returns-2 c =
-    let t = c .before .before .before .before .before .before .before .args .table .now in
-    let y = c .before .before .before .before .body .last .1 .1 .1 .0 in
-    let k = c .before .before .row .given .0 .0 in
-    (sym (accepted t (c .before .before .before .before .before .before .before .pre) k y (whole (c .before)) (c .if1 .left)), ends-are t (c .before .before .before .before .before .before .before .pre) k y (whole (c .before)) (c .if1 .left))
+    let row = c .before .before .row in
+    let inner = c .before .before .before .before .body in
+    let start = c .before .before .before .before .before .before .before in
+    let args = start .args in
+    let table = args .table .now in
+    let pre = start .pre in (
+      sym (accepted table pre (row .given .0 .0) (inner .last .1 .1 .1 .0) (whole (c .before)) (c .if1 .left)),
+      ends-are table pre (row .given .0 .0) (inner .last .1 .1 .1 .0) (whole (c .before)) (c .if1 .left),
+    )
 
 returns-3 : tie.Need-returns-3
 returns-3 c =
-    let t = c .before .before .before .before .before .before .before .args .table .now in
-    let why = c .before .before .why .given .0 .0 in
-    let f = subst (BodyIs t 0 0 (replicate 256 0) (c .before .before .before .before .body .last .1 .1 .1 .0)) (c .before .before .why .given .1) (c .before .before .before .before .body .ensures) in
-    refused-whole t why (c .refused2 .result) f (c .refused2 .ensures)
+    let why = c .before .before .why in
+    let inner = c .before .before .before .before .body in
+    let args = c .before .before .before .before .before .before .before .args in
+    let table = args .table .now in
+    let f = subst (BodyIs table 0 0 (replicate 256 0) (inner .last .1 .1 .1 .0)) (why .given .1) (inner .ensures) in
+    refused-whole table (why .given .0 .0) (c .refused2 .result) f (c .refused2 .ensures)
 
 pub read-table-spec : {M : Type 1} → statement M
 read-table-spec =

@@ -60,8 +60,10 @@ cast-t7 c = search needs
 returns : tie.Need-returns
 unfolding knownForm orElse unless
 returns c =
-    let a = c .before .before .before .before .before .args in
-    sym (own-is (a .table .now) (a .row) (meaning (c .before .before .form-of .result)) (search needs) (c .before .before .before .before .shared-slice-known .given (a .row * 4) .fits) (c .before .before .form-of .ensures)
+    let shared-slice-known = c .before .before .before .before .shared-slice-known in
+    let args = c .before .before .before .before .before .args in
+    sym (own-is (args .table .now) (args .row) (meaning (c .before .before .form-of .result)) (search needs)
+    (shared-slice-known .given (args .row * 4) .fits) (c .before .before .form-of .ensures)
     ∙ rw (c .enum-told .given .1))
 
 add-operands-fit : tie.Need-add-operands-fit
@@ -91,18 +93,22 @@ cast-t19 c = search needs
 returns-2 : tie.Need-returns-2
 unfolding orElse unless
 returns-2 c =
-    let a = c .before .before .before .before .before .before .before .before .before .args in
-    let f = c .before .before .before .before .before .before .form-of .result in
-    sym (own-is (a .table .now) (a .row) (meaning f) (search needs) (c .before .before .before .before .before .before .before .before .shared-slice-known .given (a .row * 4) .fits) (c .before .before .before .before .before .before .form-of .ensures)
-    ∙ rw (other f (c .before .before .before .before .before .match .keys2), ← (c .before .operands-fit .ensures), c .if1 .taken))
+    let arm = c .before .before .before .before .before .match in
+    let form-of = c .before .before .before .before .before .before .form-of in
+    let shared-slice-known = c .before .before .before .before .before .before .before .before .shared-slice-known in
+    let args = c .before .before .before .before .before .before .before .before .before .args in
+    sym (own-is (args .table .now) (args .row) (meaning (form-of .result)) (search needs) (shared-slice-known .given (args .row * 4) .fits) (form-of .ensures)
+    ∙ rw (other (form-of .result) (arm .keys2), ← (c .before .operands-fit .ensures), c .if1 .taken))
 
 returns-3 : tie.Need-returns-3
 unfolding orElse unless
 returns-3 c =
-    let a = c .before .before .before .before .before .before .before .before .before .args in
-    let f = c .before .before .before .before .before .before .form-of .result in
-    sym (own-is (a .table .now) (a .row) (meaning f) (search needs) (c .before .before .before .before .before .before .before .before .shared-slice-known .given (a .row * 4) .fits) (c .before .before .before .before .before .before .form-of .ensures)
-    ∙ rw (other f (c .before .before .before .before .before .match .keys2), ← (c .before .operands-fit .ensures), c .if1 .left))
+    let arm = c .before .before .before .before .before .match in
+    let form-of = c .before .before .before .before .before .before .form-of in
+    let shared-slice-known = c .before .before .before .before .before .before .before .before .shared-slice-known in
+    let args = c .before .before .before .before .before .before .before .before .before .args in
+    sym (own-is (args .table .now) (args .row) (meaning (form-of .result)) (search needs) (shared-slice-known .given (args .row * 4) .fits) (form-of .ensures)
+    ∙ rw (other (form-of .result) (arm .keys2), ← (c .before .operands-fit .ensures), c .if1 .left))
 
 pub row-fits-spec : {M : Type 1} → statement M
 row-fits-spec =

@@ -23,53 +23,86 @@ all-requires c κs = c .before .before .before .before .before .before .before .
 
 loop-holds : tie.Need-loop-holds Inv-loop μ-loop
 loop-holds c =
-    let g = c .before .before .before .before .before .before .before .before .args in
-    let p = c .before .before .before .before .before .before .before .before .pre in
-    (refl, refl, go-start (g .table .now) (g .ends .now) (g .n) (g .limit) (c .all .result) (g .cells .now) (g .log .now) (p .0) (p .2) (c .all .ensures) (p .4) (c .before .before .before .clear .last .0) (c .before .before .before .clear .ensures))
+    let clear = c .before .before .before .clear in
+    let start = c .before .before .before .before .before .before .before .before in
+    let args = start .args in
+    let pre = start .pre in (
+      refl,
+      refl,
+      go-start (args .table .now) (args .ends .now) (args .n) (args .limit) (c .all .result) (args .cells .now) (args .log .now) (pre .0)
+          (pre .2) (c .all .ensures) (pre .4) (clear .last .0) (clear .ensures),
+    )
 
 ended-requires : tie.Need-ended-requires Inv-loop μ-loop
 ended-requires c κs =
-    let g = c .before .before .before .before .before .before .before .before .before .before .before .before .before .args in
-    let l = c .before .before .before .before .loop in
-    go-row (g .table .now) (g .ends .now) (g .n) (g .limit) (g .cells .now) (l .s) (l .regs) (l .cells) (l .log) (l .saved) (l .openers) (l .inv .2) (c .before .before .before .before .before .before .before .before .before .before .before .before .before .pre .0)
+    let turn = c .before .before .before .before .loop in
+    let going = turn .inv .2 in
+    let start = c .before .before .before .before .before .before .before .before .before .before .before .before .before in
+    let args = start .args in
+    go-row (args .table .now) (args .ends .now) (args .n) (args .limit) (args .cells .now) (turn .s) (turn .regs) (turn .cells) (turn .log)
+    (turn .saved) (turn .openers) going (start .pre .0)
 
 same-length : tie.Need-same-length Inv-loop μ-loop
 same-length c = c .before .before .before .before .before .loop .inv .0
 
 same-length-2 : tie.Need-same-length-2 Inv-loop μ-loop
-same-length-2 c = c .before .before .before .before .before .loop .inv .1 ∙ c .before .before .before .before .before .before .before .before .before .clear .kept .0
+same-length-2 c =
+    let turn = c .before .before .before .before .before .loop in
+    let clear = c .before .before .before .before .before .before .before .before .before .clear in
+    turn .inv .1 ∙ clear .kept .0
 
 returns : tie.Need-returns Inv-loop μ-loop
 returns c =
-    let g = c .before .before .before .before .before .before .before .before .before .before .before .before .before .before .args in
-    let l = c .before .before .before .before .before .loop in
-    go-spent (g .table .now) (g .ends .now) (g .n) (g .limit) (g .cells .now) (l .s) (l .regs) (l .cells) (l .log) (l .saved) (l .openers) (l .inv .2) (c .before .before .before .before .before .before .before .before .before .before .before .before .before .before .pre .0) (c .ended .result) (c .before .before .before .if1 .taken) (c .before .if2 .taken) (c .ended .ensures)
+    let inside = c .before .before .before .if1 .taken in
+    let turn = c .before .before .before .before .before .loop in
+    let going = turn .inv .2 in
+    let start = c .before .before .before .before .before .before .before .before .before .before .before .before .before .before in
+    let args = start .args in
+    go-spent (args .table .now) (args .ends .now) (args .n) (args .limit) (args .cells .now) (turn .s) (turn .regs) (turn .cells) (turn .log)
+    (turn .saved) (turn .openers) going (start .pre .0) (c .ended .result) inside (c .before .if2 .taken) (c .ended .ensures)
 
 step-requires : tie.Need-step-requires Inv-loop μ-loop
 step-requires c κs =
-    let g = c .before .before .before .before .before .before .before .before .before .before .before .before .before .before .before .before .before .before .args in
-    let l = c .before .before .before .before .before .before .before .before .before .loop in
-    let p = c .before .before .before .before .before .before .before .before .before .before .before .before .before .before .before .before .before .before .pre in
-    go-ready (g .table .now) (g .ends .now) (g .n) (g .limit) (g .cells .now) (l .s) (l .regs) (l .cells) (l .log) (l .saved) (l .openers) (l .inv .2) (p .0) (c .before .before .before .before .before .before .before .if1 .taken) (c .before .before .before .before .before .if2 .left) (p .1) (p .2) (p .3)
-    (omega (arith, l .inv .0, l .inv .1, c .before .before .before .before .before .before .before .before .before .before .before .before .before .clear .kept .0, p .4)) (omega (arith, l .inv .0, p .5))
+    let unspent = c .before .before .before .before .before .if2 .left in
+    let inside = c .before .before .before .before .before .before .before .if1 .taken in
+    let at-turn = c .before .before .before .before .before .before .before .before .before in
+    let turn = at-turn .loop in
+    let going = turn .inv .2 in
+    let clear = at-turn .before .before .before .before .clear in
+    let start = at-turn .before .before .before .before .before .before .before .before .before in
+    let args = start .args in
+    let pre = start .pre in
+    go-ready (args .table .now) (args .ends .now) (args .n) (args .limit) (args .cells .now) (turn .s) (turn .regs) (turn .cells) (turn .log)
+    (turn .saved) (turn .openers) going (pre .0) inside unspent (pre .1) (pre .2) (pre .3)
+    (omega (arith, turn .inv .0, turn .inv .1, clear .kept .0, pre .4)) (omega (arith, turn .inv .0, pre .5))
 
 enum-known-z : tie.Need-enum-known-z Inv-loop μ-loop
 enum-known-z c = search needs
 
 loop-less : tie.Need-loop-less Inv-loop μ-loop
 loop-less c =
-    let l = c .before .before .before .before .before .before .before .before .before .before .before .before .before .before .before .before .before .loop in
-    let C = subst (Counts (l .s)) (c .before .z .given .1) (c .before .before .before .before .before .before .before .step .ensures .0) in
-    omega (arith, C .rows-one, l .inv .2 .rows-most, c .before .before .before .before .before .before .before .before .before .before .before .before .before .if2 .left)
+    let at-step = c .before .before .before .before .before .before .before in
+    let unspent = at-step .before .before .before .before .before .before .if2 .left in
+    let turn = at-step .before .before .before .before .before .before .before .before .before .before .loop in
+    let going = turn .inv .2 in
+    let C = subst (Counts (turn .s)) (c .before .z .given .1) (at-step .step .ensures .0) in
+    omega (arith, C .rows-one, going .rows-most, unspent)
 
 loop-again : tie.Need-loop-again Inv-loop μ-loop
 loop-again c =
-    let g = c .before .before .before .before .before .before .before .before .before .before .before .before .before .before .before .before .before .before .before .before .before .before .before .before .before .before .args in
-    let l = c .before .before .before .before .before .before .before .before .before .before .before .before .before .before .before .before .before .loop in
-    let o = c .before .before .before .before .before .before .before .step in (
-      o .kept .1 .1 .1 .1 .0 ∙ l .inv .0,
-      o .kept .1 .1 .1 .1 .1 .0 ∙ l .inv .1,
-      go-next (g .table .now) (g .ends .now) (g .n) (g .limit) (g .cells .now) (l .s) (l .regs) (l .cells) (l .log) (l .saved) (l .openers) (l .inv .2) (c .before .before .before .before .before .before .before .before .before .before .before .before .before .before .before .before .before .before .before .before .before .before .before .before .before .before .pre .0) (c .before .before .before .before .before .before .before .before .before .before .before .before .before .before .before .if1 .taken) (c .before .before .before .before .before .before .before .before .before .before .before .before .before .if2 .left) (l .inv .0) (o .result) _ _ _ _ _ (o .ensures) _ (c .before .z .given .1),
+    let at-step = c .before .before .before .before .before .before .before in
+    let step = at-step .step in
+    let unspent = at-step .before .before .before .before .before .before .if2 .left in
+    let inside = at-step .before .before .before .before .before .before .before .before .if1 .taken in
+    let at-turn = at-step .before .before .before .before .before .before .before .before .before .before in
+    let turn = at-turn .loop in
+    let going = turn .inv .2 in
+    let start = at-turn .before .before .before .before .before .before .before .before .before in
+    let args = start .args in (
+      step .kept .1 .1 .1 .1 .0 ∙ turn .inv .0,
+      step .kept .1 .1 .1 .1 .1 .0 ∙ turn .inv .1,
+      go-next (args .table .now) (args .ends .now) (args .n) (args .limit) (args .cells .now) (turn .s) (turn .regs) (turn .cells) (turn .log)
+          (turn .saved) (turn .openers) going (start .pre .0) inside unspent (turn .inv .0) (step .result) _ _ _ _ _ (step .ensures) _ (c .before .z .given .1),
     )
 
 enum-known-v : tie.Need-enum-known-v Inv-loop μ-loop
@@ -77,41 +110,72 @@ enum-known-v c = search needs
 
 ended-requires-2 : tie.Need-ended-requires-2 Inv-loop μ-loop
 ended-requires-2 c κs =
-    let g = c .before .before .before .before .before .before .before .before .before .before .before .before .before .before .before .before .before .before .before .before .before .before .before .before .before .before .args in
-    let l = c .before .before .before .before .before .before .before .before .before .before .before .before .before .before .before .before .before .loop in
-    let o = c .before .before .before .before .before .before .before .step in
-    go-stop-row (g .table .now) (g .ends .now) (g .n) (g .limit) (g .cells .now) (l .s) (l .regs) (l .cells) (l .log) (l .saved) (l .openers) (l .inv .2) (c .before .before .before .before .before .before .before .before .before .before .before .before .before .before .before .before .before .before .before .before .before .before .before .before .before .before .pre .0) (c .before .before .before .before .before .before .before .before .before .before .before .before .before .before .before .if1 .taken) (c .before .before .before .before .before .before .before .before .before .before .before .before .before .if2 .left) (l .inv .0) (o .result) _ _ _ _ _ (o .ensures) _ _ (c .before .v .given .1)
+    let at-step = c .before .before .before .before .before .before .before in
+    let step = at-step .step in
+    let unspent = at-step .before .before .before .before .before .before .if2 .left in
+    let inside = at-step .before .before .before .before .before .before .before .before .if1 .taken in
+    let at-turn = at-step .before .before .before .before .before .before .before .before .before .before in
+    let turn = at-turn .loop in
+    let going = turn .inv .2 in
+    let start = at-turn .before .before .before .before .before .before .before .before .before in
+    let args = start .args in
+    go-stop-row (args .table .now) (args .ends .now) (args .n) (args .limit) (args .cells .now) (turn .s) (turn .regs) (turn .cells) (turn .log)
+    (turn .saved) (turn .openers) going (start .pre .0) inside unspent (turn .inv .0) (step .result) _ _ _ _ _ (step .ensures) _ _ (c .before .v .given .1)
 
 same-length-3 : tie.Need-same-length-3 Inv-loop μ-loop
-same-length-3 c = c .before .before .before .before .before .before .before .before .step .kept .1 .1 .1 .1 .0 ∙ c .before .before .before .before .before .before .before .before .before .before .before .before .before .before .before .before .before .before .loop .inv .0
+same-length-3 c =
+    let at-step = c .before .before .before .before .before .before .before .before in
+    let turn = at-step .before .before .before .before .before .before .before .before .before .before .loop in
+    at-step .step .kept .1 .1 .1 .1 .0 ∙ turn .inv .0
 
 same-length-4 : tie.Need-same-length-4 Inv-loop μ-loop
-same-length-4 c = c .before .before .before .before .before .before .before .before .step .kept .1 .1 .1 .1 .1 .0 ∙ c .before .before .before .before .before .before .before .before .before .before .before .before .before .before .before .before .before .before .loop .inv .1 ∙ c .before .before .before .before .before .before .before .before .before .before .before .before .before .before .before .before .before .before .before .before .before .before .clear .kept .0
+same-length-4 c =
+    let at-step = c .before .before .before .before .before .before .before .before in
+    let at-turn = at-step .before .before .before .before .before .before .before .before .before .before in
+    let clear = at-turn .before .before .before .before .clear in
+    at-step .step .kept .1 .1 .1 .1 .1 .0 ∙ at-turn .loop .inv .1 ∙ clear .kept .0
 
 returns-2 : tie.Need-returns-2 Inv-loop μ-loop
 returns-2 c =
-    let g = c .before .before .before .before .before .before .before .before .before .before .before .before .before .before .before .before .before .before .before .before .before .before .before .before .before .before .before .args in
-    let l = c .before .before .before .before .before .before .before .before .before .before .before .before .before .before .before .before .before .before .loop in
-    let o = c .before .before .before .before .before .before .before .before .step in
-    go-stop (g .table .now) (g .ends .now) (g .n) (g .limit) (g .cells .now) (l .s) (l .regs) (l .cells) (l .log) (l .saved) (l .openers) (l .inv .2) (c .before .before .before .before .before .before .before .before .before .before .before .before .before .before .before .before .before .before .before .before .before .before .before .before .before .before .before .pre .0) (c .before .before .before .before .before .before .before .before .before .before .before .before .before .before .before .before .if1 .taken) (c .before .before .before .before .before .before .before .before .before .before .before .before .before .before .if2 .left) (l .inv .0) (o .result) _ _ _ _ _ (o .ensures) _ _ (c .ended2 .result) (c .before .before .v .given .1) (c .ended2 .ensures)
+    let at-step = c .before .before .before .before .before .before .before .before in
+    let step = at-step .step in
+    let unspent = at-step .before .before .before .before .before .before .if2 .left in
+    let inside = at-step .before .before .before .before .before .before .before .before .if1 .taken in
+    let at-turn = at-step .before .before .before .before .before .before .before .before .before .before in
+    let turn = at-turn .loop in
+    let going = turn .inv .2 in
+    let start = at-turn .before .before .before .before .before .before .before .before .before in
+    let args = start .args in
+    go-stop (args .table .now) (args .ends .now) (args .n) (args .limit) (args .cells .now) (turn .s) (turn .regs) (turn .cells) (turn .log)
+    (turn .saved) (turn .openers) going (start .pre .0) inside unspent (turn .inv .0) (step .result) _ _ _ _ _ (step .ensures) _ _ (c .ended2 .result)
+    (c .before .before .v .given .1) (c .ended2 .ensures)
 
 ended-requires-3 : tie.Need-ended-requires-3 Inv-loop μ-loop
 ended-requires-3 c κs =
-    let g = c .before .before .before .before .before .before .before .before .before .before .before .args in
-    let l = c .before .before .loop in
-    go-row (g .table .now) (g .ends .now) (g .n) (g .limit) (g .cells .now) (l .s) (l .regs) (l .cells) (l .log) (l .saved) (l .openers) (l .inv .2) (c .before .before .before .before .before .before .before .before .before .before .before .pre .0)
+    let turn = c .before .before .loop in
+    let going = turn .inv .2 in
+    let start = c .before .before .before .before .before .before .before .before .before .before .before in
+    let args = start .args in
+    go-row (args .table .now) (args .ends .now) (args .n) (args .limit) (args .cells .now) (turn .s) (turn .regs) (turn .cells) (turn .log)
+    (turn .saved) (turn .openers) going (start .pre .0)
 
 same-length-5 : tie.Need-same-length-5 Inv-loop μ-loop
 same-length-5 c = c .before .before .before .loop .inv .0
 
 same-length-6 : tie.Need-same-length-6 Inv-loop μ-loop
-same-length-6 c = c .before .before .before .loop .inv .1 ∙ c .before .before .before .before .before .before .before .clear .kept .0
+same-length-6 c =
+    let turn = c .before .before .before .loop in
+    let clear = c .before .before .before .before .before .before .before .clear in
+    turn .inv .1 ∙ clear .kept .0
 
 returns-3 : tie.Need-returns-3 Inv-loop μ-loop
 returns-3 c =
-    let g = c .before .before .before .before .before .before .before .before .before .before .before .before .args in
-    let l = c .before .before .before .loop in
-    go-passed (g .table .now) (g .ends .now) (g .n) (g .limit) (g .cells .now) (l .s) (l .regs) (l .cells) (l .log) (l .saved) (l .openers) (l .inv .2) (c .before .before .before .before .before .before .before .before .before .before .before .before .pre .0) (c .ended3 .result) (c .before .if1 .left) (c .ended3 .ensures)
+    let turn = c .before .before .before .loop in
+    let going = turn .inv .2 in
+    let start = c .before .before .before .before .before .before .before .before .before .before .before .before in
+    let args = start .args in
+    go-passed (args .table .now) (args .ends .now) (args .n) (args .limit) (args .cells .now) (turn .s) (turn .regs) (turn .cells) (turn .log)
+    (turn .saved) (turn .openers) going (start .pre .0) (c .ended3 .result) (c .before .if1 .left) (c .ended3 .ensures)
 
 pub run-spec : {M : Type 1} → statement M
 run-spec =

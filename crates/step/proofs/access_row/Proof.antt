@@ -21,14 +21,19 @@ same-length-2 c = search needs
 
 returns : tie.Need-returns
 returns c =
-    let g = c .before .before .before .before .before .before .before .before .before .before .before .args in
-    let p = c .before .before .before .before .before .before .before .before .before .before .before .pre in
-    let o = c .before .before .before .before .before .access-row in
-    let m = mem-op (g .op) (p .2 .known) (p .2 .small) in (
-      counts-accessed (g .s) (c .after-access .result) (o .result .access) (o .result .steps) (c .after-access .ensures) (o .ensures .0),
+    let access-row = c .before .before .before .before .before .access-row in
+    let start = c .before .before .before .before .before .before .before .before .before .before .before in
+    let args = start .args in
+    let cells = args .cells .now in
+    let pre = start .pre .2 in
+    let m = mem-op (args .op) (pre .known) (pre .small) in (
+      counts-accessed (args .s) (c .after-access .result) (access-row .result .access) (access-row .result .steps) (c .after-access .ensures)
+          (access-row .ensures .0),
       λ saved openers T x z q ed ea R.
-          access-after (g .n) z (g .s) (g .regs .now) (g .cells .now) (g .log .now) saved openers R T x (shapeBy (g .n) (g .cells .now)) (m .0) (o .result .steps) (o .result .access) (c .after-access .result) (o .last .0) (o .last .1 .0) (o .last .1 .1 .0)
-          (q ∙ m .1) (o .ensures .1 (m .0) x (m .1) ed ea z (R .enabled-is) (R .enabled-size) (R .memory)) (c .after-access .ensures),
+          access-after (args .n) z (args .s) (args .regs .now) cells (args .log .now) saved openers R T x (shapeBy (args .n) cells) (m .0)
+          (access-row .result .steps) (access-row .result .access) (c .after-access .result) (access-row .last .0) (access-row .last .1 .0)
+          (access-row .last .1 .1 .0)
+          (q ∙ m .1) (access-row .ensures .1 (m .0) x (m .1) ed ea z (R .enabled-is) (R .enabled-size) (R .memory)) (c .after-access .ensures),
     )
 
 pub access-row-spec : {M : Type 1} → statement M

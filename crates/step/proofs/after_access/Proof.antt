@@ -18,10 +18,14 @@ add-t8 : tie.Need-add-t8
 add-t8 c = search needs
 
 returns : tie.Need-returns
-returns c = ap next.Go (c .moved .ensures) ∙ sym (ap (λ a. accessed (c .before .before .before .args .s) a (c .before .before .before .args .r .steps)) (c .before .enum-told .given .1))
+returns c =
+    let args = c .before .before .before .args in
+    ap next.Go (c .moved .ensures) ∙ sym (ap (λ a. accessed (args .s) a (args .r .steps)) (c .before .enum-told .given .1))
 
 returns-2 : tie.Need-returns-2
-returns-2 c = sym (ap (λ a. accessed (c .before .before .before .before .args .s) a (c .before .before .before .before .args .r .steps)) (c .before .before .c .given .1))
+returns-2 c =
+    let args = c .before .before .before .before .args in
+    sym (ap (λ a. accessed (args .s) a (args .r .steps)) (c .before .before .c .given .1))
 
 pub after-access-spec : {M : Type 1} → statement M
 after-access-spec =

@@ -58,7 +58,12 @@ constant-requires : tie.Need-constant-requires
 constant-requires c κs = search needs
 
 compute-row-requires : tie.Need-compute-row-requires
-compute-row-requires c κs = (c .before .before .before .before .before .before .before .before .before .before .before .before .before .pre .few, compute-asks _ _ _ _ _ _ _ (c .before .before .before .before .before .before .before .index .ensures .0) (c .before .before .before .before .before .index2 .ensures .0) (c .before .before .before .index3 .ensures .0) (c .before .before .before .before .before .before .before .before .before .before .before .before .before .pre .asks .computes (c .before .before .if1 .taken)))
+compute-row-requires c κs =
+    let second = c .before .before .before .index3 in
+    let source = c .before .before .before .before .before .index2 in
+    let target = c .before .before .before .before .before .before .before .index in
+    let pre = c .before .before .before .before .before .before .before .before .before .before .before .before .before .pre in
+    (pre .few, compute-asks _ _ _ _ _ _ _ (target .ensures .0) (source .ensures .0) (second .ensures .0) (pre .asks .computes (c .before .before .if1 .taken)))
 
 count-requires : tie.Need-count-requires
 count-requires c κs = search needs
@@ -68,24 +73,53 @@ moved-requires c κs = search needs
 
 returns : tie.Need-returns
 returns c =
-    let g = c .before .before .before .before .before .before .before .before .before .before .before .before .before .before .before .before .args in
-    let p = c .before .before .before .before .before .before .before .before .before .before .before .before .before .before .before .before .pre in
-    let asks = p .asks .computes (c .before .before .before .before .before .if1 .taken) in
-    let op = compute-op (getD (g .table .now) (g .s .row * 4) 0) (asks .known) (asks .small) in (
-      counted-moved (g .s) (c .moved .result) (c .before .count .result) (c .moved .ensures) (c .before .count .ensures .1),
+    let count = c .before .count in
+    let constant = c .before .before .before .constant in
+    let computes = c .before .before .before .before .before .if1 .taken in
+    let second = c .before .before .before .before .before .before .index3 in
+    let source = c .before .before .before .before .before .before .before .before .index2 in
+    let target = c .before .before .before .before .before .before .before .before .before .before .index in
+    let start = c .before .before .before .before .before .before .before .before .before .before .before .before .before .before .before .before in
+    let args = start .args in
+    let table = args .table .now in
+    let regs = args .regs .now in
+    let cells = args .cells .now in
+    let log = args .log .now in
+    let saved = args .saved .now in
+    let openers = args .openers .now in
+    let asks = start .pre .asks .computes computes in
+    let op = compute-op (getD table (args .s .row * 4) 0) (asks .known) (asks .small) in (
+      counted-moved (args .s) (c .moved .result) (count .result) (c .moved .ensures) (count .ensures .1),
       λ z h ee R.
-          let E = row-here (g .table .now) (g .n) z (g .s) (g .regs .now) (g .cells .now) (g .log .now) (g .saved .now) (g .openers .now) R h in
-          compute-after (g .n) z (g .s) (g .regs .now) (g .cells .now) (g .log .now) (g .saved .now) (g .openers .now) R (rowsOf (g .table .now)) (rowAt (rowsOf (g .table .now)) (z .row)) (length (g .cells .now)) (op .0) (g .s .mask) (c .before .count .result) (c .moved .result) (c .before .before .compute-row .last .0) (g .cells .now) (g .log .now)
-          (ap (λ x. x .op) E ∙ op .1) (c .before .count .ensures .0)
-          (c .before .before .compute-row .ensures (op .0) (rowAt (rowsOf (g .table .now)) (z .row)) (op .1) (ap (λ x. x .d) E ∙ sym (c .before .before .before .before .before .before .before .before .before .before .index .ensures .0)) (ap (λ x. x .a) E ∙ sym (c .before .before .before .before .before .before .before .before .index2 .ensures .0)) (ap (λ x. x .b) E ∙ sym (c .before .before .before .before .before .before .index3 .ensures .0)) (c .before .before .before .constant .ensures) (g .cells .now) (g .log .now) z (R .enabled-is) (R .enabled-size) (R .memory))
+          let E = row-here table (args .n) z (args .s) regs cells log saved openers R h in
+          compute-after (args .n) z (args .s) regs cells log saved openers R (rowsOf table) (rowAt (rowsOf table) (z .row)) (length cells) (op .0)
+          (args .s .mask) (count .result) (c .moved .result) (c .before .before .compute-row .last .0) cells log
+          (ap (λ x. x .op) E ∙ op .1) (count .ensures .0)
+          (c .before .before .compute-row .ensures (op .0) (rowAt (rowsOf table) (z .row)) (op .1) (ap (λ x. x .d) E ∙ sym (target .ensures .0))
+          (ap (λ x. x .a) E ∙ sym (source .ensures .0)) (ap (λ x. x .b) E ∙ sym (second .ensures .0)) (constant .ensures) cells log z (R .enabled-is)
+          (R .enabled-size) (R .memory))
           (c .moved .ensures),
     )
 
 access-row-requires : tie.Need-access-row-requires
 access-row-requires c κs =
-    let p = c .before .before .before .before .before .before .before .before .before .before .before .before .before .before .before .pre in
-    let q = p .asks .accesses (c .before .before .before .before .if1 .left) (c .before .before .before .if2 .taken) in
-    (p .room, p .few, record { known = c .before .before .before .before .if1 .left; small = q .0; target = subst (λ k. k < 16) (sym (c .before .before .before .before .before .before .before .before .before .index .ensures .0)) (q .1); source = subst (λ k. k < 16) (sym (c .before .before .before .before .before .before .before .index2 .ensures .0)) (q .2); twice = p .twice; cells-few = p .cells-few })
+    let accesses = c .before .before .before .if2 .taken in
+    let no-computing = c .before .before .before .before .if1 .left in
+    let source2 = c .before .before .before .before .before .before .before .index2 in
+    let target2 = c .before .before .before .before .before .before .before .before .before .index in
+    let pre = c .before .before .before .before .before .before .before .before .before .before .before .before .before .before .before .pre in
+    let q = pre .asks .accesses no-computing accesses in (
+      pre .room,
+      pre .few,
+      record {
+        known = no-computing;
+        small = q .0;
+        target = subst (λ k. k < 16) (sym (target2 .ensures .0)) (q .1);
+        source = subst (λ k. k < 16) (sym (source2 .ensures .0)) (q .2);
+        twice = pre .twice;
+        cells-few = pre .cells-few;
+      },
+    )
 
 same-length : tie.Need-same-length
 same-length c = search needs
@@ -95,12 +129,19 @@ same-length-2 c = search needs
 
 returns-2 : tie.Need-returns-2
 returns-2 c =
-    let g = c .before .before .before .before .before .before .before .before .before .before .before .before .before .before .before .before .before .before .before .before .args in
-    let o = c .before .before .before .before .access-row in (
-      o .ensures .0,
+    let at-access-row = c .before .before .before .before in
+    let access-row = at-access-row .access-row in
+    let source = at-access-row .before .before .before .before .before .before .before .before .index2 in
+    let target = at-access-row .before .before .before .before .before .before .before .before .before .before .index in
+    let args = at-access-row .before .before .before .before .before .before .before .before .before .before .before .before .before .before .before .before .args in
+    let table = args .table .now in
+    let saved = args .saved .now in
+    let openers = args .openers .now in (
+      access-row .ensures .0,
       λ z h ee R.
-          let E = row-here (g .table .now) (g .n) z (g .s) (g .regs .now) (g .cells .now) (g .log .now) (g .saved .now) (g .openers .now) R h in
-          o .ensures .1 (g .saved .now) (g .openers .now) (rowsOf (g .table .now)) (rowAt (rowsOf (g .table .now)) (z .row)) z (ap (λ x. x .op) E) (ap (λ x. x .d) E ∙ sym (c .before .before .before .before .before .before .before .before .before .before .before .before .before .before .index .ensures .0)) (ap (λ x. x .a) E ∙ sym (c .before .before .before .before .before .before .before .before .before .before .before .before .index2 .ensures .0)) R,
+          let E = row-here table (args .n) z (args .s) (args .regs .now) (args .cells .now) (args .log .now) saved openers R h in
+          access-row .ensures .1 saved openers (rowsOf table) (rowAt (rowsOf table) (z .row)) z (ap (λ x. x .op) E)
+          (ap (λ x. x .d) E ∙ sym (target .ensures .0)) (ap (λ x. x .a) E ∙ sym (source .ensures .0)) R,
     )
 
 element-copy-out-index : tie.Need-element-copy-out-index
@@ -111,18 +152,38 @@ index-requires-4 c κs = search needs
 
 construct-row-requires : tie.Need-construct-row-requires
 construct-row-requires c κs =
-    let p = c .before .before .before .before .before .before .before .before .before .before .before .before .before .before .before .before .before .before .pre in
-    (p .room, p .few, c .index4 .ensures .1, c .before .before .before .before .before .before .if2 .left, omega (arith, c .before .before .before .before .before .if3 .taken), ((λ e. subst (λ k. k < 16) (sym (c .before .before .before .before .before .before .before .before .before .before .index2 .ensures .0)) (p .asks .ifs e)), (λ e. subst (λ k. k < 16) (sym (c .before .before .before .before .before .before .before .before .before .before .index2 .ensures .0)) (p .asks .whiles e))), p .depths)
+    let constructs = c .before .before .before .before .before .if3 .taken in
+    let no-access = c .before .before .before .before .before .before .if2 .left in
+    let at-index2 = c .before .before .before .before .before .before .before .before .before .before in
+    let source = at-index2 .index2 in
+    let pre = at-index2 .before .before .before .before .before .before .before .before .pre in (
+      pre .room,
+      pre .few,
+      c .index4 .ensures .1,
+      no-access,
+      omega (arith, constructs),
+      (
+        (λ e. subst (λ k. k < 16) (sym (source .ensures .0)) (pre .asks .ifs e)),
+        (λ e. subst (λ k. k < 16) (sym (source .ensures .0)) (pre .asks .whiles e)),
+      ),
+      pre .depths,
+    )
 
 returns-3 : tie.Need-returns-3
 returns-3 c =
-    let g = c .before .before .before .before .before .before .before .before .before .before .before .before .before .before .before .before .before .before .before .args in
+    let at-index2 = c .before .before .before .before .before .before .before .before .before .before .before in
+    let source = at-index2 .index2 in
+    let args = at-index2 .before .before .before .before .before .before .before .before .args in
+    let table = args .table .now in
+    let cells = args .cells .now in
+    let log = args .log .now in
     let o = c .construct-row in (
       o .ensures .0,
       λ z h ee R.
-          let E = row-here (g .table .now) (g .n) z (g .s) (g .regs .now) (g .cells .now) (g .log .now) (g .saved .now) (g .openers .now) R h in
-          o .ensures .1 (g .cells .now) (g .log .now) (rowsOf (g .table .now)) (shapeBy (g .n) (g .cells .now)) (rowAt (rowsOf (g .table .now)) (z .row)) z (ap (λ x. x .op) E) (ap (λ x. x .a) E ∙ sym (c .before .before .before .before .before .before .before .before .before .before .before .index2 .ensures .0))
-          (λ w. c .before .index4 .ensures .0 ∙ ee (ap (λ r. rowAt (rowsOf (g .table .now)) r .op) (R .row-is) ∙ w) ∙ ap (endOf (rowsOf (g .table .now))) (R .row-is)) R,
+          let E = row-here table (args .n) z (args .s) (args .regs .now) cells log (args .saved .now) (args .openers .now) R h in
+          o .ensures .1 cells log (rowsOf table) (shapeBy (args .n) cells) (rowAt (rowsOf table) (z .row)) z (ap (λ x. x .op) E)
+          (ap (λ x. x .a) E ∙ sym (source .ensures .0))
+          (λ w. c .before .index4 .ensures .0 ∙ ee (ap (λ r. rowAt (rowsOf table) r .op) (R .row-is) ∙ w) ∙ ap (endOf (rowsOf table)) (R .row-is)) R,
     )
 
 barrier-row-requires : tie.Need-barrier-row-requires
@@ -133,13 +194,22 @@ same-length-3 c = search needs
 
 returns-4 : tie.Need-returns-4
 returns-4 c =
-    let g = c .before .before .before .before .before .before .before .before .before .before .before .before .before .before .before .before .before .args in
-    let o = c .before .before .barrier-row in
-    let e : getD (g .table .now) (g .s .row * 4) 0 ≡ 37 = omega (arith, c .before .before .before .before .if3 .left, c .before .before .before .before .before .before .before .before .before .before .before .before .before .before .before .before .before .pre .asks .known) in (
-      o .ensures .0,
+    let at-barrier-row = c .before .before in
+    let barrier-row = at-barrier-row .barrier-row in
+    let no-construct = at-barrier-row .before .before .if3 .left in
+    let start = at-barrier-row .before .before .before .before .before .before .before .before .before .before .before .before .before .before .before in
+    let args = start .args in
+    let table = args .table .now in
+    let regs = args .regs .now in
+    let cells = args .cells .now in
+    let saved = args .saved .now in
+    let openers = args .openers .now in
+    let e : getD table (args .s .row * 4) 0 ≡ 37 = omega (arith, no-construct, start .pre .asks .known) in (
+      barrier-row .ensures .0,
       λ z h ee R.
-          let E = row-here (g .table .now) (g .n) z (g .s) (g .regs .now) (g .cells .now) (g .log .now) (g .saved .now) (g .openers .now) R h in
-          barrier-arm (g .n) (rowsOf (g .table .now)) (shapeBy (g .n) (g .cells .now)) (rowAt (rowsOf (g .table .now)) (z .row)) z (getD (g .table .now) (g .s .row * 4) 0) (ap (λ x. x .op) E) (g .regs .now) (g .cells .now) (o .last .0) (g .saved .now) (g .openers .now) (o .result) e (o .ensures .1 (g .regs .now) (g .cells .now) (g .saved .now) (g .openers .now) z R),
+          let E = row-here table (args .n) z (args .s) regs cells (args .log .now) saved openers R h in
+          barrier-arm (args .n) (rowsOf table) (shapeBy (args .n) cells) (rowAt (rowsOf table) (z .row)) z (getD table (args .s .row * 4) 0)
+          (ap (λ x. x .op) E) regs cells (barrier-row .last .0) saved openers (barrier-row .result) e (barrier-row .ensures .1 regs cells saved openers z R),
     )
 
 pub step-spec : {M : Type 1} → statement M

@@ -12,8 +12,10 @@ minus-requires c κs = search needs
 
 returns : tie.Need-returns
 returns c =
-    let s = c .before .before in
-    λ n on rs few em el R. held (s .args .a) (s .args .regs .now) n rs R (s .pre) (s .args .mask) _ _ on few em el (c .before .zero-lanes .ensures) (c .minus .ensures)
+    let start = c .before .before in
+    let args = start .args in
+    λ n on rs few em el R. held (args .a) (args .regs .now) n rs R (start .pre) (args .mask) _ _ on few em el (c .before .zero-lanes .ensures)
+    (c .minus .ensures)
 
 pub holding-spec : {M : Type 1} → statement M
 holding-spec = tie.close (tie.spec zero-lanes-requires minus-requires returns)

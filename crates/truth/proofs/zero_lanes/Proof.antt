@@ -44,18 +44,20 @@ loop-less c = search needs
 
 loop-again : tie.Need-loop-again Inv-loop μ-loop
 loop-again c =
-    let g = c .before .before .before .before .args in
-    let l = c .before .before .before .loop in
-    let k = c .before .before .loop-test .taken in
+    let test = c .before .before .loop-test in
+    let turn = c .before .before .before .loop in
+    let args = c .before .before .before .before .args in
+    let regs = args .regs .now in
     ⊎-elim
-    (λ w. (omega (arith, k), lane-zero (g .a) (g .regs .now) (l .t) (l .z) (l .inv .1) (c .if1 .z) k (w .0 .taken) (w .1)))
-    (λ w. (omega (arith, k), lane-left (g .a) (g .regs .now) (l .t) (l .z) (l .inv .1) (c .if1 .z) (w .0 .left) (w .1)))
+    (λ w. (omega (arith, (test .taken)), lane-zero (args .a) regs (turn .t) (turn .z) (turn .inv .1) (c .if1 .z) (test .taken) (w .0 .taken) (w .1)))
+    (λ w. (omega (arith, (test .taken)), lane-left (args .a) regs (turn .t) (turn .z) (turn .inv .1) (c .if1 .z) (w .0 .left) (w .1)))
     (c .if1 .came)
 
 returns : tie.Need-returns Inv-loop μ-loop
 returns c =
-    let l = c .before .loop in
-    subst (λ (k : ℕ). ZerosAre (c .before .before .args .a) (c .before .before .args .regs .now) k (l .z)) (let e : l .t ≡ 32 = omega (arith, l .inv .0, c .loop-test .left) in e) (l .inv .1)
+    let turn = c .before .loop in
+    subst (λ (k : ℕ). ZerosAre (c .before .before .args .a) (c .before .before .args .regs .now) k (turn .z))
+    (let e : turn .t ≡ 32 = omega (arith, turn .inv .0, c .loop-test .left) in e) (turn .inv .1)
 
 pub zero-lanes-spec : {M : Type 1} → statement M
 zero-lanes-spec =

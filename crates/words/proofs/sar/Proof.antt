@@ -26,10 +26,11 @@ top-copies-requires c κs = search needs
 
 returns : tie.Need-returns
 returns c =
-    let y = c .before .before .before .args .y in
-    let s = c .before .signed in
+    let signed = c .before .signed in
+    let args = c .before .before .before .args in
     simp (lt-ltb _ _ (c .before .before .if1 .taken))
-    (c .unsigned .ensures ∙ ap unsigned (shifted (s .result) (2 ^ y) (record { sfits = s .ok }) ∙ ap (λ z. shrZ z (2 ^ y)) (s .ensures)))
+    (c .unsigned .ensures
+    ∙ ap unsigned (shifted (signed .result) (2 ^ (args .y)) (record { sfits = signed .ok }) ∙ ap (λ z. shrZ z (2 ^ (args .y))) (signed .ensures)))
 
 returns-2 : tie.Need-returns-2
 returns-2 c = simp (le-ltb _ _ (c .before .if1 .left)) (c .top-copies .ensures)

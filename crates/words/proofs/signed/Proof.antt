@@ -23,9 +23,9 @@ returns c = signed-is (c .before .args .x)
 
 returns-2 : tie.Need-returns-2
 returns-2 c =
-    let x = c .before .args .x in
-    let e : 4294967295 - (4294967295 - x) ≡ x = omega arith in
-    ap (toZ w32) e ∙ signed-is x
+    let args = c .before .args in
+    let e : 4294967295 - (4294967295 - (args .x)) ≡ (args .x) = omega arith in
+    ap (toZ w32) e ∙ signed-is (args .x)
 
 pub signed-spec : {M : Type 1} → statement M
 signed-spec = tie.close (tie.spec cast-result sub-result cast-result-2 returns returns-2)

@@ -13,17 +13,19 @@ signed-requires-2 c κs = search needs
 
 returns : tie.Need-returns
 returns c =
-    let a = c .before .before .before .args in
-    let p = c .before .before .signed in
-    let q = c .before .signed2 in
-    simp (compared (a .x) (a .y) (p .result) (q .result) true (record { sfits = p .ok }) (record { sfits = q .ok }) (p .ensures) (q .ensures) (search needs))
+    let right = c .before .signed2 in
+    let left = c .before .before .signed in
+    let args = c .before .before .before .args in
+    simp (compared (args .x) (args .y) (left .result) (right .result) true (record { sfits = left .ok }) (record { sfits = right .ok })
+    (left .ensures) (right .ensures) (search needs))
 
 returns-2 : tie.Need-returns-2
 returns-2 c =
-    let a = c .before .before .before .args in
-    let p = c .before .before .signed in
-    let q = c .before .signed2 in
-    simp (compared (a .x) (a .y) (p .result) (q .result) false (record { sfits = p .ok }) (record { sfits = q .ok }) (p .ensures) (q .ensures) (search needs))
+    let right = c .before .signed2 in
+    let left = c .before .before .signed in
+    let args = c .before .before .before .args in
+    simp (compared (args .x) (args .y) (left .result) (right .result) false (record { sfits = left .ok }) (record { sfits = right .ok })
+    (left .ensures) (right .ensures) (search needs))
 
 pub slt-spec : {M : Type 1} → statement M
 slt-spec = tie.close (tie.spec signed-requires signed-requires-2 returns returns-2)
