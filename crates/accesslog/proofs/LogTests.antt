@@ -10,9 +10,9 @@ use Rattle.spec.specs.Op.{Mem, MEM, LOAD, STORE, opOf, opTable}
 use Rattle.spec.specs.Table.{kindOf}
 use Rattle.spec.specs.Mask.{maskWord}
 use Rattle.spec.specs.Log.{conflictMask, raceKind, logged}
-use Rattle.layout.proofs.Memory.{LogIs}
-use Rattle.layout.proofs.LogBuffer.{ConflictIs, KindIs, LoggedIs, conflict-is, tested-load, tested-store, logged-load, logged-store, kind-rw, kind-ww}
-use Rattle.layout.proofs.LogBuffer.{ConflictBy, LoggedBy}
+use Rattle.layout.specs.Memory.{LogIs}
+use Rattle.layout.specs.Logging.{ConflictIs, ConflictBy, KindIs, LoggedIs, LoggedBy}
+use Rattle.layout.proofs.LogBuffer.{conflict-is, tested-load, tested-store, logged-load, logged-store, kind-rw, kind-ww}
 
 pub mem-load : (op : ℕ) (m : Mem) → op ≡ 16 → opOf op ≡ MEM m → m ≡ LOAD
 unfolding opOf opTable

@@ -2,7 +2,7 @@
 ghost use mathlib.Core.Path.{_≡_};
 ghost use Prim.Native.Nat.{_<_};
 ghost use lib.ListN.{length, replicate};
-ghost use Rattle.layout.proofs.LogBuffer.{LogAsks, ConflictBy, KindIs, LoggedBy};
+ghost use Rattle.layout.specs.Logging.{LogAsks, ConflictBy, KindIs, LoggedBy};
 
 // The access test: the threads but the one of this bit whose logged accesses of cell i conflict with an access by op.
 pub fn conflict(log: &[u32], cells: usize, i: usize, bit: u32, op: u8) -> u32

@@ -33,7 +33,8 @@ compatible-left load (store w) old q = refl
 compatible-left (store v) load old q = refl
 compatible-left (store v) (store w) old q = absurd (false≢true q)
 
-pub compatible-taken : (k l : Kind) (d old : ℕ) (regs : List ℕ) → compatible k l ≡ true → registersAfter l d (cellAfter k old) regs ≡ registersAfter l d old regs
+pub compatible-taken : (k l : Kind) (d old : ℕ) (regs : List ℕ) → compatible k l ≡ true
+    → registersAfter l d (cellAfter k old) regs ≡ registersAfter l d old regs
 unfolding compatible cellAfter registersAfter
 compatible-taken load l d old regs q = refl
 compatible-taken (store v) load d old regs q = absurd (false≢true q)
@@ -54,25 +55,32 @@ conflict-agree x y q e = by (compatible (x .kind) (y .kind)) (rw (eq-eqb (x .cel
 
 -- A cell touched.
 pub touch-twice : (cells : List ℕ) (c : ℕ) (k l : Kind)
-    → set (set cells c (cellAfter k (getD cells c 0))) c (cellAfter l (getD (set cells c (cellAfter k (getD cells c 0))) c 0)) ≡ set cells c (cellAfter l (cellAfter k (getD cells c 0)))
+    → set (set cells c (cellAfter k (getD cells c 0))) c (cellAfter l (getD (set cells c (cellAfter k (getD cells c 0))) c 0))
+    ≡ set cells c (cellAfter l (cellAfter k (getD cells c 0)))
 touch-twice cells c k l = by (ltb c (length cells)) refl
   where
     by : (z : Bool) → ltb c (length cells) ≡ z
-        → set (set cells c (cellAfter k (getD cells c 0))) c (cellAfter l (getD (set cells c (cellAfter k (getD cells c 0))) c 0)) ≡ set cells c (cellAfter l (cellAfter k (getD cells c 0)))
+        → set (set cells c (cellAfter k (getD cells c 0))) c (cellAfter l (getD (set cells c (cellAfter k (getD cells c 0))) c 0))
+        ≡ set cells c (cellAfter l (cellAfter k (getD cells c 0)))
     by true z = ap (λ v. set (set cells c (cellAfter k (getD cells c 0))) c (cellAfter l v)) (getD-set-same cells c _ 0 (ltb-true _ _ z)) ∙ set-set cells c _ _
     by false z =
-        ap (λ m. set m c (cellAfter l (getD m c 0))) (set-out cells c _ (ltb-false _ _ z)) ∙ set-out cells c _ (ltb-false _ _ z) ∙ sym (set-out cells c _ (ltb-false _ _ z))
+        ap (λ m. set m c (cellAfter l (getD m c 0))) (set-out cells c _ (ltb-false _ _ z)) ∙ set-out cells c _ (ltb-false _ _ z)
+        ∙ sym (set-out cells c _ (ltb-false _ _ z))
 
 -- What an access of cell e, after one of cell c with which it does not conflict, finds in its cell.
-pub taken-after : (cells : List ℕ) (c e : ℕ) (k l : Kind) (d : ℕ) (regs : List ℕ) → conflict (record { cell = c; kind = k }) (record { cell = e; kind = l }) ≡ false
+pub taken-after : (cells : List ℕ) (c e : ℕ) (k l : Kind) (d : ℕ) (regs : List ℕ)
+    → conflict (record { cell = c; kind = k }) (record { cell = e; kind = l }) ≡ false
     → registersAfter l d (getD (set cells c (cellAfter k (getD cells c 0))) e 0) regs ≡ registersAfter l d (getD cells e 0) regs
 taken-after cells c e k l d regs q = by (ℕ-discrete c e) (ltb c (length cells)) refl
   where
-    by : Dec (c ≡ e) → (z : Bool) → ltb c (length cells) ≡ z → registersAfter l d (getD (set cells c (cellAfter k (getD cells c 0))) e 0) regs ≡ registersAfter l d (getD cells e 0) regs
+    by : Dec (c ≡ e) → (z : Bool) → ltb c (length cells) ≡ z
+        → registersAfter l d (getD (set cells c (cellAfter k (getD cells c 0))) e 0) regs ≡ registersAfter l d (getD cells e 0) regs
     by (no n) z p = ap (λ v. registersAfter l d v regs) (getD-set-other cells c e _ 0 (λ s. n (sym s)))
     by (yes y) true p =
-        ap (λ i. registersAfter l d (getD (set cells c (cellAfter k (getD cells c 0))) i 0) regs) (sym y) ∙ ap (λ v. registersAfter l d v regs) (getD-set-same cells c _ 0 (ltb-true _ _ p))
-        ∙ compatible-taken k l d (getD cells c 0) regs (conflict-agree (record { cell = c; kind = k }) (record { cell = e; kind = l }) q y) ∙ ap (λ i. registersAfter l d (getD cells i 0) regs) y
+        ap (λ i. registersAfter l d (getD (set cells c (cellAfter k (getD cells c 0))) i 0) regs) (sym y)
+        ∙ ap (λ v. registersAfter l d v regs) (getD-set-same cells c _ 0 (ltb-true _ _ p))
+        ∙ compatible-taken k l d (getD cells c 0) regs (conflict-agree (record { cell = c; kind = k }) (record { cell = e; kind = l }) q y)
+        ∙ ap (λ i. registersAfter l d (getD cells i 0) regs) y
     by (yes y) false p = ap (λ m. registersAfter l d (getD m e 0) regs) (set-out cells c _ (ltb-false _ _ p))
 
 pub cells-swap : (cells : List ℕ) (c e : ℕ) (k l : Kind) → conflict (record { cell = c; kind = k }) (record { cell = e; kind = l }) ≡ false

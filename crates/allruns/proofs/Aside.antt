@@ -22,12 +22,15 @@ scan-up : (half : Bool) (T : Table) (r k : ℕ) → suc r ≤ scan half (drop (s
 scan-up half T r k = scan-ge half (drop (suc r) T) k (suc r)
 
 scan-more : (T : Table) (r j k : ℕ) → j ≤ k → scan false (drop (suc r) T) j (suc r) ≤ scan false (drop (suc r) T) k (suc r)
-scan-more T r j zero l = subst (λ i. scan false (drop (suc r) T) i (suc r) ≤ scan false (drop (suc r) T) 0 (suc r)) (let z : 0 ≡ j = omega arith in z) (omega arith)
+scan-more T r j zero l =
+    subst (λ i. scan false (drop (suc r) T) i (suc r) ≤ scan false (drop (suc r) T) 0 (suc r)) (let z : 0 ≡ j = omega arith in z) (omega arith)
 scan-more T r j (suc k) l = by (either j (suc k)) (scan-more T r j k)
   where
-    by : (j < suc k) ⊎ (suc k ≤ j) → (j ≤ k → scan false (drop (suc r) T) j (suc r) ≤ scan false (drop (suc r) T) k (suc r)) → scan false (drop (suc r) T) j (suc r) ≤ scan false (drop (suc r) T) (suc k) (suc r)
+    by : (j < suc k) ⊎ (suc k ≤ j) → (j ≤ k → scan false (drop (suc r) T) j (suc r) ≤ scan false (drop (suc r) T) k (suc r))
+        → scan false (drop (suc r) T) j (suc r) ≤ scan false (drop (suc r) T) (suc k) (suc r)
     by (inl h) ih = omega (arith, ih (omega arith), scan-deeper (drop (suc r) T) k (suc r))
-    by (inr h) ih = subst (λ i. scan false (drop (suc r) T) i (suc r) ≤ scan false (drop (suc r) T) (suc k) (suc r)) (let z : suc k ≡ j = omega arith in z) (omega arith)
+    by (inr h) ih =
+        subst (λ i. scan false (drop (suc r) T) i (suc r) ≤ scan false (drop (suc r) T) (suc k) (suc r)) (let z : suc k ≡ j = omega arith in z) (omega arith)
 
 -- What kind of construct a frame is of.
 data Kind (T : Table) (o : ℕ) : Type 0 where
@@ -76,7 +79,8 @@ module _ (T : Table) (w : WellFormed T) (n r u : ℕ) (rin : r < length T) (nolo
     pub past : Later T (At l) (body p regs′)
 
   -- the loop of a frame goes into the counts
-  in-loop : (l : List ℕ) (o c k : ℕ) (p : Pos) → o ≤ r → rowAt T o .op ≡ WHILE → endOf T o ≡ scan false (drop (suc r) T) k (suc r) → Past l (suc k) p → Past (set l o c) k p
+  in-loop : (l : List ℕ) (o c k : ℕ) (p : Pos) → o ≤ r → rowAt T o .op ≡ WHILE → endOf T o ≡ scan false (drop (suc r) T) k (suc r) → Past l (suc k) p
+      → Past (set l o c) k p
   in-loop l o c k p oi q e h =
       record { far = λ j i. h .far j (omega arith); beyond = h .beyond; past = by (either (h .past .at) o) }
     where
@@ -106,7 +110,8 @@ module _ (T : Table) (w : WellFormed T) (n r u : ℕ) (rin : r < length T) (nolo
           }
 
   -- the exit of a frame, against the ends of the inner constructs
-  exit-far : (f : Frame) (k : ℕ) (os : List ℕ) → Opened T (suc r) k (f .opener) os → ((j : ℕ) → j < k → scan false (drop (suc r) T) j (suc r) < length T) → Kind T (f .opener)
+  exit-far : (f : Frame) (k : ℕ) (os : List ℕ) → Opened T (suc r) k (f .opener) os
+      → ((j : ℕ) → j < k → scan false (drop (suc r) T) j (suc r) < length T) → Kind T (f .opener)
       → ((j : ℕ) → j < k → scan false (drop (suc r) T) j (suc r) < exit T (f .opener)) × (r < exit T (f .opener))
   exit-far f k os o inr′ (an-if q) = (
     (λ j i. let a = scan-strict true (drop (suc r) T) j k (suc r) i (let z = length-drop (suc r) T in let y = inr′ j i in omega arith) in omega (arith, is)),
@@ -116,7 +121,8 @@ module _ (T : Table) (w : WellFormed T) (n r u : ℕ) (rin : r < length T) (nolo
       is : scan true (drop (suc r) T) k (suc r) ≤ exit T (f .opener)
       is = rw (exit-if T (f .opener) q) (unfold elseOf in (rw (o .parts q) (pastElse-ge _ _)))
   exit-far f k os o inr′ (an-else q) = (
-    (λ j i. let a = scan-strict false (drop (suc r) T) j k (suc r) i (let z = length-drop (suc r) T in let y = inr′ j i in omega arith) in omega (arith, o .ending, exit-else T (f .opener) q)),
+    (λ j i. let a = scan-strict false (drop (suc r) T) j k (suc r) i (let z = length-drop (suc r) T in let y = inr′ j i in omega arith) in
+        omega (arith, o .ending, exit-else T (f .opener) q)),
     let a = scan-up false T r k in omega (arith, o .ending, exit-else T (f .opener) q),
   )
   exit-far f k os o inr′ (a-while q) = (
@@ -124,7 +130,8 @@ module _ (T : Table) (w : WellFormed T) (n r u : ℕ) (rin : r < length T) (nolo
     let a = scan-up false T r k in omega (arith, o .ending, exit-while T (f .opener) q),
   )
 
-  base : (f : Frame) (fs : List Frame) (k : ℕ) → Opened T (suc r) k (f .opener) (openersOf fs) → ((j : ℕ) → j < k → scan false (drop (suc r) T) j (suc r) < length T) → Kind T (f .opener)
+  base : (f : Frame) (fs : List Frame) (k : ℕ) → Opened T (suc r) k (f .opener) (openersOf fs)
+      → ((j : ℕ) → j < k → scan false (drop (suc r) T) j (suc r) < length T) → Kind T (f .opener)
       → Past (loopsOf T (f ∷ fs)) k (record { row = exit T (f .opener); loops = loopsOf T fs })
   base f fs k o i (an-if q) =
       let e = exit-far f k (openersOf fs) o i (an-if q) in
@@ -148,7 +155,9 @@ module _ (T : Table) (w : WellFormed T) (n r u : ℕ) (rin : r < length T) (nolo
   parked [] ks m q o a i nest off = absurd (true≢false (sym (nest u lu) ∙ off))
   parked (f ∷ fs) ks m q o a i nest off =
       subst (Past (loopsOf T (f ∷ fs)) (length ks)) (sym (place-out T q m f fs u off))
-      (by (has (f .mask) u) refl (parked fs (ks ++ (f .opener ∷ [])) (f .mask) (exit T (f .opener)) (o ∙ sym (append-snoc ks (f .opener) (openersOf fs))) (subst (λ k. AllOpened T (suc r) k (openersOf fs)) (sym len) (a .1)) inner (nest .1)))
+      (by (has (f .mask) u) refl
+      (parked fs (ks ++ (f .opener ∷ [])) (f .mask) (exit T (f .opener)) (o ∙ sym (append-snoc ks (f .opener) (openersOf fs)))
+      (subst (λ k. AllOpened T (suc r) k (openersOf fs)) (sym len) (a .1)) inner (nest .1)))
     where
       within : scan false (drop (suc r) T) (length ks) (suc r) < length T
       within = leave T w (length T - suc r) (suc r) ks (f .opener) (openersOf fs) (omega arith) o .within
@@ -163,12 +172,23 @@ module _ (T : Table) (w : WellFormed T) (n r u : ℕ) (rin : r < length T) (nolo
           at (inl h) = i j h
           at (inr h) = subst (λ k. scan false (drop (suc r) T) k (suc r) < length T) (let z : length ks ≡ j = omega (arith, len) in z) within
 
-      by : (b : Bool) → has (f .mask) u ≡ b → (has (f .mask) u ≡ false → Past (loopsOf T fs) (length (ks ++ (f .opener ∷ []))) (place T (exit T (f .opener)) (f .mask) fs u))
+      by : (b : Bool) → has (f .mask) u ≡ b
+          → (has (f .mask) u ≡ false → Past (loopsOf T fs) (length (ks ++ (f .opener ∷ []))) (place T (exit T (f .opener)) (f .mask) fs u))
           → Past (loopsOf T (f ∷ fs)) (length ks) (place T (exit T (f .opener)) (f .mask) fs u)
-      by true b ih = subst (Past (loopsOf T (f ∷ fs)) (length ks)) (sym (place-in T (exit T (f .opener)) (f .mask) fs u b)) (base f fs (length ks) (a .0) i (kind-of T (f .opener) (a .0 .opens)))
+      by true b ih =
+          subst (Past (loopsOf T (f ∷ fs)) (length ks)) (sym (place-in T (exit T (f .opener)) (f .mask) fs u b))
+          (base f fs (length ks) (a .0) i (kind-of T (f .opener) (a .0 .opens)))
       by false b ih = outer (kind-of T (f .opener) (a .0 .opens)) (subst (λ k. Past (loopsOf T fs) k (place T (exit T (f .opener)) (f .mask) fs u)) len (ih b))
         where
-          outer : Kind T (f .opener) → Past (loopsOf T fs) (suc (length ks)) (place T (exit T (f .opener)) (f .mask) fs u) → Past (loopsOf T (f ∷ fs)) (length ks) (place T (exit T (f .opener)) (f .mask) fs u)
-          outer (an-if q) h = subst (λ l. Past l (length ks) (place T (exit T (f .opener)) (f .mask) fs u)) (sym (loops-plain T f fs (loop-if _ q))) (record { far = λ j i. h .far j (omega arith); beyond = h .beyond; past = h .past })
-          outer (an-else q) h = subst (λ l. Past l (length ks) (place T (exit T (f .opener)) (f .mask) fs u)) (sym (loops-plain T f fs (loop-else _ q))) (record { far = λ j i. h .far j (omega arith); beyond = h .beyond; past = h .past })
-          outer (a-while q) h = subst (λ l. Past l (length ks) (place T (exit T (f .opener)) (f .mask) fs u)) (sym (loops-while T f fs q)) (in-loop (loopsOf T fs) (f .opener) (f .rounds) (length ks) (place T (exit T (f .opener)) (f .mask) fs u) (omega (arith, a .0 .above)) q (a .0 .ending) h)
+          outer : Kind T (f .opener) → Past (loopsOf T fs) (suc (length ks)) (place T (exit T (f .opener)) (f .mask) fs u)
+              → Past (loopsOf T (f ∷ fs)) (length ks) (place T (exit T (f .opener)) (f .mask) fs u)
+          outer (an-if q) h =
+              subst (λ l. Past l (length ks) (place T (exit T (f .opener)) (f .mask) fs u)) (sym (loops-plain T f fs (loop-if _ q)))
+              (record { far = λ j i. h .far j (omega arith); beyond = h .beyond; past = h .past })
+          outer (an-else q) h =
+              subst (λ l. Past l (length ks) (place T (exit T (f .opener)) (f .mask) fs u)) (sym (loops-plain T f fs (loop-else _ q)))
+              (record { far = λ j i. h .far j (omega arith); beyond = h .beyond; past = h .past })
+          outer (a-while q) h =
+              subst (λ l. Past l (length ks) (place T (exit T (f .opener)) (f .mask) fs u)) (sym (loops-while T f fs q))
+              (in-loop (loopsOf T fs) (f .opener) (f .rounds) (length ks) (place T (exit T (f .opener)) (f .mask) fs u) (omega (arith, a .0 .above)) q
+              (a .0 .ending) h)

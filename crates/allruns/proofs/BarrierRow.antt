@@ -10,7 +10,8 @@ use borrow.Author.Tests.{eq-eqb}
 use lib.ListN.{length, getD, length-map}
 use Rattle.spec.specs.AllRuns.{isRelease}
 use Rattle.spec.specs.Lists.{equalList, every}
-use Rattle.spec.specs.LockStep.{elseRow, endifRow, endwhileRow, LockState, accessTurn, advance, barrierRow, computeTurn, continues, countedAt, passBarrier, runRow, stops}
+use Rattle.spec.specs.LockStep.{elseRow, endifRow, endwhileRow, LockState, accessTurn, advance, barrierRow, computeTurn, continues, countedAt}
+use Rattle.spec.specs.LockStep.{passBarrier, runRow, stops}
 use Rattle.spec.specs.Mask.{Mask, any, full, has, lowest}
 use Rattle.spec.specs.Op.{BARRIER, CALC, ELSE, ENDIF, ENDWHILE, IF, MEM, Op, UNKNOWN, WHILE, value}
 use Rattle.spec.specs.Runs.{shownTo}
@@ -26,7 +27,8 @@ use Rattle.allruns.proofs.Bools.{and-left, and-right, and-make}
 use Rattle.allruns.proofs.Turns.{One, touch-one, calc-one}
 use Rattle.allruns.proofs.Blocked.{Blocked}
 use Rattle.allruns.proofs.Nesting.{isWhile, AllOpened, all-opened}
-use Rattle.allruns.proofs.Rows.{openersOf, fresh, Sim, Advanced, RowDone, match-at, match-onward, top-of, Top, top, framed-fresh, loops-size, any-has, if-row, else-row, endif-row, while-row, endwhile-row, plain-row, keeps-touch, keeps-calc}
+use Rattle.allruns.proofs.Rows.{openersOf, fresh, Sim, Advanced, RowDone, match-at, match-onward, top-of, Top, top, framed-fresh, loops-size}
+use Rattle.allruns.proofs.Rows.{any-has, if-row, else-row, endif-row, while-row, endwhile-row, plain-row, keeps-touch, keeps-calc}
 use Rattle.allruns.proofs.Aside.{parked, Past}
 use Rattle.allruns.proofs.Progress as later
 use Rattle.allruns.proofs.Classes.{isRow}
@@ -81,7 +83,8 @@ place-size T r on (f ∷ fs) t = by (has on t) (place-size T (exit T (f .opener)
     by true h = loops-size T (f ∷ fs)
     by false h = h
 
-module _ (T : Table) (w : WellFormed T) (L : Shape) (s : LockState) (fs : List Frame) (g : Group) (S : Sim T L s fs g) (l : s .row < length T) (q : rowAt T (s .row) .op ≡ BARRIER) where
+module _ (T : Table) (w : WellFormed T) (L : Shape) (s : LockState) (fs : List Frame) (g : Group) (S : Sim T L s fs g) (l : s .row < length T)
+    (q : rowAt T (s .row) .op ≡ BARRIER) where
   no-while : isWhile (rowAt T (s .row) .op) ≡ false
   unfolding isWhile
   no-while = ap isWhile q
@@ -110,7 +113,8 @@ module _ (T : Table) (w : WellFormed T) (L : Shape) (s : LockState) (fs : List F
         run = tt;
         sim = record {
           match = match-onward T L (suc (s .row)) (s .enabled) (s .saved) _ s g
-              (match-at T L _ _ s g (λ t i. place-any T (L .threads) (s .row) (suc (s .row)) (s .enabled) fs t (S .nested) i (any-has (s .enabled) t a)) (S .match));
+              (match-at T L _ _ s g
+              (λ t i. place-any T (L .threads) (s .row) (suc (s .row)) (s .enabled) fs t (S .nested) i (any-has (s .enabled) t a)) (S .match));
           saving = S .saving;
           nested = S .nested;
           onSize = S .onSize;
@@ -171,7 +175,9 @@ module _ (T : Table) (w : WellFormed T) (L : Shape) (s : LockState) (fs : List F
       }
     where
       stand : (t : ℕ) → t < (L .threads) → getD (g .threads) t noThread ≡ body (record { row = s .row; loops = loopsOf T fs }) (getD (s .regs) t [])
-      stand t i = S .match .threads t i ∙ ap (λ p. body p (getD (s .regs) t [])) (place-in T (s .row) (s .enabled) fs t (full-has (s .enabled) t f (omega (arith, S .onSize))))
+      stand t i =
+          S .match .threads t i
+          ∙ ap (λ p. body p (getD (s .regs) t [])) (place-in T (s .row) (s .enabled) fs t (full-has (s .enabled) t f (omega (arith, S .onSize))))
 
       may-release : possible T L g release ≡ true
       may-release =
@@ -192,7 +198,9 @@ module _ (T : Table) (w : WellFormed T) (L : Shape) (s : LockState) (fs : List F
         logs = log-cleared _ _ _ _ (S .match .logs);
       })
         where
-          pass : (t : ℕ) → own.pastBarrier (body (record { row = s .row; loops = loopsOf T fs }) (getD (s .regs) t [])) ≡ body (record { row = suc (s .row); loops = loopsOf T fs }) (getD (s .regs) t [])
+          pass : (t : ℕ)
+              → own.pastBarrier (body (record { row = s .row; loops = loopsOf T fs }) (getD (s .regs) t []))
+              ≡ body (record { row = suc (s .row); loops = loopsOf T fs }) (getD (s .regs) t [])
           pass t = unfold own.pastBarrier own.goto in refl
 
       counts : countedAt BARRIER s ≡ s .cells ∷ []
@@ -234,16 +242,19 @@ unfolding known
 no-endif z (inl e) = no-unknown IF refl (z ∙ e)
 no-endif z (inr e) = no-unknown ELSE refl (z ∙ e)
 
-else-of : (T : Table) (w : WellFormed T) (L : Shape) (s : LockState) (fs : List Frame) (g : Group) (S : Sim T L s fs g) (l : s .row < length T) (q : rowAt T (s .row) .op ≡ ELSE) → Top T (s .row) fs
-    → Advanced T L s g (elseRow s)
+else-of : (T : Table) (w : WellFormed T) (L : Shape) (s : LockState) (fs : List Frame) (g : Group) (S : Sim T L s fs g) (l : s .row < length T)
+    (q : rowAt T (s .row) .op ≡ ELSE)
+    → Top T (s .row) fs → Advanced T L s g (elseRow s)
 else-of T w L s fs g S l q (top f gs o) = else-row T w L s f gs g S l q o
 
-endif-of : (T : Table) (w : WellFormed T) (L : Shape) (s : LockState) (fs : List Frame) (g : Group) (S : Sim T L s fs g) (l : s .row < length T) (q : rowAt T (s .row) .op ≡ ENDIF) → Top T (s .row) fs
-    → Advanced T L s g (endifRow s)
+endif-of : (T : Table) (w : WellFormed T) (L : Shape) (s : LockState) (fs : List Frame) (g : Group) (S : Sim T L s fs g) (l : s .row < length T)
+    (q : rowAt T (s .row) .op ≡ ENDIF)
+    → Top T (s .row) fs → Advanced T L s g (endifRow s)
 endif-of T w L s fs g S l q (top f gs o) = endif-row T w L s f gs g S l q o
 
-endwhile-of : (T : Table) (w : WellFormed T) (L : Shape) (s : LockState) (fs : List Frame) (g : Group) (S : Sim T L s fs g) (l : s .row < length T) (q : rowAt T (s .row) .op ≡ ENDWHILE) → Top T (s .row) fs
-    → Advanced T L s g (endwhileRow s)
+endwhile-of : (T : Table) (w : WellFormed T) (L : Shape) (s : LockState) (fs : List Frame) (g : Group) (S : Sim T L s fs g) (l : s .row < length T)
+    (q : rowAt T (s .row) .op ≡ ENDWHILE)
+    → Top T (s .row) fs → Advanced T L s g (endwhileRow s)
 endwhile-of T w L s fs g S l q (top f gs o) = endwhile-row T w L s f gs g S l q o
 
 -- Each row.
@@ -265,7 +276,8 @@ module _ (T : Table) (w : WellFormed T) (L : Shape) (s : LockState) (fs : List F
   done : (o : Op) → rowAt T (s .row) .op ≡ o → RowDone T L s g (runRow T L (rowAt T (s .row)) s o)
   unfolding runRow innermost
   done (CALC c) q =
-      plain-row T L s fs g S l (computeTurn (rowAt T (s .row)) (λ t a b. value c (L .threads) t (rowAt T (s .row) .a) (rowAt T (s .row) .b) a b)) (keeps-calc _ _)
+      plain-row T L s fs g S l (computeTurn (rowAt T (s .row)) (λ t a b. value c (L .threads) t (rowAt T (s .row) .a) (rowAt T (s .row) .b) a b))
+      (keeps-calc _ _)
       (λ t P z h i e m.
       subst (λ r. One T L onw here t P h (computeTurn (rowAt T r) (λ t a b. value c (L .threads) t (rowAt T r .a) (rowAt T r .b) a b) z t)) (ap (λ p. p .row) e)
       (calc-one T L t P z h i m (rw e l) here onw c (ap (λ p. rowAt T (p .row) .op) e ∙ q) (sym (ap (λ p. record { row = suc (p .row); loops = p .loops }) e))))
@@ -274,17 +286,22 @@ module _ (T : Table) (w : WellFormed T) (L : Shape) (s : LockState) (fs : List F
       plain-row T L s fs g S l (accessTurn L m (rowAt T (s .row))) (keeps-touch L m _)
       (λ t P z h i e k.
       subst (λ r. One T L onw here t P h (accessTurn L m (rowAt T r) z t)) (ap (λ p. p .row) e)
-      (touch-one T L t P z h i k (rw e l) here onw m (ap (λ p. rowAt T (p .row) .op) e ∙ q) (sym (ap (λ p. record { row = suc (p .row); loops = p .loops }) e))))
+      (touch-one T L t P z h i k (rw e l) here onw m (ap (λ p. rowAt T (p .row) .op) e ∙ q)
+      (sym (ap (λ p. record { row = suc (p .row); loops = p .loops }) e))))
       (after-plain (MEM m) q (unfold isWhile in refl) (unfold role in refl)) (unfold countedAt in (ap (λ o. countedAt o s) q))
   done IF q = if-row T w L s fs g S l q
   done ELSE q =
-      else-of T w L s fs g S l q (top-of T (s .row) fs (framed-fresh T (s .row) fs (unfold isWhile in (ap isWhile q)) (S .framed)) (λ z. no-unknown IF (unfold known in refl) (unfold innermost in (z ∙ fits ELSE q))))
+      else-of T w L s fs g S l q
+      (top-of T (s .row) fs (framed-fresh T (s .row) fs (unfold isWhile in (ap isWhile q)) (S .framed))
+      (λ z. no-unknown IF (unfold known in refl) (unfold innermost in (z ∙ fits ELSE q))))
   done ENDIF q =
       endif-of T w L s fs g S l q (top-of T (s .row) fs (framed-fresh T (s .row) fs (unfold isWhile in (ap isWhile q)) (S .framed))
       (λ z. no-endif z (fits ENDIF q)))
   done WHILE q = while-row T w L s fs g S l q
   done ENDWHILE q =
-      endwhile-of T w L s fs g S l q (top-of T (s .row) fs (framed-fresh T (s .row) fs (unfold isWhile in (ap isWhile q)) (S .framed)) (λ z. no-unknown WHILE (unfold known in refl) (unfold innermost in (z ∙ fits ENDWHILE q))))
+      endwhile-of T w L s fs g S l q
+      (top-of T (s .row) fs (framed-fresh T (s .row) fs (unfold isWhile in (ap isWhile q)) (S .framed))
+      (λ z. no-unknown WHILE (unfold known in refl) (unfold innermost in (z ∙ fits ENDWHILE q))))
   done BARRIER q = barrier-row T w L s fs g S l q
   done UNKNOWN q = absurd (fits UNKNOWN q)
 

@@ -14,14 +14,16 @@ use Rattle.spec.specs.Lists.{anyOf, equalList}
 use Rattle.spec.specs.Runs.{Run, RunsAlwaysEnd, after}
 use Rattle.spec.specs.Shape.{Shape, bound}
 use Rattle.spec.specs.Table.{Table, WellFormed, noRow, rowAt}
-use Rattle.spec.specs.Threads.{Group, Move, Thread, accessesOf, atEnd, atOneBarrier, effectAt, endsBadly, isBarrier, isOutside, isWaiting, machine, markBad, next, noThread, performed, possible, races, release, row, threadAfter, threadCount}
+use Rattle.spec.specs.Threads.{Group, Move, Thread, accessesOf, atEnd, atOneBarrier, effectAt, endsBadly, isBarrier, isOutside, isWaiting, machine}
+use Rattle.spec.specs.Threads.{markBad, next, noThread, performed, possible, races, release, row, threadAfter, threadCount}
 use Rattle.allruns.proofs.Descent.{all-after, finish}
 use Rattle.allruns.proofs.Bools.{and-left, and-right, not-is}
 use Rattle.allruns.proofs.Diamond.{or-left-false, laws, every-at, act-waits}
 use Rattle.allruns.proofs.Progress.{Later, later-not, later-trans, act-forward}
 
 -- A run that ends badly is no run of a launch whose runs always come to an end.
-pub bad-not-all : (T : Table) (L : Shape) (s : Group) (ks : List Move) → Run (machine T L) s ks → after (machine T L) s ks .bad ≡ true → RunsAlwaysEnd (machine T L) s → ⊥
+pub bad-not-all : (T : Table) (L : Shape) (s : Group) (ks : List Move) → Run (machine T L) s ks → after (machine T L) s ks .bad ≡ true
+    → RunsAlwaysEnd (machine T L) s → ⊥
 bad-not-all T L s ks r b a = laws T L .end-good _ (a .ends ks r (λ m c. laws T L .bad-last _ m b c)) b
 
 same-lists : (xs ys : List ℕ) → equalList xs ys ≡ true → xs ≡ ys
@@ -69,7 +71,8 @@ module _ (T : Table) (w : WellFormed T) (L : Shape) (a u : ℕ) where
       by false e = absurd (unfold isBarrier rowAt noRow in (true≢false (sym q ∙ ap (λ x. isBarrier (x .op)) (List·getD-eq-default T noRow (ltb-false _ _ e)))))
 
   -- a move of thread t
-  moved : (s : Group) (t : ℕ) → Blocked T s a u → t < length (s .threads) → isWaiting (effectAt T L s t) ≡ false → isOutside (effectAt T L s t) ≡ false → Blocked T (performed s t (effectAt T L s t)) a u
+  moved : (s : Group) (t : ℕ) → Blocked T s a u → t < length (s .threads) → isWaiting (effectAt T L s t) ≡ false
+      → isOutside (effectAt T L s t) ≡ false → Blocked T (performed s t (effectAt T L s t)) a u
   unfolding performed effectAt isWaiting
   moved s t h l i o = by (ℕ-discrete t a) (ℕ-discrete t u)
     where
@@ -84,16 +87,19 @@ module _ (T : Table) (w : WellFormed T) (L : Shape) (a u : ℕ) where
 
       by : Dec (t ≡ a) → Dec (t ≡ u) → Blocked T (performed s t (effectAt T L s t)) a u
       by (yes e) d =
-          absurd (true≢false (sym (ap isWaiting (act-waits T L t x (subst (λ k. isBarrier (rowAt T (getD (s .threads) k noThread .row) .op) ≡ true) (sym e) (h .waiting)))) ∙ i))
+          absurd (true≢false
+          (sym (ap isWaiting (act-waits T L t x (subst (λ k. isBarrier (rowAt T (getD (s .threads) k noThread .row) .op) ≡ true) (sym e) (h .waiting)))) ∙ i))
       by (no e) (yes d) =
           let old : getD (set (s .threads) t new) a noThread ≡ getD (s .threads) a noThread = getD-set-other (s .threads) t a new noThread (λ p. e (sym p)) in
-          let put : getD (set (s .threads) t new) u noThread ≡ new = ap (λ k. getD (set (s .threads) t new) k noThread) (sym d) ∙ getD-set-same (s .threads) t new noThread l in
+          let put : getD (set (s .threads) t new) u noThread ≡ new = ap (λ k. getD (set (s .threads) t new) k noThread) (sym d)
+          ∙ getD-set-same (s .threads) t new noThread l in
           let f = act-forward T w L t x (s .cells) (ap (λ k. length (getD (s .threads) k noThread .loops)) d ∙ h .sized) i o in
           record {
             first = omega (arith, len, h .first);
             second = omega (arith, len, h .second);
             waiting = ap (λ z. isBarrier (rowAt T (z .row) .op)) old ∙ h .waiting;
-            past = rw (old, put) (later-trans T _ x new (subst (λ k. Later T (getD (s .threads) a noThread) (getD (s .threads) k noThread)) (sym d) (h .past)) (f .0));
+            past = rw (old, put)
+                (later-trans T _ x new (subst (λ k. Later T (getD (s .threads) a noThread) (getD (s .threads) k noThread)) (sym d) (h .past)) (f .0));
             sized = ap (λ z. length (z .loops)) put ∙ f .1;
           }
       by (no e) (no d) =
@@ -119,7 +125,8 @@ module _ (T : Table) (w : WellFormed T) (L : Shape) (a u : ℕ) where
       i = not-is _ (and-right (ltb t (threadCount s)) _ (and-right (not (s .bad)) _ c))
 
       unhurt : endsBadly s t (effectAt T L s t) ≡ false → isOutside (effectAt T L s t) ≡ false
-      unhurt q = unfold endsBadly in (or-left-false (isOutside (effectAt T L s t)) (anyOf (races (threadCount s) (s .made) t) (accessesOf (effectAt T L s t))) q)
+      unhurt q =
+          unfold endsBadly in (or-left-false (isOutside (effectAt T L s t)) (anyOf (races (threadCount s) (s .made) t) (accessesOf (effectAt T L s t))) q)
 
       by : (z : Bool) → endsBadly s t (effectAt T L s t) ≡ z → Blocked T (cond z (markBad s) (performed s t (effectAt T L s t))) a u
       by true q = same-threads s (markBad s) refl h
@@ -154,7 +161,8 @@ some-move T L s = by (possible T L s release) refl (search (length (s .threads))
             other t l c (yes e) = true≢false (sym c ∙ ap (λ j. possible T L s (row j)) e ∙ q)
             other t l c (no e) = n t (omega arith) c
 
-    by : (z : Bool) → possible T L s release ≡ z → ((t : ℕ) × (possible T L s (row t) ≡ true)) ⊎ ((t : ℕ) → t < length (s .threads) → possible T L s (row t) ≡ true → ⊥)
+    by : (z : Bool) → possible T L s release ≡ z
+        → ((t : ℕ) × (possible T L s (row t) ≡ true)) ⊎ ((t : ℕ) → t < length (s .threads) → possible T L s (row t) ≡ true → ⊥)
         → ((m : Move) × (possible T L s m ≡ true)) ⊎ ((m : Move) → possible T L s m ≡ true → ⊥)
     by true q h = inl (release, q)
     by false q (inl p) = inl (row (p .0), p .1)
@@ -168,8 +176,8 @@ some-move T L s = by (possible T L s release) refl (search (length (s .threads))
             below c = unfold possible threadCount in (ltb-true t _ (and-left _ _ (and-right (not (s .bad)) _ c)))
 
 -- A run that comes to such a state is none of a launch whose runs always come to an end.
-pub blocked-not-all : (T : Table) → WellFormed T → (L : Shape) (s : Group) (ks : List Move) (a u : ℕ) → Run (machine T L) s ks → Blocked T (after (machine T L) s ks) a u
-    → RunsAlwaysEnd (machine T L) s → ⊥
+pub blocked-not-all : (T : Table) → WellFormed T → (L : Shape) (s : Group) (ks : List Move) (a u : ℕ) → Run (machine T L) s ks
+    → Blocked T (after (machine T L) s ks) a u → RunsAlwaysEnd (machine T L) s → ⊥
 blocked-not-all T w L s ks a u r h all =
     let k = all-after (machine T L) s ks r all in
     let f = finish (machine T L) (some-move T L) (k .bound) (after (machine T L) s ks) (k .bounded) (k .ends) in

@@ -14,8 +14,10 @@ use Rattle.spec.specs.Table.{Table, Row, rowAt, cellByte, kindOf, endOf}
 use Rattle.spec.specs.Shape.{Shape, shapeOf, bound, address}
 use Rattle.spec.specs.Mask.{Mask, any, full, lowest}
 use Rattle.spec.specs.Log.{conflictMask, raceKind}
-use Rattle.spec.specs.LockStep.{Saved, LockState, Step, continues, stops, andThen, inTurn, advance, reg, setReg, computeTurn, madeAccess, tryAccess, accessTurn, forEnabled, countSteps, topMask, pop}
-use Rattle.spec.specs.LockStep.{ifRow, elseRow, endifRow, leaveOrStay, whileRow, endwhileRow, passBarrier, barrierRow, runRow, LockResult, resultOf, runFrom, initialState, lockstep, countedAt, countedAfter, countedFrom, countedBarriers}
+use Rattle.spec.specs.LockStep.{Saved, LockState, Step, continues, stops, andThen, inTurn, advance, reg, setReg, computeTurn, madeAccess, tryAccess}
+use Rattle.spec.specs.LockStep.{accessTurn, forEnabled, countSteps, topMask, pop}
+use Rattle.spec.specs.LockStep.{ifRow, elseRow, endifRow, leaveOrStay, whileRow, endwhileRow, passBarrier, barrierRow, runRow, LockResult, resultOf}
+use Rattle.spec.specs.LockStep.{runFrom, initialState, lockstep, countedAt, countedAfter, countedFrom, countedBarriers}
 
 isSpent : Verdict → ℕ
 isSpent Passed = 0
@@ -29,7 +31,8 @@ abbrev Leaves : (rows barriers c : ℕ) → Step → Type 0
 Leaves r b c (continues z) = (z .rows ≡ r) × (z .barriers ≡ b)
 Leaves r b c (stops v z) = (isSpent v ≡ 0) × (z .barriers ≡ c)
 
-leaves-then : (r b c r′ b′ : ℕ) (x : Step) (f : LockState → Step) → Leaves r b c x → ((z : LockState) → z .rows ≡ r → z .barriers ≡ b → Leaves r′ b′ c (f z)) → Leaves r′ b′ c (andThen x f)
+leaves-then : (r b c r′ b′ : ℕ) (x : Step) (f : LockState → Step) → Leaves r b c x
+    → ((z : LockState) → z .rows ≡ r → z .barriers ≡ b → Leaves r′ b′ c (f z)) → Leaves r′ b′ c (andThen x f)
 unfolding andThen
 leaves-then r b c r′ b′ (continues z) f h g = g z (h .0) (h .1)
 leaves-then r b c r′ b′ (stops v z) f h g = h
@@ -38,7 +41,8 @@ leaves-then r b c r′ b′ (stops v z) f h g = h
 abbrev KeepsCounts : (LockState → ℕ → Step) → Type 0
 KeepsCounts f = (s : LockState) (t : ℕ) → Leaves (s .rows) (s .barriers) (s .barriers) (f s t)
 
-leaves-turns : (f : LockState → ℕ → Step) → KeepsCounts f → (r b : ℕ) (ts : List ℕ) (s : LockState) → s .rows ≡ r → s .barriers ≡ b → Leaves r b b (inTurn f ts s)
+leaves-turns : (f : LockState → ℕ → Step) → KeepsCounts f → (r b : ℕ) (ts : List ℕ) (s : LockState) → s .rows ≡ r → s .barriers ≡ b
+    → Leaves r b b (inTurn f ts s)
 unfolding inTurn
 leaves-turns f h r b [] s p q = (p, q)
 leaves-turns f h r b (t ∷ ts) s p q = leaves-then r b b r b (f s t) (inTurn f ts) (move (f s t) (h s t)) (λ z x y. leaves-turns f h r b ts z x y)
@@ -50,7 +54,8 @@ leaves-turns f h r b (t ∷ ts) s p q = leaves-then r b b r b (f s t) (inTurn f 
 leaves-enabled : (f : LockState → ℕ → Step) → KeepsCounts f → (s : LockState) → Leaves (suc (s .rows)) (s .barriers) (s .barriers) (forEnabled f s)
 unfolding forEnabled advance
 leaves-enabled f h s =
-    leaves-then (s .rows) (s .barriers) (s .barriers) (suc (s .rows)) (s .barriers) (inTurn f _ s) _ (leaves-turns f h (s .rows) (s .barriers) _ s refl refl) (λ z p q. (ap suc p, q))
+    leaves-then (s .rows) (s .barriers) (s .barriers) (suc (s .rows)) (s .barriers) (inTurn f _ s) _
+    (leaves-turns f h (s .rows) (s .barriers) _ s refl refl) (λ z p q. (ap suc p, q))
 
 keeps-compute : (x : Row) (f : ℕ → ℕ → ℕ → ℕ) → KeepsCounts (computeTurn x f)
 unfolding computeTurn setReg
@@ -71,7 +76,9 @@ keeps-access L m x s t = by (leb (bound L m) c) (any others)
 
     by : (out races : Bool)
         → Leaves (s .rows) (s .barriers) (s .barriers)
-        (cond out (stops (Outside t c) s) (cond races (stops (Race t (lowest others) (raceKind (s .log) (address L m c) (lowest others) k) (address L m c)) s) (continues (madeAccess s t (x .d) (address L m c) k))))
+        (cond out (stops (Outside t c) s)
+        (cond races (stops (Race t (lowest others) (raceKind (s .log) (address L m c) (lowest others) k) (address L m c)) s)
+        (continues (madeAccess s t (x .d) (address L m c) k))))
     by true races = (refl, refl)
     by false true = (refl, refl)
     by false false = (refl, refl)
@@ -80,7 +87,9 @@ leaves-while : (T : Table) (s : LockState) (v : List Saved) (m : Mask) → Leave
 unfolding leaveOrStay advance
 leaves-while T s v m = by (any m)
   where
-    by : (p : Bool) → Leaves (suc (s .rows)) (s .barriers) (s .barriers) (continues (cond p (advance (suc (s .row)) m v s) (advance (suc (endOf T (s .row))) (topMask v) (pop v) s)))
+    by : (p : Bool)
+        → Leaves (suc (s .rows)) (s .barriers) (s .barriers)
+        (continues (cond p (advance (suc (s .row)) m v s) (advance (suc (endOf T (s .row))) (topMask v) (pop v) s)))
     by true = (refl, refl)
     by false = (refl, refl)
 
@@ -103,7 +112,8 @@ uncounted r b (stops v z) h = let p = h .1 in (h .0, omega (arith, p))
 
 leaves-row : (T : Table) (L : Shape) (x : Row) (s : LockState) (o : Op) → Leaves (suc (s .rows)) (grown s o) (grown s o) (runRow T L x s o)
 unfolding grown runRow countedAt advance countSteps barrierRow isSpent ifRow elseRow endifRow whileRow endwhileRow
-leaves-row T L x s (CALC c) = uncounted (suc (s .rows)) (s .barriers) (runRow T L x s (CALC c)) (leaves-enabled _ (keeps-compute x (λ t p q. value c (L .threads) t (x .a) (x .b) p q)) s)
+leaves-row T L x s (CALC c) =
+    uncounted (suc (s .rows)) (s .barriers) (runRow T L x s (CALC c)) (leaves-enabled _ (keeps-compute x (λ t p q. value c (L .threads) t (x .a) (x .b) p q)) s)
 leaves-row T L x s (MEM m) = uncounted (suc (s .rows)) (s .barriers) (runRow T L x s (MEM m)) (leaves-enabled _ (keeps-access L m x) s)
 leaves-row T L x s IF = uncounted (suc (s .rows)) (s .barriers) (runRow T L x s IF) (refl, refl)
 leaves-row T L x s ELSE = uncounted (suc (s .rows)) (s .barriers) (runRow T L x s ELSE) (refl, refl)
@@ -138,7 +148,8 @@ unfolding runFrom countedFrom isSpent
 counted-run T L zero s = record { atLimit = λ e. omega arith; barriers = omega arith }
 counted-run T L (suc left) s =
     by (leb (length T) (s .row))
-    (counted-on T L left s (rowAt T (s .row) .op) (runRow T L (rowAt T (s .row)) s (rowAt T (s .row) .op)) (leaves-row T L (rowAt T (s .row)) s (rowAt T (s .row) .op)) (counted-run T L left))
+    (counted-on T L left s (rowAt T (s .row) .op) (runRow T L (rowAt T (s .row)) s (rowAt T (s .row) .op))
+    (leaves-row T L (rowAt T (s .row)) s (rowAt T (s .row) .op)) (counted-run T L left))
   where
     out : LockResult
     out = resultOf (runRow T L (rowAt T (s .row)) s (rowAt T (s .row) .op)) (runFrom T L left)
@@ -147,11 +158,13 @@ counted-run T L (suc left) s =
     bars = countedAt (rowAt T (s .row) .op) s ++ countedAfter (runRow T L (rowAt T (s .row)) s (rowAt T (s .row) .op)) (countedFrom T L left)
 
     by : (b : Bool) → Counted (suc left) s out bars
-        → Counted (suc left) s (elim b as (λ c. LockResult) [ true ↦ record { verdict = Passed; state = s } | false ↦ out ]) (elim b as (λ c. List (List ℕ)) [ true ↦ [] | false ↦ bars ])
+        → Counted (suc left) s (elim b as (λ c. LockResult) [ true ↦ record { verdict = Passed; state = s } | false ↦ out ])
+        (elim b as (λ c. List (List ℕ)) [ true ↦ [] | false ↦ bars ])
     by true h = record { atLimit = λ e. absurd (omega (arith, e)); barriers = omega arith }
     by false h = h
 
-pub spent-at-limit : (T : Table) (n : ℕ) (cells : List ℕ) (limit : ℕ) → lockstep T n cells limit .verdict ≡ Spent → lockstep T n cells limit .state .rows ≡ limit
+pub spent-at-limit : (T : Table) (n : ℕ) (cells : List ℕ) (limit : ℕ) → lockstep T n cells limit .verdict ≡ Spent
+    → lockstep T n cells limit .state .rows ≡ limit
 unfolding lockstep initialState isSpent
 spent-at-limit T n cells limit e = let p = counted-run T (shapeOf n cells) limit (initialState n cells) .atLimit (ap isSpent e) in omega (arith, p)
 

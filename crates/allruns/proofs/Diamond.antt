@@ -15,7 +15,9 @@ use Rattle.spec.specs.Lists.{anyOf, every}
 use Rattle.spec.specs.Op.{BARRIER, CALC, ELSE, ENDIF, ENDWHILE, IF, MEM, Op, UNKNOWN, WHILE}
 use Rattle.spec.specs.Shape.{Shape}
 use Rattle.spec.specs.Table.{Table, noRow, rowAt}
-use Rattle.spec.specs.Threads.{AccessRecord, Effect, Group, Move, Thread, accesses, accessesOf, atEnd, atOneBarrier, cellsAfter, effect, effectAt, effectOf, endsBadly, goes, isBarrier, isOutside, isWaiting, machine, markBad, next, noThread, performed, possible, races, recorded, release, row, shown, strays, threadAfter, threadCount, waits}
+use Rattle.spec.specs.Threads.{AccessRecord, Effect, Group, Move, Thread, accesses, accessesOf, atEnd, atOneBarrier, cellsAfter, effect, effectAt}
+use Rattle.spec.specs.Threads.{effectOf, endsBadly, goes, isBarrier, isOutside, isWaiting, machine, markBad, next, noThread, performed, possible}
+use Rattle.spec.specs.Threads.{races, recorded, release, row, shown, strays, threadAfter, threadCount, waits}
 use Rattle.allruns.proofs.Descent.{Close, meet, clash, dead, Laws}
 use Rattle.allruns.proofs.Accesses.{conflict-swap, taken-after, cells-swap, some-same, some-append, some-or, some-swap}
 use Rattle.allruns.proofs.Bools.{and-left, and-right, below-same, below-more}
@@ -54,7 +56,8 @@ hurts-after : (s : Group) (t u : ℕ) (x y : Effect) → ¬ (t ≡ u) → t < th
 unfolding endsBadly performed clashes threadCount
 hurts-after s t u x y ne lt =
     ap (λ n. isOutside y || anyOf (races n (recorded (s .made) t (accessesOf x)) u) (accessesOf y)) (length-set (s .threads) t _)
-    ∙ ap (λ b. isOutside y || b) (some-same _ _ (accessesOf y) (λ a. races-more (length (s .threads)) (s .made) t u (accessesOf x) a ne lt) ∙ some-or _ _ (accessesOf y))
+    ∙ ap (λ b. isOutside y || b) (some-same _ _ (accessesOf y) (λ a. races-more (length (s .threads)) (s .made) t u (accessesOf x) a ne lt)
+    ∙ some-or _ _ (accessesOf y))
     ∙ or-in (isOutside y) (anyOf (races (length (s .threads)) (s .made) u) (accessesOf y)) (anyOf (λ b. anyOf (conflict b) (accessesOf x)) (accessesOf y))
   where
     or-in : (a b c : Bool) → (a || (b || c)) ≡ (a || b || c)
@@ -66,7 +69,8 @@ or-zero true q = q
 or-zero false q = refl
 
 -- The one conflict of two accesses.
-makes-free : (c e d f : ℕ) (k l : Kind) → clashes (accesses c k d) (accesses e l f) ≡ false → conflict (record { cell = c; kind = k }) (record { cell = e; kind = l }) ≡ false
+makes-free : (c e d f : ℕ) (k l : Kind) → clashes (accesses c k d) (accesses e l f) ≡ false
+    → conflict (record { cell = c; kind = k }) (record { cell = e; kind = l }) ≡ false
 unfolding clashes accessesOf anyOf
 makes-free c e d f k l q = conflict-swap (record { cell = c; kind = k }) (record { cell = e; kind = l }) ∙ or-zero _ q
 
@@ -148,7 +152,8 @@ pub next-done : (T : Table) (L : Shape) (s : Group) (t : ℕ) → endsBadly s t 
 unfolding next
 next-done T L s t q = ap (λ z. cond z (markBad s) (performed s t (effectAt T L s t))) q
 
-pub can-after : (T : Table) (L : Shape) (s : Group) (t u : ℕ) (x : Effect) → ¬ (t ≡ u) → possible T L s (row u) ≡ true → possible T L (performed s t x) (row u) ≡ true
+pub can-after : (T : Table) (L : Shape) (s : Group) (t u : ℕ) (x : Effect) → ¬ (t ≡ u) → possible T L s (row u) ≡ true
+    → possible T L (performed s t x) (row u) ≡ true
 unfolding possible threadCount performed
 can-after T L s t u x ne c =
     ap₂ (λ n a. not (s .bad) && (ltb u n && not (isWaiting a))) (length-set (s .threads) t _) (act-same T L s t u x ne) ∙ c
@@ -245,7 +250,8 @@ every-at p [] i d q l = absurd (omega arith)
 every-at p (x ∷ xs) zero d q l = and-left (p x) _ q
 every-at p (x ∷ xs) (suc i) d q l = every-at p xs i d (and-right (p x) _ q) (omega arith)
 
-pub gathered-at : (T : Table) (ths : List Thread) (i : ℕ) → atOneBarrier T ths ≡ true → i < length ths → isBarrier (rowAt T (getD ths i noThread .row) .op) ≡ true
+pub gathered-at : (T : Table) (ths : List Thread) (i : ℕ) → atOneBarrier T ths ≡ true → i < length ths
+    → isBarrier (rowAt T (getD ths i noThread .row) .op) ≡ true
 unfolding atOneBarrier
 gathered-at T [] i q l = absurd (false≢true q)
 gathered-at T (x ∷ xs) zero q l = and-left _ _ q

@@ -14,13 +14,16 @@ use Rattle.spec.specs.Op.{BARRIER, CALC, ELSE, ENDIF, ENDWHILE, IF, MEM, Mem, O
 use Rattle.spec.specs.Runs.{Run, after}
 use Rattle.spec.specs.Shape.{Shape, address, bound, shapeOf}
 use Rattle.spec.specs.Table.{Table, rowAt}
-use Rattle.spec.specs.Threads.{Effect, Group, Move, Thread, accesses, cellsAfter, effect, effectAt, effectOf, endsBadly, initialGroup, isBarrier, machine, markBad, next, noThread, pastBarrier, performed, possible, reach, release, released, row, strays, threadAfter, threadCount, waits}
+use Rattle.spec.specs.Threads.{Effect, Group, Move, Thread, accesses, cellsAfter, effect, effectAt, effectOf, endsBadly, initialGroup, isBarrier}
+use Rattle.spec.specs.Threads.{machine, markBad, next, noThread, pastBarrier, performed, possible, reach, release, released, row, strays, threadAfter}
+use Rattle.spec.specs.Threads.{threadCount, waits}
 use Rattle.allruns.proofs.Lists.{getD-map-at}
 use Rattle.allruns.proofs.Bools.{and-left, and-right}
 use Rattle.allruns.proofs.Diamond.{gathered-at}
 
 -- What holds of the j-th element of a list and of v holds of the j-th element after v is put, wherever it is put.
-pub set-keeps : {A : Type 0} (P : A → Type 0) (xs : List A) (d : A) (i : ℕ) (v : A) (j : ℕ) → (i < length xs → P v) → P (getD xs j d) → P (getD (set xs i v) j d)
+pub set-keeps : {A : Type 0} (P : A → Type 0) (xs : List A) (d : A) (i : ℕ) (v : A) (j : ℕ) → (i < length xs → P v) → P (getD xs j d)
+    → P (getD (set xs i v) j d)
 set-keeps P [] d i v j p h = h
 set-keeps P (x ∷ xs) d zero v zero p h = p (omega arith)
 set-keeps P (x ∷ xs) d zero v (suc j) p h = h
@@ -67,7 +70,8 @@ reach-cases F L m c k d f g = by (ltb c (bound L m))
     by false = g
 
 module _ (T : Table) (L : Shape) (P : Thread → Type 0) (Q : List ℕ → Type 0) (k : Keeps T L P Q) where
-  keeps-effect : (t : ℕ) (x : Thread) (cells : List ℕ) → t < L .threads → P x → Q cells → P (threadAfter x cells (effect T L t x)) × Q (cellsAfter cells (effect T L t x))
+  keeps-effect : (t : ℕ) (x : Thread) (cells : List ℕ) → t < L .threads → P x → Q cells
+      → P (threadAfter x cells (effect T L t x)) × Q (cellsAfter cells (effect T L t x))
   unfolding effect threadAfter cellsAfter
   keeps-effect t x cells l p q = by (ltb (x .row) (length T)) refl
     where
@@ -85,7 +89,8 @@ module _ (T : Table) (L : Shape) (P : Thread → Type 0) (Q : List ℕ → Type 
         count = length-map (s .threads) pastBarrier ∙ h .count;
         each = λ t l.
             let g : t < length (s .threads) = omega (arith, h .count) in
-            rw (getD-map-at pastBarrier (s .threads) t noThread noThread g) (k .barriers _ (barrier-op _ (gathered-at T (s .threads) t (and-right (not (s .bad)) _ c) g)) (h .each t l));
+            rw (getD-map-at pastBarrier (s .threads) t noThread noThread g)
+            (k .barriers _ (barrier-op _ (gathered-at T (s .threads) t (and-right (not (s .bad)) _ c) g)) (h .each t l));
         shared = h .shared;
       }
   keeps-next s (row t) c h = by (endsBadly s t (effectAt T L s t))
@@ -114,8 +119,8 @@ module _ (T : Table) (L : Shape) (P : Thread → Type 0) (Q : List ℕ → Type 
   keeps-run [] s r h = h
   keeps-run (m ∷ ms) s r h = keeps-run ms (next T L s m) (r .1) (keeps-next s m (r .0) h)
 
-pub in-every-run : (T : Table) (n : ℕ) (cells : List ℕ) (P : Thread → Type 0) (Q : List ℕ → Type 0) → Keeps T (shapeOf n cells) P Q → Q cells → (ms : List Move) → RunOf T n cells ms
-    → Holds n P Q (leaves T n cells ms)
+pub in-every-run : (T : Table) (n : ℕ) (cells : List ℕ) (P : Thread → Type 0) (Q : List ℕ → Type 0) → Keeps T (shapeOf n cells) P Q → Q cells
+    → (ms : List Move) → RunOf T n cells ms → Holds n P Q (leaves T n cells ms)
 unfolding shapeOf initialGroup
 in-every-run T n cells P Q k q ms r =
     keeps-run T (shapeOf n cells) P Q k ms _ r

@@ -34,7 +34,8 @@ bare-demand3 table threads cells limit lentCells lentLog e =
 never : {A : Type 0} (r : Refusal) (launch : Launch) → refused r ≡ accepted launch → A
 never r launch e = let z : _≡_ {A = ℕ} 0 1 = cc in absurd (omega arith)
 
-kept : (found : Option Refusal) (launch goal : Launch) → tableRefusal (launch .table) ≡ found → unlessRefused found launch ≡ accepted goal → tableRefusal (goal .table) ≡ none
+kept : (found : Option Refusal) (launch goal : Launch) → tableRefusal (launch .table) ≡ found → unlessRefused found launch ≡ accepted goal
+    → tableRefusal (goal .table) ≡ none
 unfolding unlessRefused
 kept none launch goal q e = let same : launch ≡ goal = cc in subst (λ l. tableRefusal (l .table) ≡ none) same q
 kept (some r) launch goal q e = never r goal e
@@ -48,7 +49,8 @@ pub file-table : (file : List ℕ) (launch : Launch) → fileLaunch file ≡ acc
 unfolding fileLaunch
 file-table file launch = by (leb (length file) maxFile)
   where
-    by : (b : Bool) → (elim b as (λ c. Checked Launch) [ true ↦ checkedTable (launchLines 1 file) | false ↦ refused FileTooLong ]) ≡ accepted launch → tableRefusal (launch .table) ≡ none
+    by : (b : Bool) → (elim b as (λ c. Checked Launch) [ true ↦ checkedTable (launchLines 1 file) | false ↦ refused FileTooLong ]) ≡ accepted launch
+        → tableRefusal (launch .table) ≡ none
     by true e = lines-table (launchLines 1 file) launch e
     by false e = never FileTooLong launch e
 

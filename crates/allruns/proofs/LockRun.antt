@@ -69,7 +69,8 @@ at-end T w L s fs g S l =
     spot : (i : ℕ) → place T (s .row) (s .enabled) fs i ≡ record { row = s .row; loops = loopsOf T [] }
     spot i = ap (λ z. place T (s .row) (s .enabled) z i) none ∙ (unfold place in refl)
 
-complete-here : (T : Table) → WellFormed T → (L : Shape) (s : LockState) (fs : List Frame) (g : Group) → Sim T L s fs g → length T ≤ s .row → (o : LockResult) → o .state ≡ s → Completes T L s g o []
+complete-here : (T : Table) → WellFormed T → (L : Shape) (s : LockState) (fs : List Frame) (g : Group) → Sim T L s fs g → length T ≤ s .row
+    → (o : LockResult) → o .state ≡ s → Completes T L s g o []
 complete-here T w L s fs g S l o e =
     record {
       moves = [];
@@ -81,8 +82,8 @@ complete-here T w L s fs g S l o e =
       finally = S .match .cells ∙ ap (λ z. z .cells) (sym e);
     }
 
-complete-on : (T : Table) (L : Shape) (s z : LockState) (g : Group) (o : LockResult) (bs : List (List ℕ)) (h : Advanced T L s g z) → Completes T L z (after (machine T L) g (h .moves)) o bs
-    → Completes T L s g o (countedAt (rowAt T (s .row) .op) s ++ bs)
+complete-on : (T : Table) (L : Shape) (s z : LockState) (g : Group) (o : LockResult) (bs : List (List ℕ)) (h : Advanced T L s g z)
+    → Completes T L z (after (machine T L) g (h .moves)) o bs → Completes T L s g o (countedAt (rowAt T (s .row) .op) s ++ bs)
 complete-on T L s z g o bs h t =
     record {
       moves = h .moves ++ t .moves;
@@ -94,7 +95,8 @@ complete-on T L s z g o bs h t =
       finally = ap (λ x. x .cells) (after-append (machine T L) g (h .moves) (t .moves)) ∙ t .finally;
     }
 
-failed-on : (T : Table) (L : Shape) (s z : LockState) (g : Group) (v : Verdict) (h : Advanced T L s g z) → Failed T L (after (machine T L) g (h .moves)) v → Failed T L g v
+failed-on : (T : Table) (L : Shape) (s z : LockState) (g : Group) (v : Verdict) (h : Advanced T L s g z)
+    → Failed T L (after (machine T L) g (h .moves)) v → Failed T L g v
 failed-on T L s z g v h f =
     record {
       stopping = f .stopping;
@@ -103,15 +105,16 @@ failed-on T L s z g v h f =
       fails = subst (λ x. (x .bad ≡ true) ⊎ ((a : ℕ) × (u : ℕ) × Blocked T x a u)) (sym (after-append (machine T L) g (h .moves) (f .moves))) (f .fails);
     }
 
-simulates-on : (T : Table) (L : Shape) (s z : LockState) (g : Group) (o : LockResult) (bs : List (List ℕ)) (h : Advanced T L s g z) (v : Verdict) → Simulates T L z (after (machine T L) g (h .moves)) o bs v
-    → Simulates T L s g o (countedAt (rowAt T (s .row) .op) s ++ bs) v
+simulates-on : (T : Table) (L : Shape) (s z : LockState) (g : Group) (o : LockResult) (bs : List (List ℕ)) (h : Advanced T L s g z) (v : Verdict)
+    → Simulates T L z (after (machine T L) g (h .moves)) o bs v → Simulates T L s g o (countedAt (rowAt T (s .row) .op) s ++ bs) v
 simulates-on T L s z g o bs h Passed t = complete-on T L s z g o bs h t
 simulates-on T L s z g o bs h (Race t u k a) f = failed-on T L s z g (Race t u k a) h f
 simulates-on T L s z g o bs h (Outside t a) f = failed-on T L s z g (Outside t a) h f
 simulates-on T L s z g o bs h (Diverged t u) f = failed-on T L s z g (Diverged t u) h f
 simulates-on T L s z g o bs h Spent t = tt
 
-simulates-fail : (T : Table) (L : Shape) (s : LockState) (g : Group) (o : LockResult) (bs : List (List ℕ)) (v : Verdict) → Failed T L g v → Simulates T L s g o bs v
+simulates-fail : (T : Table) (L : Shape) (s : LockState) (g : Group) (o : LockResult) (bs : List (List ℕ)) (v : Verdict) → Failed T L g v
+    → Simulates T L s g o bs v
 simulates-fail T L s g o bs Passed f = absurd (f .stopping)
 simulates-fail T L s g o bs (Race t u k a) f = f
 simulates-fail T L s g o bs (Outside t a) f = f
@@ -119,7 +122,8 @@ simulates-fail T L s g o bs (Diverged t u) f = f
 simulates-fail T L s g o bs Spent f = tt
 
 -- The lock-step run simulates a run of the machine.
-pub simulates : (T : Table) → WellFormed T → (L : Shape) (k : ℕ) (s : LockState) (fs : List Frame) (g : Group) → Sim T L s fs g → Simulates T L s g (runFrom T L k s) (countedFrom T L k s) (runFrom T L k s .verdict)
+pub simulates : (T : Table) → WellFormed T → (L : Shape) (k : ℕ) (s : LockState) (fs : List Frame) (g : Group) → Sim T L s fs g
+    → Simulates T L s g (runFrom T L k s) (countedFrom T L k s) (runFrom T L k s .verdict)
 unfolding runFrom countedFrom
 simulates T w L zero s fs g S = by (leb (length T) (s .row)) refl
   where
@@ -138,17 +142,26 @@ simulates T w L (suc k) s fs g S = by (leb (length T) (s .row)) refl (simulates 
     bars b = elim b [ true ↦ [] | false ↦ countedAt (rowAt T (s .row) .op) s ++ countedAfter st (countedFrom T L k) ]
 
     by : (b : Bool) → leb (length T) (s .row) ≡ b
-        → ((z : LockState) (fs : List Frame) (g : Group) → Sim T L z fs g → Simulates T L z g (runFrom T L k z) (countedFrom T L k z) (runFrom T L k z .verdict))
+        → ((z : LockState) (fs : List Frame) (g : Group) → Sim T L z fs g → Simulates T L z g (runFrom T L k z) (countedFrom T L k z)
+        (runFrom T L k z .verdict))
         → Simulates T L s g (out b) (bars b) (out b .verdict)
     by true q ih = complete-here T w L s fs g S (leb-true _ _ q) (record { verdict = Passed; state = s }) refl
     by false q ih = at st (row-done T w L s fs g S (leb-false _ _ q))
       where
         at : (o : Step) → RowDone T L s g o
-            → Simulates T L s g (resultOf o (runFrom T L k)) (countedAt (rowAt T (s .row) .op) s ++ countedAfter o (countedFrom T L k)) (resultOf o (runFrom T L k) .verdict)
-        at (continues z) h = unfold resultOf countedAfter in (simulates-on T L s z g (runFrom T L k z) (countedFrom T L k z) h (runFrom T L k z .verdict) (ih z (h .frames) (after (machine T L) g (h .moves)) (h .sim)))
-        at (stops v z) h = unfold resultOf in (simulates-fail T L s g (record { verdict = v; state = z }) (countedAt (rowAt T (s .row) .op) s ++ countedAfter (stops v z) (countedFrom T L k)) v h)
+            → Simulates T L s g (resultOf o (runFrom T L k)) (countedAt (rowAt T (s .row) .op) s ++ countedAfter o (countedFrom T L k))
+            (resultOf o (runFrom T L k) .verdict)
+        at (continues z) h =
+            unfold resultOf countedAfter in
+            (simulates-on T L s z g (runFrom T L k z) (countedFrom T L k z) h (runFrom T L k z .verdict)
+            (ih z (h .frames) (after (machine T L) g (h .moves)) (h .sim)))
+        at (stops v z) h =
+            unfold resultOf in
+            (simulates-fail T L s g (record { verdict = v; state = z })
+            (countedAt (rowAt T (s .row) .op) s ++ countedAfter (stops v z) (countedFrom T L k)) v h)
 
-pub start-sim : (T : Table) → WellFormed T → (n : ℕ) (cells : List ℕ) → Sim T (shapeOf n cells) (initialState n cells) [] (initialGroup T (shapeOf n cells) cells)
+pub start-sim : (T : Table) → WellFormed T → (n : ℕ) (cells : List ℕ)
+    → Sim T (shapeOf n cells) (initialState n cells) [] (initialGroup T (shapeOf n cells) cells)
 unfolding initialState initialGroup shapeOf
 start-sim T w n cells =
     record {

@@ -79,7 +79,8 @@ enter-has masks c t e u l k = by (ℕ-discrete e c)
     by : Dec (e ≡ c) → has (getD (set masks c (set (getD masks c []) t true)) e []) u ≡ (has (getD masks e []) u || (eqb u t && eqb e c))
     by (yes q) =
         rw (eq-eqb e c q)
-        (ap (λ v. has (getD (set masks c (set (getD masks c []) t true)) v []) u) q ∙ ap (λ m. has m u) (getD-set-same masks c _ [] l) ∙ has-set (getD masks c []) t u true k
+        (ap (λ v. has (getD (set masks c (set (getD masks c []) t true)) v []) u) q ∙ ap (λ m. has m u) (getD-set-same masks c _ [] l)
+        ∙ has-set (getD masks c []) t u true k
         ∙ fin (eqb u t) (has (getD masks c []) u) ∙ ap (λ v. has (getD masks v []) u || (eqb u t && true)) (sym q))
     by (no q) = rw (ne-eqb e c q) (ap (λ m. has m u) (getD-set-other masks c e _ [] q) ∙ non (eqb u t) _)
 
@@ -141,7 +142,8 @@ module _ (n k : ℕ) (R : AccessRecord) (G : Log) (h : LogMatches n k R G) (t c 
       by load = unfold compatible isStore in refl
       by (store w) = unfold compatible isStore in refl
   against-has (store v) u j =
-      some-same _ (λ a. (eqb c (a .cell) && isStore (a .kind)) || (eqb c (a .cell) && isLoad (a .kind))) (R u) (λ a. by (eqb c (a .cell)) (a .kind)) ∙ some-or _ _ (R u)
+      some-same _ (λ a. (eqb c (a .cell) && isStore (a .kind)) || (eqb c (a .cell) && isLoad (a .kind))) (R u) (λ a. by (eqb c (a .cell)) (a .kind))
+      ∙ some-or _ _ (R u)
       ∙ ap₂ _||_ (h .writes u c j i) (h .reads u c j i) ∙ sym (has-union _ _ u)
     where
       by : (e : Bool) (y : Kind) → (e && not (compatible (store v) y)) ≡ ((e && isStore y) || (e && isLoad y))
@@ -160,7 +162,8 @@ module _ (n k : ℕ) (R : AccessRecord) (G : Log) (h : LogMatches n k R G) (t c 
       → (u e : ℕ) → u < n → e < k → holds p e (recorded R t (record { cell = c; kind = x } ∷ []) u) ≡ has (getD (withThread masks c t) e []) u
   unfolding holds recorded anyOf
   in-mask p masks x q s z m u e a b =
-      by (eqb u t) ∙ ap (λ y. y || (eqb u t && (eqb e c && p x))) (m u e a b) ∙ ap (λ y. has (getD masks e []) u || (eqb u t && y)) (ap (λ y. eqb e c && y) q ∙ and-true (eqb e c))
+      by (eqb u t) ∙ ap (λ y. y || (eqb u t && (eqb e c && p x))) (m u e a b) ∙ ap (λ y. has (getD masks e []) u || (eqb u t && y))
+      (ap (λ y. eqb e c && y) q ∙ and-true (eqb e c))
       ∙ sym (enter-has masks c t e u (omega arith) (omega arith))
     where
       and-true : (a : Bool) → (a && true) ≡ a
@@ -186,7 +189,8 @@ module _ (n k : ℕ) (R : AccessRecord) (G : Log) (h : LogMatches n k R G) (t c 
       and-false true = refl
       and-false false = refl
 
-      by : (d : Bool) → anyOf (λ a. eqb e (a .cell) && p (a .kind)) (cond d (record { cell = c; kind = x } ∷ R u) (R u)) ≡ anyOf (λ a. eqb e (a .cell) && p (a .kind)) (R u)
+      by : (d : Bool)
+          → anyOf (λ a. eqb e (a .cell) && p (a .kind)) (cond d (record { cell = c; kind = x } ∷ R u) (R u)) ≡ anyOf (λ a. eqb e (a .cell) && p (a .kind)) (R u)
       by true = ap (λ y. y || anyOf (λ a. eqb e (a .cell) && p (a .kind)) (R u)) (ap (λ y. eqb e c && y) q ∙ and-false (eqb e c))
       by false = refl
 

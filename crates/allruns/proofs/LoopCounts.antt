@@ -11,7 +11,8 @@ use lib.Seq.{ext-getD, getD-set-other, getD-set-same}
 use Rattle.spec.specs.AllRuns.{RunOf, leaves}
 use Rattle.spec.specs.Op.{BARRIER, CALC, ELSE, ENDIF, ENDWHILE, IF, MEM, Op, UNKNOWN, WHILE}
 use Rattle.spec.specs.Shape.{Shape, shapeOf}
-use Rattle.spec.specs.Table.{Fits, Role, Table, WellFormed, closing, dividing, elseOf, endOf, innermost, openBefore, openedBy, opening, pastElse, plain, role, rowAt, scan, scanRow, startOf}
+use Rattle.spec.specs.Table.{Fits, Role, Table, WellFormed, closing, dividing, elseOf, endOf, innermost, openBefore, openedBy, opening, pastElse}
+use Rattle.spec.specs.Table.{plain, role, rowAt, scan, scanRow, startOf}
 use Rattle.spec.specs.Threads.{Move, Thread, effectOf, goto, noThread, onIf, onWhile, pastBarrier, put, reg, threadAfter}
 use Rattle.allruns.proofs.Nesting.{isWhile, innermost-at, outer, scan-step}
 use Rattle.allruns.proofs.Progress.{back, isLoop}
@@ -64,7 +65,8 @@ still T w half (suc m) r ks o os f q =
 below-top : (T : Table) (os : List ℕ) (i : ℕ) → isWhile (innermost T os) ≡ false → rowAt T i .op ≡ WHILE → List·Memᴰ i os → List·Memᴰ i (tail os)
 unfolding innermost isWhile
 below-top T [] i n q m = m
-below-top T (o ∷ os) i n q m = ⊎-elim (λ e. absurd (true≢false (sym (ap isWhile q) ∙ ap (λ o. isWhile (rowAt T o .op)) e ∙ n))) (λ h. h) (List·Memᴰ·cases-cons m)
+below-top T (o ∷ os) i n q m =
+    ⊎-elim (λ e. absurd (true≢false (sym (ap isWhile q) ∙ ap (λ o. isWhile (rowAt T o .op)) e ∙ n))) (λ h. h) (List·Memᴰ·cases-cons m)
 
 -- A false IF goes to the row where the scan for its ELSE stops, or to the next one.
 at-else : (P : ℕ → Type 0) (o : Op) (h : ℕ) → P h → P (suc h) → P (pastElse o h)
@@ -161,8 +163,8 @@ module _ (T : Table) (w : WellFormed T) where
   moves x r regs k f = record { sized = k .sized; counts = λ i c. f i (k .counts i c) }
 
   -- a WHILE puts its own count, and is around the next row if it does not put 0
-  counts-while : (x : Thread) (v r : ℕ) → x .row < length T → Kept T x → ((i : ℕ) → ¬ (i ≡ x .row) → Around T (x .row) i → Around T r i) → (0 < v → Around T r (x .row))
-      → Kept T (record { row = r; regs = x .regs; loops = set (x .loops) (x .row) v })
+  counts-while : (x : Thread) (v r : ℕ) → x .row < length T → Kept T x → ((i : ℕ) → ¬ (i ≡ x .row) → Around T (x .row) i → Around T r i)
+      → (0 < v → Around T r (x .row)) → Kept T (record { row = r; regs = x .regs; loops = set (x .loops) (x .row) v })
   counts-while x v r l k f g = record { sized = length-set (x .loops) (x .row) v ∙ k .sized; counts = λ i c. at i c (ℕ-discrete i (x .row)) }
     where
       at : (i : ℕ) → 0 < getD (set (x .loops) (x .row) v) i 0 → Dec (i ≡ x .row) → Around T r i
@@ -173,7 +175,8 @@ module _ (T : Table) (w : WellFormed T) where
       → Kept T (threadAfter x cells (effectOf T L t x (rowAt T (x .row)) o))
   unfolding effectOf threadAfter put goto onIf onWhile isLoop isWhile role
   kept-row L t x cells l (CALC c) q k = moves x _ _ k (to-next T (x .row) (ap isWhile q) (ap role q))
-  kept-row L t x cells l (MEM m) q k = reach-cases (λ e. Kept T (threadAfter x cells e)) L m _ _ _ (moves x _ _ k (to-next T (x .row) (ap isWhile q) (ap role q))) k
+  kept-row L t x cells l (MEM m) q k =
+      reach-cases (λ e. Kept T (threadAfter x cells e)) L m _ _ _ (moves x _ _ k (to-next T (x .row) (ap isWhile q) (ap role q))) k
   kept-row L t x cells l IF q k = by (reg x (rowAt T (x .row) .a))
     where
       by : (v : ℕ) → Kept T (onIf T x v)
@@ -194,7 +197,11 @@ module _ (T : Table) (w : WellFormed T) where
   unfolding pastBarrier goto isLoop isWhile role
   keeps-kept L =
       record {
-        first = record { sized = length-replicate (length T) 0; counts = λ i c. let z = replicate-keeps (λ (v : ℕ). v ≡ 0) (length T) 0 0 i refl refl in absurd (omega arith) };
+        first = record {
+          sized = length-replicate (length T) 0;
+          counts = λ i c. let z = replicate-keeps (λ (v : ℕ). v ≡ 0) (length T) 0 0 i refl
+              refl in absurd (omega arith);
+        };
         rows = λ t x cells a l o q k u. (kept-row L t x cells l o q k, tt);
         barriers = λ x q k. moves x _ _ k (to-next T (x .row) (ap isWhile q) (ap role q));
       }
@@ -215,7 +222,8 @@ pub loops-elsewhere : (T : Table) → WellFormed T → (n : ℕ) (cells : List �
 loops-elsewhere T w n cells ms r t i l a = ⊎-elim (λ e. e) (λ h. absurd (a h)) (elsewhere T _ i (kept-run T w n cells ms r t l))
 
 -- So two threads at one row have the same counts if they have the same at the loops around it.
-agree : (T : Table) (x y : Thread) → Kept T x → Kept T y → x .row ≡ y .row → ((i : ℕ) → Around T (x .row) i → getD (x .loops) i 0 ≡ getD (y .loops) i 0) → x .loops ≡ y .loops
+agree : (T : Table) (x y : Thread) → Kept T x → Kept T y → x .row ≡ y .row
+    → ((i : ℕ) → Around T (x .row) i → getD (x .loops) i 0 ≡ getD (y .loops) i 0) → x .loops ≡ y .loops
 agree T x y k h q f = ext-getD 0 (x .loops) (y .loops) (k .sized ∙ sym (h .sized)) (λ i l. by i (elsewhere T x i k) (elsewhere T y i h))
   where
     by : (i : ℕ) → (getD (x .loops) i 0 ≡ 0) ⊎ Around T (x .row) i → (getD (y .loops) i 0 ≡ 0) ⊎ Around T (y .row) i → getD (x .loops) i 0 ≡ getD (y .loops) i 0

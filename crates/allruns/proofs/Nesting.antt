@@ -8,7 +8,8 @@ use native.Mathlib.Omega.{arith}
 use lib.ListN.{length, drop}
 use lib.Seq.{drop-cons}
 use Rattle.spec.specs.Op.{Op, CALC, MEM, IF, ELSE, ENDIF, WHILE, ENDWHILE, BARRIER, UNKNOWN}
-use Rattle.spec.specs.Table.{Fits, Role, Row, Table, WellFormed, closing, dividing, elseOf, endOf, innermost, noRow, openBefore, openedBy, opening, pastElse, plain, role, rowAt, scan, scanRow}
+use Rattle.spec.specs.Table.{Fits, Role, Row, Table, WellFormed, closing, dividing, elseOf, endOf, innermost, noRow, openBefore, openedBy, opening}
+use Rattle.spec.specs.Table.{pastElse, plain, role, rowAt, scan, scanRow}
 
 unfoldable pub isWhile : Op → Bool
 isWhile (CALC c) = false
@@ -100,7 +101,8 @@ tail-opened T r k (o ∷ os) a = a .1
 
 module _ (T : Table) (r : ℕ) (l : r < length T) where
   -- the row itself, newly open
-  fresh : (os : List ℕ) → (role (rowAt T r .op) ≡ opening) ⊎ (role (rowAt T r .op) ≡ dividing) → outer (role (rowAt T r .op)) (openBefore T r) ≡ os → Opened T (suc r) 0 r os
+  fresh : (os : List ℕ) → (role (rowAt T r .op) ≡ opening) ⊎ (role (rowAt T r .op) ≡ dividing) → outer (role (rowAt T r .op)) (openBefore T r) ≡ os
+      → Opened T (suc r) 0 r os
   unfolding endOf
   fresh os o q = record { above = omega arith; inside = l; opens = o; ending = refl; parts = λ e. refl; around = q }
 
@@ -137,12 +139,16 @@ module _ (T : Table) (r : ℕ) (l : r < length T) where
   over f q k m os h a = opened-on T r (level f) (level-up f) (level-step f q) k m os h a
 
   -- what is open before the next row
-  grown : (f : Role) → role (rowAt T r .op) ≡ f → Fits (rowAt T r .op) (innermost T (openBefore T r)) → AllOpened T r 0 (openBefore T r) → AllOpened T (suc r) 0 (openedBy f r (openBefore T r))
+  grown : (f : Role) → role (rowAt T r .op) ≡ f → Fits (rowAt T r .op) (innermost T (openBefore T r)) → AllOpened T r 0 (openBefore T r)
+      → AllOpened T (suc r) 0 (openedBy f r (openBefore T r))
   unfolding level openedBy outer
   grown plain q w a = over plain q 0 0 (openBefore T r) refl a
   grown opening q w a = (fresh (openBefore T r) (inl q) (ap (λ f. outer f (openBefore T r)) q), over opening q 0 1 (openBefore T r) refl a)
-  grown dividing q w a =
-      (fresh (tail (openBefore T r)) (inr q) (ap (λ f. outer f (openBefore T r)) q), over dividing q 1 1 (tail (openBefore T r)) (refl, omega arith) (tail-opened T r 0 (openBefore T r) a))
+  grown dividing q w a = (
+    fresh (tail (openBefore T r)) (inr q) (ap (λ f. outer f (openBefore T r)) q),
+    over dividing q 1 1 (tail (openBefore T r)) (refl, omega arith)
+        (tail-opened T r 0 (openBefore T r) a),
+  )
   grown closing q w a = over closing q 1 0 (tail (openBefore T r)) refl (tail-opened T r 0 (openBefore T r) a)
 
 pub all-opened : (T : Table) → WellFormed T → (r : ℕ) → r ≤ length T → AllOpened T r 0 (openBefore T r)
@@ -160,8 +166,8 @@ unfolding scanRow
 end-here T w r o os l q c =
     innermost-at T w r o os (omega arith) q .ending ∙ scan-step T false r 0 l ∙ ap (λ f. scanRow f false 0 r (λ j. scan false (drop (suc r) T) j (suc r))) c
 
-half-here : (T : Table) → WellFormed T → (r o : ℕ) (os : List ℕ) → r < length T → openBefore T r ≡ o ∷ os → (role (rowAt T r .op) ≡ closing) ⊎ (role (rowAt T r .op) ≡ dividing)
-    → rowAt T o .op ≡ IF → scan true (drop (suc o) T) 0 (suc o) ≡ r
+half-here : (T : Table) → WellFormed T → (r o : ℕ) (os : List ℕ) → r < length T → openBefore T r ≡ o ∷ os
+    → (role (rowAt T r .op) ≡ closing) ⊎ (role (rowAt T r .op) ≡ dividing) → rowAt T o .op ≡ IF → scan true (drop (suc o) T) 0 (suc o) ≡ r
 unfolding scanRow
 half-here T w r o os l q c i =
     innermost-at T w r o os (omega arith) q .parts i ∙ scan-step T true r 0 l
@@ -171,11 +177,13 @@ half-here T w r o os l q c i =
     c
 
 -- Where a false IF goes: past its ELSE, or to its ENDIF.
-pub else-of-else : (T : Table) → WellFormed T → (r o : ℕ) (os : List ℕ) → r < length T → openBefore T r ≡ o ∷ os → rowAt T r .op ≡ ELSE → rowAt T o .op ≡ IF → elseOf T o ≡ suc r
+pub else-of-else : (T : Table) → WellFormed T → (r o : ℕ) (os : List ℕ) → r < length T → openBefore T r ≡ o ∷ os → rowAt T r .op ≡ ELSE
+    → rowAt T o .op ≡ IF → elseOf T o ≡ suc r
 unfolding elseOf pastElse role
 else-of-else T w r o os l q c i = ap (λ h. pastElse (rowAt T h .op) h) (half-here T w r o os l q (inr (ap role c)) i) ∙ ap (λ p. pastElse p r) c
 
-pub else-of-endif : (T : Table) → WellFormed T → (r o : ℕ) (os : List ℕ) → r < length T → openBefore T r ≡ o ∷ os → rowAt T r .op ≡ ENDIF → rowAt T o .op ≡ IF → elseOf T o ≡ r
+pub else-of-endif : (T : Table) → WellFormed T → (r o : ℕ) (os : List ℕ) → r < length T → openBefore T r ≡ o ∷ os → rowAt T r .op ≡ ENDIF
+    → rowAt T o .op ≡ IF → elseOf T o ≡ r
 unfolding elseOf pastElse role
 else-of-endif T w r o os l q c i = ap (λ h. pastElse (rowAt T h .op) h) (half-here T w r o os l q (inl (ap role c)) i) ∙ ap (λ p. pastElse p r) c
 
@@ -192,7 +200,9 @@ leave T w zero r ks o os f q = absurd (none ks (sym (w .closed) ∙ ap (openBefo
     none : (ks : List ℕ) → [] ≡ ks ++ (o ∷ os) → ⊥
     none [] p = cons≢nil (sym p)
     none (k ∷ ks) p = cons≢nil (sym p)
-leave T w (suc m) r ks o os f q = subst (λ e. Left T e os) (sym (scan-step T false r (length ks) l)) (by (role (rowAt T r .op)) ks q refl (λ ks o z. leave T w m (suc r) ks o os (omega arith) z))
+leave T w (suc m) r ks o os f q =
+    subst (λ e. Left T e os) (sym (scan-step T false r (length ks) l))
+    (by (role (rowAt T r .op)) ks q refl (λ ks o z. leave T w m (suc r) ks o os (omega arith) z))
   where
     l : r < length T
     l = omega arith

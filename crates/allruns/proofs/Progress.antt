@@ -12,8 +12,10 @@ use lib.Seq.{getD-set-other, getD-set-same}
 use Rattle.spec.specs.Access.{Kind}
 use Rattle.spec.specs.Op.{BARRIER, CALC, ELSE, ENDIF, ENDWHILE, IF, MEM, Op, UNKNOWN, WHILE}
 use Rattle.spec.specs.Shape.{Shape, address, bound}
-use Rattle.spec.specs.Table.{Fits, Table, WellFormed, cellByte, closing, elseOf, endOf, innermost, kindOf, noRow, openBefore, opening, pastElse, role, rowAt, scan, startOf}
-use Rattle.spec.specs.Threads.{Effect, Thread, accesses, effect, effectOf, goto, isOutside, isWaiting, onIf, onWhile, put, reach, reg, strays, threadAfter, waits}
+use Rattle.spec.specs.Table.{Fits, Table, WellFormed, cellByte, closing, elseOf, endOf, innermost, kindOf, noRow, openBefore, opening, pastElse, role}
+use Rattle.spec.specs.Table.{rowAt, scan, startOf}
+use Rattle.spec.specs.Threads.{Effect, Thread, accesses, effect, effectOf, goto, isOutside, isWaiting, onIf, onWhile, put, reach, reg, strays}
+use Rattle.spec.specs.Threads.{threadAfter, waits}
 use Rattle.allruns.proofs.Nesting.{isWhile, scan-ge, innermost-at, end-here, end-nested}
 
 unfoldable pub isLoop : Table → ℕ → Bool
@@ -168,13 +170,15 @@ while-true T x y w f l r q =
         let a = mark-loop T (x .row) x w in
             let b = mark-loop T (x .row) y w in
             let c : _≡_ {A = ℕ} (cond (eqb (x .row) (x .row)) 1 0) 1 = rw (eq-eqb (x .row) (x .row) refl) in
-            let d : getD (y .loops) (x .row) 0 ≡ suc (getD (x .loops) (x .row) 0) = ap (λ z. getD z (x .row) 0) q ∙ getD-set-same (x .loops) (x .row) _ 0 (omega arith) in
+            let d : getD (y .loops) (x .row) 0 ≡ suc (getD (x .loops) (x .row) 0) = ap (λ z. getD z (x .row) 0) q
+            ∙ getD-set-same (x .loops) (x .row) _ 0 (omega arith) in
             omega arith,
       );
     }
 
 -- A WHILE found false: its loop is past.
-while-false : (T : Table) (x y : Thread) → isLoop T (x .row) ≡ true → y .row ≡ suc (endOf T (x .row)) → x .row < endOf T (x .row) → y .loops ≡ set (x .loops) (x .row) 0 → Later T x y
+while-false : (T : Table) (x y : Thread) → isLoop T (x .row) ≡ true → y .row ≡ suc (endOf T (x .row)) → x .row < endOf T (x .row)
+    → y .loops ≡ set (x .loops) (x .row) 0 → Later T x y
 while-false T x y w r g q =
     record {
       at = x .row;
@@ -191,8 +195,8 @@ while-false T x y w r g q =
     }
 
 -- An ENDWHILE: back at its WHILE, which is one more than within the round.
-while-again : (T : Table) (x y : Thread) → isLoop T (y .row) ≡ true → role (rowAt T (y .row) .op) ≡ opening → y .row < x .row → x .row < length T → endOf T (y .row) ≡ x .row
-    → y .loops ≡ x .loops → isLoop T (x .row) ≡ false → Later T x y
+while-again : (T : Table) (x y : Thread) → isLoop T (y .row) ≡ true → role (rowAt T (y .row) .op) ≡ opening → y .row < x .row → x .row < length T
+    → endOf T (y .row) ≡ x .row → y .loops ≡ x .loops → isLoop T (x .row) ≡ false → Later T x y
 while-again T x y w o l k e q n =
     record {
       at = y .row;
@@ -244,7 +248,13 @@ pastElse-ge UNKNOWN h = omega arith
 
 pub else-of-gt : (T : Table) (r : ℕ) → r < elseOf T r
 unfolding elseOf
-else-of-gt T r = omega (arith, scan-ge true (drop (suc r) T) 0 (suc r), pastElse-ge (rowAt T (scan true (drop (suc r) T) 0 (suc r)) .op) (scan true (drop (suc r) T) 0 (suc r)))
+else-of-gt T r =
+    omega (
+      arith,
+      scan-ge true (drop (suc r) T) 0 (suc r),
+      pastElse-ge (rowAt T (scan true (drop (suc r) T) 0 (suc r)) .op)
+          (scan true (drop (suc r) T) 0 (suc r)),
+    )
 
 pub end-gt : (T : Table) (r : ℕ) → r < endOf T r
 unfolding endOf
@@ -277,8 +287,9 @@ back T w r l q = by (openBefore T r) refl (subst (λ o. Fits o (innermost T (ope
         closes q = unfold role in (ap role q)
 
 -- Each thread's move takes it forward.
-pub forward : (T : Table) → WellFormed T → (n : Shape) (t : ℕ) (x : Thread) (cells : List ℕ) → length (x .loops) ≡ length T → x .row < length T → (o : Op) → rowAt T (x .row) .op ≡ o
-    → isWaiting (effectOf T n t x (rowAt T (x .row)) o) ≡ false → isOutside (effectOf T n t x (rowAt T (x .row)) o) ≡ false → Later T x (threadAfter x cells (effectOf T n t x (rowAt T (x .row)) o))
+pub forward : (T : Table) → WellFormed T → (n : Shape) (t : ℕ) (x : Thread) (cells : List ℕ) → length (x .loops) ≡ length T → x .row < length T
+    → (o : Op) → rowAt T (x .row) .op ≡ o → isWaiting (effectOf T n t x (rowAt T (x .row)) o) ≡ false
+    → isOutside (effectOf T n t x (rowAt T (x .row)) o) ≡ false → Later T x (threadAfter x cells (effectOf T n t x (rowAt T (x .row)) o))
 unfolding effectOf reach isOutside threadAfter isWaiting put goto isLoop isWhile onIf onWhile
 forward T w n t x cells f l (CALC c) q i u = on-later T x _ (omega arith) refl (ap isWhile q)
 forward T w n t x cells f l (MEM m) q i u = by (ltb c (bound n m)) u
@@ -289,7 +300,8 @@ forward T w n t x cells f l (MEM m) q i u = by (ltb c (bound n m)) u
     k : Kind
     k = kindOf m (reg x (rowAt T (x .row) .a))
 
-    by : (z : Bool) → isOutside (cond z (accesses (address n m c) k (rowAt T (x .row) .d)) strays) ≡ false → Later T x (threadAfter x cells (cond z (accesses (address n m c) k (rowAt T (x .row) .d)) strays))
+    by : (z : Bool) → isOutside (cond z (accesses (address n m c) k (rowAt T (x .row) .d)) strays) ≡ false
+        → Later T x (threadAfter x cells (cond z (accesses (address n m c) k (rowAt T (x .row) .d)) strays))
     by true u = on-later T x _ (omega arith) refl (ap isWhile q)
     by false u = absurd (true≢false u)
 forward T w n t x cells f l IF q i u = by (reg x (rowAt T (x .row) .a))
@@ -310,12 +322,16 @@ forward T w n t x cells f l ENDWHILE q i u =
 forward T w n t x cells f l BARRIER q i u = absurd (true≢false i)
 forward T w n t x cells f l UNKNOWN q i u = absurd (true≢false i)
 
-pub sized : (T : Table) (n : Shape) (t : ℕ) (x : Thread) (cells : List ℕ) (o : Op) → length (threadAfter x cells (effectOf T n t x (rowAt T (x .row)) o) .loops) ≡ length (x .loops)
+pub sized : (T : Table) (n : Shape) (t : ℕ) (x : Thread) (cells : List ℕ) (o : Op)
+    → length (threadAfter x cells (effectOf T n t x (rowAt T (x .row)) o) .loops) ≡ length (x .loops)
 unfolding effectOf threadAfter put goto
 sized T n t x cells (CALC c) = refl
 sized T n t x cells (MEM m) = unfold reach in (by (ltb (reg x (cellByte m (rowAt T (x .row)))) (bound n m)))
   where
-    by : (z : Bool) → length (threadAfter x cells (cond z (accesses (address n m (reg x (cellByte m (rowAt T (x .row))))) (kindOf m (reg x (rowAt T (x .row) .a))) (rowAt T (x .row) .d)) strays) .loops) ≡ length (x .loops)
+    by : (z : Bool)
+        → length (threadAfter x cells
+        (cond z (accesses (address n m (reg x (cellByte m (rowAt T (x .row))))) (kindOf m (reg x (rowAt T (x .row) .a))) (rowAt T (x .row) .d))
+        strays) .loops) ≡ length (x .loops)
     by true = unfold threadAfter in refl
     by false = unfold threadAfter in refl
 sized T n t x cells IF = by (reg x (rowAt T (x .row) .a))
@@ -335,7 +351,8 @@ sized T n t x cells BARRIER = refl
 sized T n t x cells UNKNOWN = refl
 
 -- What a thread's act does to its position.
-pub act-forward : (T : Table) → WellFormed T → (n : Shape) (t : ℕ) (x : Thread) (cells : List ℕ) → length (x .loops) ≡ length T → isWaiting (effect T n t x) ≡ false → isOutside (effect T n t x) ≡ false
+pub act-forward : (T : Table) → WellFormed T → (n : Shape) (t : ℕ) (x : Thread) (cells : List ℕ) → length (x .loops) ≡ length T
+    → isWaiting (effect T n t x) ≡ false → isOutside (effect T n t x) ≡ false
     → Later T x (threadAfter x cells (effect T n t x)) × (length (threadAfter x cells (effect T n t x) .loops) ≡ length T)
 unfolding effect
 act-forward T w n t x cells f = by (ltb (x .row) (length T)) refl

@@ -11,7 +11,9 @@ use lib.ListN.{length, getD, set, replicate, length-set, length-replicate}
 use lib.Seq.{getD-set-other, getD-set-same, set-set, set-getD}
 use Rattle.spec.specs.Access.{Kind}
 use Rattle.spec.specs.AllRuns.{isRelease}
-use Rattle.spec.specs.LockStep.{ifRow, elseRow, endifRow, whileRow, endwhileRow, LockState, Saved, Step, accessTurn, advance, andThen, computeTurn, continues, countSteps, countedAt, forEnabled, inTurn, leaveOrStay, madeAccess, pop, reg, savedAtWhile, setReg, stops, topMask, topOpener, tryAccess}
+use Rattle.spec.specs.LockStep.{ifRow, elseRow, endifRow, whileRow, endwhileRow, LockState, Saved, Step, accessTurn, advance, andThen, computeTurn}
+use Rattle.spec.specs.LockStep.{continues, countSteps, countedAt, forEnabled, inTurn, leaveOrStay, madeAccess, pop, reg, savedAtWhile, setReg, stops}
+use Rattle.spec.specs.LockStep.{topMask, topOpener, tryAccess}
 use Rattle.spec.specs.Log.{conflictMask, raceKind}
 use Rattle.spec.specs.Mask.{Mask, any, has, holding, lowest, members, membersFrom, minus, nonzero}
 use Rattle.spec.specs.Op.{ELSE, ENDIF, ENDWHILE, IF, Mem, Op, WHILE}
@@ -82,7 +84,8 @@ abbrev pub RowDone : Table → Shape → LockState → Group → Step → Type 0
 RowDone T L s g (continues z) = Advanced T L s g z
 RowDone T L s g (stops v z) = Failed T L g v
 
-pub match-at : (T : Table) (L : Shape) (P Q : ℕ → Pos) (s : LockState) (g : Group) → ((t : ℕ) → t < (L .threads) → P t ≡ Q t) → Match T L P s g → Match T L Q s g
+pub match-at : (T : Table) (L : Shape) (P Q : ℕ → Pos) (s : LockState) (g : Group) → ((t : ℕ) → t < (L .threads) → P t ≡ Q t) → Match T L P s g
+    → Match T L Q s g
 match-at T L P Q s g e h =
     record {
       good = h .good;
@@ -94,7 +97,8 @@ match-at T L P Q s g e h =
       logs = h .logs;
     }
 
-pub match-onward : (T : Table) (L : Shape) (r : ℕ) (m : Mask) (v : List Saved) (P : ℕ → Pos) (s : LockState) (g : Group) → Match T L P s g → Match T L P (advance r m v s) g
+pub match-onward : (T : Table) (L : Shape) (r : ℕ) (m : Mask) (v : List Saved) (P : ℕ → Pos) (s : LockState) (g : Group) → Match T L P s g
+    → Match T L P (advance r m v s) g
 unfolding advance
 match-onward T L r m v P s g h =
     record {
@@ -159,7 +163,8 @@ control T L s g m P new here q on fs h len at acts to nest size sized framed wit
       frames = fs;
       run = ran .0;
       sim = record {
-        match = match-onward T L q on (savedOf fs) _ (countSteps m s) _ (match-stepped T L m _ s _ (match-at T L _ _ s _ (λ t l. allMoved m new P t ∙ to t l) (ran .1)));
+        match = match-onward T L q on (savedOf fs) _ (countSteps m s) _
+            (match-stepped T L m _ s _ (match-at T L _ _ s _ (λ t l. allMoved m new P t ∙ to t l) (ran .1)));
         saving = refl;
         nested = nest;
         onSize = size;
@@ -270,12 +275,14 @@ module _ (T : Table) (w : WellFormed T) (L : Shape) (s : LockState) (fs : List F
   pub if-row : rowAt T (s .row) .op ≡ IF → Advanced T L s g (ifRow x s)
   unfolding ifRow
   if-row q =
-      subst (λ v. Advanced T L s g (advance (suc (s .row)) (holding (x .a) (s .enabled) (s .regs)) (record { opener = s .row; mask = s .enabled } ∷ v) (countSteps (s .enabled) s))) (sym (S .saving))
+      subst (λ v. Advanced T L s g (advance (suc (s .row)) (holding (x .a) (s .enabled) (s .regs)) (record { opener = s .row; mask = s .enabled } ∷ v)
+      (countSteps (s .enabled) s))) (sym (S .saving))
       (control T L s g (s .enabled) (place T (s .row) (s .enabled) fs) (λ t. new (val t)) here (suc (s .row)) (holding (x .a) (s .enabled) (s .regs)) (f ∷ fs)
       (S .match) (S .onSize) (λ t h. place-in T (s .row) (s .enabled) fs t h) acts to
       ((λ t h. and-left _ _ (sym (holding-has (x .a) (s .enabled) (s .regs) t) ∙ h)), S .nested)
       (holding-size (x .a) (s .enabled) (s .regs) ∙ S .onSize) (S .onSize, S .sized)
-      (fresh (ap (λ os. s .row ∷ os) (framed-fresh T (s .row) fs (loop-if _ q) (S .framed)) ∙ (unfold openBefore in (sym (ap (λ o. openedBy (role o) (s .row) (openBefore T (s .row))) q ∙ (unfold role openedBy in refl))))))
+      (fresh (ap (λ os. s .row ∷ os) (framed-fresh T (s .row) fs (loop-if _ q) (S .framed))
+      ∙ (unfold openBefore in (sym (ap (λ o. openedBy (role o) (s .row) (openBefore T (s .row))) q ∙ (unfold role openedBy in refl))))))
       (omega arith) (unfold countedAt in (ap (λ o. countedAt o s) q)))
     where
       f : Frame
@@ -295,11 +302,14 @@ module _ (T : Table) (w : WellFormed T) (L : Shape) (s : LockState) (fs : List F
           by zero = unfold own.onIf own.goto in refl
           by (suc v) = unfold own.onIf own.goto in refl
 
-      to : (t : ℕ) → t < (L .threads) → cond (has (s .enabled) t) (new (val t)) (place T (s .row) (s .enabled) fs t) ≡ place T (suc (s .row)) (holding (x .a) (s .enabled) (s .regs)) (f ∷ fs) t
+      to : (t : ℕ) → t < (L .threads)
+          → cond (has (s .enabled) t) (new (val t)) (place T (s .row) (s .enabled) fs t)
+          ≡ place T (suc (s .row)) (holding (x .a) (s .enabled) (s .regs)) (f ∷ fs) t
       to t k =
           by (has (s .enabled) t) refl (val t)
           ∙ sym (place-cons T (suc (s .row)) (holding (x .a) (s .enabled) (s .regs)) f fs t
-          ∙ ap (λ z. cond z (record { row = suc (s .row); loops = loopsOf T (f ∷ fs) }) (place T (exit T (s .row)) (s .enabled) fs t)) (holding-has (x .a) (s .enabled) (s .regs) t))
+          ∙ ap (λ z. cond z (record { row = suc (s .row); loops = loopsOf T (f ∷ fs) }) (place T (exit T (s .row)) (s .enabled) fs t))
+          (holding-has (x .a) (s .enabled) (s .regs) t))
         where
           by : (b : Bool) → has (s .enabled) t ≡ b → (v : ℕ) → cond b (new v) (place T (s .row) (s .enabled) fs t)
               ≡ cond (b && nonzero v) (record { row = suc (s .row); loops = loopsOf T (f ∷ fs) }) (place T (exit T (s .row)) (s .enabled) fs t)
@@ -337,14 +347,20 @@ module _ (T : Table) (w : WellFormed T) (L : Shape) (s : LockState) (f : Frame) 
       (λ t k. to t k (has (f .mask) t) refl)
       (S .nested .1) (S .sized .0) (S .sized .1) (fresh later) (omega arith) (unfold countedAt in (ap (λ o. countedAt o s) q))))
     where
-      stand : (t : ℕ) → has (f .mask) t ≡ true → (b : Bool) → has (s .enabled) t ≡ b → place T (s .row) (s .enabled) (f ∷ fs) t ≡ record { row = s .row; loops = loopsOf T fs }
+      stand : (t : ℕ) → has (f .mask) t ≡ true → (b : Bool) → has (s .enabled) t ≡ b
+          → place T (s .row) (s .enabled) (f ∷ fs) t ≡ record { row = s .row; loops = loopsOf T fs }
       stand t h true b = place-in T (s .row) (s .enabled) (f ∷ fs) t b ∙ ap (λ e. record { row = s .row; loops = e }) loops-same
-      stand t h false b = place-out T (s .row) (s .enabled) f fs t b ∙ place-in T (exit T (f .opener)) (f .mask) fs t h ∙ ap (λ e. record { row = e; loops = loopsOf T fs }) exit-here
+      stand t h false b =
+          place-out T (s .row) (s .enabled) f fs t b ∙ place-in T (exit T (f .opener)) (f .mask) fs t h
+          ∙ ap (λ e. record { row = e; loops = loopsOf T fs }) exit-here
 
-      to : (t : ℕ) → t < (L .threads) → (b : Bool) → has (f .mask) t ≡ b → cond (has (f .mask) t) (record { row = suc (s .row); loops = loopsOf T fs }) (place T (s .row) (s .enabled) (f ∷ fs) t) ≡ place T (suc (s .row)) (f .mask) fs t
+      to : (t : ℕ) → t < (L .threads) → (b : Bool) → has (f .mask) t ≡ b
+          → cond (has (f .mask) t) (record { row = suc (s .row); loops = loopsOf T fs }) (place T (s .row) (s .enabled) (f ∷ fs) t)
+          ≡ place T (suc (s .row)) (f .mask) fs t
       to t k true b = rw b (sym (place-in T (suc (s .row)) (f .mask) fs t b))
       to t k false b =
-          rw b (place-out T (s .row) (s .enabled) f fs t (off (has (s .enabled) t) refl) ∙ place-any T (L .threads) (exit T (f .opener)) (suc (s .row)) (f .mask) fs t (S .nested .1) k b)
+          rw b (place-out T (s .row) (s .enabled) f fs t (off (has (s .enabled) t) refl) ∙ place-any T (L .threads) (exit T (f .opener))
+          (suc (s .row)) (f .mask) fs t (S .nested .1) k b)
         where
           off : (c : Bool) → has (s .enabled) t ≡ c → has (s .enabled) t ≡ false
           off true c = absurd (true≢false (sym (S .nested .0 t c) ∙ b))
@@ -363,7 +379,9 @@ module _ (T : Table) (w : WellFormed T) (L : Shape) (s : LockState) (f : Frame) 
   pub else-row : Advanced T L s g (elseRow s)
   unfolding elseRow
   else-row =
-      subst (λ v. Advanced T L s g (advance (suc (s .row)) (minus (topMask v) (s .enabled)) (record { opener = s .row; mask = topMask v } ∷ pop v) (countSteps (s .enabled) s))) (sym (S .saving))
+      subst (λ v. Advanced T L s g
+      (advance (suc (s .row)) (minus (topMask v) (s .enabled)) (record { opener = s .row; mask = topMask v } ∷ pop v) (countSteps (s .enabled) s)))
+      (sym (S .saving))
       (unfold topMask pop in (control T L s g (s .enabled) (place T (s .row) (s .enabled) (f ∷ fs)) (λ t. new)
       (record { row = s .row; loops = loopsOf T (f ∷ fs) }) (suc (s .row)) (minus (f .mask) (s .enabled)) (e ∷ fs)
       (S .match) (S .onSize) (λ t h. place-in T (s .row) (s .enabled) (f ∷ fs) t h)
@@ -378,21 +396,26 @@ module _ (T : Table) (w : WellFormed T) (L : Shape) (s : LockState) (f : Frame) 
       new : Pos
       new = record { row = endOf T (s .row); loops = loopsOf T (f ∷ fs) }
 
-      to : (t : ℕ) → t < (L .threads) → cond (has (s .enabled) t) new (place T (s .row) (s .enabled) (f ∷ fs) t) ≡ place T (suc (s .row)) (minus (f .mask) (s .enabled)) (e ∷ fs) t
+      to : (t : ℕ) → t < (L .threads)
+          → cond (has (s .enabled) t) new (place T (s .row) (s .enabled) (f ∷ fs) t) ≡ place T (suc (s .row)) (minus (f .mask) (s .enabled)) (e ∷ fs) t
       to t k =
           by (has (s .enabled) t) refl (has (f .mask) t) refl
           ∙ sym (place-cons T (suc (s .row)) (minus (f .mask) (s .enabled)) e fs t
-          ∙ ap (λ z. cond z (record { row = suc (s .row); loops = loopsOf T (e ∷ fs) }) (place T (exit T (s .row)) (f .mask) fs t)) (minus-has (f .mask) (s .enabled) t))
+          ∙ ap (λ z. cond z (record { row = suc (s .row); loops = loopsOf T (e ∷ fs) }) (place T (exit T (s .row)) (f .mask) fs t))
+          (minus-has (f .mask) (s .enabled) t))
         where
           by : (b : Bool) → has (s .enabled) t ≡ b → (c : Bool) → has (f .mask) t ≡ c → cond b new (place T (s .row) (s .enabled) (f ∷ fs) t)
               ≡ cond (c && not b) (record { row = suc (s .row); loops = loopsOf T (e ∷ fs) }) (place T (exit T (s .row)) (f .mask) fs t)
           by true b true c =
-              sym (place-in T (exit T (s .row)) (f .mask) fs t c ∙ ap₂ (λ a z. record { row = a; loops = z }) (exit-else T (s .row) q) (sym (loops-plain T f fs (loop-if _ is-if))))
+              sym (place-in T (exit T (s .row)) (f .mask) fs t c ∙ ap₂ (λ a z. record { row = a; loops = z }) (exit-else T (s .row) q)
+              (sym (loops-plain T f fs (loop-if _ is-if))))
           by true b false c = absurd (true≢false (sym (S .nested .0 t b) ∙ c))
           by false b true c =
               place-out T (s .row) (s .enabled) f fs t b ∙ place-in T (exit T (f .opener)) (f .mask) fs t c
-              ∙ ap₂ (λ a z. record { row = a; loops = z }) (exit-if T (f .opener) is-if ∙ else-of-else T w (s .row) (f .opener) (openersOf fs) l o q is-if) (sym (loops-plain T e fs (loop-else _ q)))
-          by false b false c = place-out T (s .row) (s .enabled) f fs t b ∙ place-any T (L .threads) (exit T (f .opener)) (exit T (s .row)) (f .mask) fs t (S .nested .1) k c
+              ∙ ap₂ (λ a z. record { row = a; loops = z })
+              (exit-if T (f .opener) is-if ∙ else-of-else T w (s .row) (f .opener) (openersOf fs) l o q is-if) (sym (loops-plain T e fs (loop-else _ q)))
+          by false b false c =
+              place-out T (s .row) (s .enabled) f fs t b ∙ place-any T (L .threads) (exit T (f .opener)) (exit T (s .row)) (f .mask) fs t (S .nested .1) k c
 
       later : s .row ∷ openersOf fs ≡ openBefore T (suc (s .row))
       later = unfold openBefore in (sym (ap₂ (λ z os. openedBy (role z) (s .row) os) q o ∙ (unfold role openedBy in refl)))
@@ -428,10 +451,13 @@ module _ (T : Table) (w : WellFormed T) (L : Shape) (s : LockState) (f : Frame) 
       starts : startOf T (s .row) ≡ f .opener
       starts = unfold startOf in (ap (λ z. getD z 0 0) o)
 
-      acts : (t : ℕ) → effectOf T L t (body (record { row = s .row; loops = loopsOf T (f ∷ fs) }) (getD (s .regs) t [])) (rowAt T (s .row)) ENDWHILE ≡ own.goes (body new (getD (s .regs) t []))
+      acts : (t : ℕ)
+          → effectOf T L t (body (record { row = s .row; loops = loopsOf T (f ∷ fs) }) (getD (s .regs) t [])) (rowAt T (s .row)) ENDWHILE
+          ≡ own.goes (body new (getD (s .regs) t []))
       acts t = unfold effectOf own.goto in (ap (λ z. own.goes (record { row = z; regs = getD (s .regs) t []; loops = loopsOf T (f ∷ fs) })) starts)
 
-      to : (t : ℕ) → t < (L .threads) → (b : Bool) → has (s .enabled) t ≡ b → cond (has (s .enabled) t) new (place T (s .row) (s .enabled) (f ∷ fs) t) ≡ place T (f .opener) (s .enabled) (f ∷ fs) t
+      to : (t : ℕ) → t < (L .threads) → (b : Bool) → has (s .enabled) t ≡ b
+          → cond (has (s .enabled) t) new (place T (s .row) (s .enabled) (f ∷ fs) t) ≡ place T (f .opener) (s .enabled) (f ∷ fs) t
       to t k true b = rw b (sym (place-in T (f .opener) (s .enabled) (f ∷ fs) t b))
       to t k false b = rw b (place-any T (L .threads) (s .row) (f .opener) (s .enabled) (f ∷ fs) t (S .nested) k b)
 
@@ -504,24 +530,32 @@ module _ (T : Table) (w : WellFormed T) (L : Shape) (s : LockState) (k : Mask) (
   cellAfter : set (loopsOf T (wf c ∷ fs)) (s .row) 0 ≡ loopsOf T fs
   cellAfter =
       ap (λ z. set z (s .row) 0) (loops-while T (wf c) fs q) ∙ set-set (loopsOf T fs) (s .row) c 0
-      ∙ ap (set (loopsOf T fs) (s .row)) (sym (loops-zero T (s .row) fs (subst (NotIn (s .row)) (sym o) (not-in T (s .row) 0 (openBefore T (s .row)) (all-opened T w (s .row) (omega arith))))))
+      ∙ ap (set (loopsOf T fs) (s .row))
+      (sym (loops-zero T (s .row) fs (subst (NotIn (s .row)) (sym o) (not-in T (s .row) 0 (openBefore T (s .row)) (all-opened T w (s .row) (omega arith))))))
       ∙ set-getD (loopsOf T fs) (s .row) 0
 
-  wacts : (t : ℕ) → effect T L t (body (record { row = s .row; loops = loopsOf T (wf c ∷ fs) }) (getD (s .regs) t [])) ≡ own.goes (body (wnew (wval t)) (getD (s .regs) t []))
-  wacts t = act-is T L t (body (record { row = s .row; loops = loopsOf T (wf c ∷ fs) }) (getD (s .regs) t [])) WHILE l q ∙ (unfold effectOf own.reg in (by (wval t)))
+  wacts : (t : ℕ)
+      → effect T L t (body (record { row = s .row; loops = loopsOf T (wf c ∷ fs) }) (getD (s .regs) t []))
+      ≡ own.goes (body (wnew (wval t)) (getD (s .regs) t []))
+  wacts t =
+      act-is T L t (body (record { row = s .row; loops = loopsOf T (wf c ∷ fs) }) (getD (s .regs) t [])) WHILE l q ∙ (unfold effectOf own.reg in (by (wval t)))
     where
-      by : (v : ℕ) → own.goes (own.onWhile T (body (record { row = s .row; loops = loopsOf T (wf c ∷ fs) }) (getD (s .regs) t [])) v) ≡ own.goes (body (wnew v) (getD (s .regs) t []))
+      by : (v : ℕ)
+          → own.goes (own.onWhile T (body (record { row = s .row; loops = loopsOf T (wf c ∷ fs) }) (getD (s .regs) t [])) v)
+          ≡ own.goes (body (wnew v) (getD (s .regs) t []))
       by zero = unfold own.onWhile in (ap (λ z. own.goes (record { row = suc (endOf T (s .row)); regs = getD (s .regs) t []; loops = z })) cellAfter)
       by (suc v) = unfold own.onWhile in (ap (λ z. own.goes (record { row = suc (s .row); regs = getD (s .regs) t []; loops = z })) round)
 
-  module _ (h : Match T L (place T (s .row) (s .enabled) (wf c ∷ fs)) s g) (size : length (s .enabled) ≡ (L .threads)) (ksize : length k ≡ (L .threads)) (fsize : Sized (L .threads) fs)
+  module _ (h : Match T L (place T (s .row) (s .enabled) (wf c ∷ fs)) s g) (size : length (s .enabled) ≡ (L .threads))
+      (ksize : length k ≡ (L .threads)) (fsize : Sized (L .threads) fs)
       (sub : (t : ℕ) → has (s .enabled) t ≡ true → has k t ≡ true) (nest : Nested (L .threads) k fs) where
     abbrev won : Mask
     won = holding (rowAt T (s .row) .a) (s .enabled) (s .regs)
 
     while-stay : Advanced T L s g (advance (suc (s .row)) won (savedOf (wf (suc c) ∷ fs)) (countSteps (s .enabled) s))
     while-stay =
-        control T L s g (s .enabled) (place T (s .row) (s .enabled) (wf c ∷ fs)) (λ t. wnew (wval t)) (record { row = s .row; loops = loopsOf T (wf c ∷ fs) }) (suc (s .row)) won (wf (suc c) ∷ fs)
+        control T L s g (s .enabled) (place T (s .row) (s .enabled) (wf c ∷ fs)) (λ t. wnew (wval t))
+        (record { row = s .row; loops = loopsOf T (wf c ∷ fs) }) (suc (s .row)) won (wf (suc c) ∷ fs)
         h size (λ t b. place-in T (s .row) (s .enabled) (wf c ∷ fs) t b) (λ t b. wacts t) to
         ((λ t b. sub t (and-left _ _ (sym (holding-has (rowAt T (s .row) .a) (s .enabled) (s .regs) t) ∙ b))), nest)
         (holding-size (rowAt T (s .row) .a) (s .enabled) (s .regs) ∙ size) (ksize, fsize)
@@ -530,31 +564,38 @@ module _ (T : Table) (w : WellFormed T) (L : Shape) (s : LockState) (k : Mask) (
         later : s .row ∷ openersOf fs ≡ openBefore T (suc (s .row))
         later = unfold openBefore in (sym (ap₂ (λ z os. openedBy (role z) (s .row) os) q (sym o) ∙ (unfold role openedBy in refl)))
 
-        to : (t : ℕ) → t < (L .threads) → cond (has (s .enabled) t) (wnew (wval t)) (place T (s .row) (s .enabled) (wf c ∷ fs) t) ≡ place T (suc (s .row)) won (wf (suc c) ∷ fs) t
+        to : (t : ℕ) → t < (L .threads)
+            → cond (has (s .enabled) t) (wnew (wval t)) (place T (s .row) (s .enabled) (wf c ∷ fs) t) ≡ place T (suc (s .row)) won (wf (suc c) ∷ fs) t
         to t i =
             by (has (s .enabled) t) refl (wval t)
             ∙ sym (place-cons T (suc (s .row)) won (wf (suc c)) fs t
-            ∙ ap (λ z. cond z (record { row = suc (s .row); loops = loopsOf T (wf (suc c) ∷ fs) }) (place T (exit T (s .row)) k fs t)) (holding-has (rowAt T (s .row) .a) (s .enabled) (s .regs) t))
+            ∙ ap (λ z. cond z (record { row = suc (s .row); loops = loopsOf T (wf (suc c) ∷ fs) }) (place T (exit T (s .row)) k fs t))
+            (holding-has (rowAt T (s .row) .a) (s .enabled) (s .regs) t))
           where
             by : (b : Bool) → has (s .enabled) t ≡ b → (v : ℕ) → cond b (wnew v) (place T (s .row) (s .enabled) (wf c ∷ fs) t)
                 ≡ cond (b && nonzero v) (record { row = suc (s .row); loops = loopsOf T (wf (suc c) ∷ fs) }) (place T (exit T (s .row)) k fs t)
-            by true p zero = unfold nonzero in (sym (place-in T (exit T (s .row)) k fs t (sub t p) ∙ ap (λ e. record { row = e; loops = loopsOf T fs }) (exit-while T (s .row) q)))
+            by true p zero =
+                unfold nonzero in
+                (sym (place-in T (exit T (s .row)) k fs t (sub t p) ∙ ap (λ e. record { row = e; loops = loopsOf T fs }) (exit-while T (s .row) q)))
             by true p (suc v) = unfold nonzero in refl
             by false p v = place-out T (s .row) (s .enabled) (wf c) fs t p
 
     while-leave : any won ≡ false → Advanced T L s g (advance (suc (endOf T (s .row))) k (savedOf fs) (countSteps (s .enabled) s))
     while-leave none =
-        control T L s g (s .enabled) (place T (s .row) (s .enabled) (wf c ∷ fs)) (λ t. wnew (wval t)) (record { row = s .row; loops = loopsOf T (wf c ∷ fs) }) (suc (endOf T (s .row))) k fs
+        control T L s g (s .enabled) (place T (s .row) (s .enabled) (wf c ∷ fs)) (λ t. wnew (wval t))
+        (record { row = s .row; loops = loopsOf T (wf c ∷ fs) }) (suc (endOf T (s .row))) k fs
         h size (λ t b. place-in T (s .row) (s .enabled) (wf c ∷ fs) t b) (λ t b. wacts t) to nest ksize fsize
         (fresh (o ∙ sym (gone .leaves))) (gone .within) (unfold countedAt in (ap (λ o. countedAt o s) q))
       where
         gone : Left T (endOf T (s .row)) (openBefore T (s .row))
         gone = after-end T w (s .row) l (unfold role in (ap role q))
 
-        to : (t : ℕ) → t < (L .threads) → cond (has (s .enabled) t) (wnew (wval t)) (place T (s .row) (s .enabled) (wf c ∷ fs) t) ≡ place T (suc (endOf T (s .row))) k fs t
+        to : (t : ℕ) → t < (L .threads)
+            → cond (has (s .enabled) t) (wnew (wval t)) (place T (s .row) (s .enabled) (wf c ∷ fs) t) ≡ place T (suc (endOf T (s .row))) k fs t
         to t i = by (has (s .enabled) t) refl (wval t) (sym (holding-has (rowAt T (s .row) .a) (s .enabled) (s .regs) t) ∙ any-has won t none)
           where
-            by : (b : Bool) → has (s .enabled) t ≡ b → (v : ℕ) → (has (s .enabled) t && nonzero v) ≡ false → cond b (wnew v) (place T (s .row) (s .enabled) (wf c ∷ fs) t) ≡ place T (suc (endOf T (s .row))) k fs t
+            by : (b : Bool) → has (s .enabled) t ≡ b → (v : ℕ) → (has (s .enabled) t && nonzero v) ≡ false
+                → cond b (wnew v) (place T (s .row) (s .enabled) (wf c ∷ fs) t) ≡ place T (suc (endOf T (s .row))) k fs t
             by true p zero e = sym (place-in T (suc (endOf T (s .row))) k fs t (sub t p))
             by true p (suc v) e = absurd (unfold nonzero in (true≢false (sym (ap (λ z. z && true) p) ∙ e)))
             by false p v e = place-out T (s .row) (s .enabled) (wf c) fs t p ∙ ap (λ e. place T e k fs t) (exit-while T (s .row) q)
@@ -564,21 +605,25 @@ module _ (T : Table) (w : WellFormed T) (L : Shape) (s : LockState) (k : Mask) (
     while-core = by (any won) refl
       where
         by : (b : Bool) → any won ≡ b
-            → Advanced T L s g (cond b (advance (suc (s .row)) won (savedOf (wf c ∷ fs)) (countSteps (s .enabled) s)) (advance (suc (endOf T (s .row))) k (savedOf fs) (countSteps (s .enabled) s)))
+            → Advanced T L s g
+            (cond b (advance (suc (s .row)) won (savedOf (wf c ∷ fs)) (countSteps (s .enabled) s))
+            (advance (suc (endOf T (s .row))) k (savedOf fs) (countSteps (s .enabled) s)))
         by true e = while-stay
         by false e = while-leave e
 
-pub while-row : (T : Table) → WellFormed T → (L : Shape) (s : LockState) (fs : List Frame) (g : Group) → Sim T L s fs g → s .row < length T → rowAt T (s .row) .op ≡ WHILE
-    → Advanced T L s g (whileRow T (rowAt T (s .row)) s)
+pub while-row : (T : Table) → WellFormed T → (L : Shape) (s : LockState) (fs : List Frame) (g : Group) → Sim T L s fs g → s .row < length T
+    → rowAt T (s .row) .op ≡ WHILE → Advanced T L s g (whileRow T (rowAt T (s .row)) s)
 unfolding whileRow
 while-row T w L s fs g S l q = by fs S (S .framed)
   where
     m : Mask
     m = holding (rowAt T (s .row) .a) (s .enabled) (s .regs)
 
-    by : (fs : List Frame) → Sim T L s fs g → Framed T (s .row) fs → Advanced T L s g (leaveOrStay T (countSteps (s .enabled) s) (savedAtWhile (s .row) (s .enabled) (s .saved)) m)
+    by : (fs : List Frame) → Sim T L s fs g → Framed T (s .row) fs
+        → Advanced T L s g (leaveOrStay T (countSteps (s .enabled) s) (savedAtWhile (s .row) (s .enabled) (s .saved)) m)
     by fs S (fresh o) =
-        subst (λ v. Advanced T L s g (leaveOrStay T (countSteps (s .enabled) s) v m)) (sym (ap (savedAtWhile (s .row) (s .enabled)) (S .saving) ∙ pushed fs apart))
+        subst (λ v. Advanced T L s g (leaveOrStay T (countSteps (s .enabled) s) v m))
+        (sym (ap (savedAtWhile (s .row) (s .enabled)) (S .saving) ∙ pushed fs apart))
         (while-core T w L s (s .enabled) 0 fs g l q o
         (match-at T L (place T (s .row) (s .enabled) fs) (place T (s .row) (s .enabled) (f ∷ fs)) s g (λ t i. at t i (has (s .enabled) t) refl) (S .match))
         (S .onSize) (S .onSize) (S .sized) (λ t b. b) (S .nested))
@@ -593,10 +638,13 @@ while-row T w L s fs g S l q = by fs S (S .framed)
         same = sym (loops-while T f fs q ∙ ap (set (loopsOf T fs) (s .row)) (sym (loops-zero T (s .row) fs apart)) ∙ set-getD (loopsOf T fs) (s .row) 0)
 
         at : (t : ℕ) → t < (L .threads) → (b : Bool) → has (s .enabled) t ≡ b → place T (s .row) (s .enabled) fs t ≡ place T (s .row) (s .enabled) (f ∷ fs) t
-        at t i true b = place-in T (s .row) (s .enabled) fs t b ∙ ap (λ z. record { row = s .row; loops = z }) same ∙ sym (place-in T (s .row) (s .enabled) (f ∷ fs) t b)
-        at t i false b = place-any T (L .threads) (s .row) (exit T (s .row)) (s .enabled) fs t (S .nested) i b ∙ sym (place-out T (s .row) (s .enabled) f fs t b)
+        at t i true b =
+            place-in T (s .row) (s .enabled) fs t b ∙ ap (λ z. record { row = s .row; loops = z }) same ∙ sym (place-in T (s .row) (s .enabled) (f ∷ fs) t b)
+        at t i false b =
+            place-any T (L .threads) (s .row) (exit T (s .row)) (s .enabled) fs t (S .nested) i b ∙ sym (place-out T (s .row) (s .enabled) f fs t b)
 
-        pushed : (fs : List Frame) → NotIn (s .row) (openersOf fs) → savedAtWhile (s .row) (s .enabled) (savedOf fs) ≡ record { opener = s .row; mask = s .enabled } ∷ savedOf fs
+        pushed : (fs : List Frame) → NotIn (s .row) (openersOf fs)
+            → savedAtWhile (s .row) (s .enabled) (savedOf fs) ≡ record { opener = s .row; mask = s .enabled } ∷ savedOf fs
         pushed [] a = unfold savedAtWhile in refl
         pushed (h ∷ fs) a = unfold savedAtWhile in (rw (ne-eqb (h .opener) (s .row) (λ e. a .0 (sym e))))
     by (f ∷ fs) S (again p z o) =
@@ -649,12 +697,16 @@ unfolding accessTurn tryAccess
 keeps-touch L m x s t = by (leb (bound L m) (reg s t (cellByte m x))) (address L m (reg s t (cellByte m x))) (kindOf m (reg s t (x .a)))
   where
     made : (c : ℕ) (k : Kind) (e : Bool)
-        → Keeps 1 s (cond e (stops (Race t (lowest (conflictMask (s .log) c t k)) (raceKind (s .log) c (lowest (conflictMask (s .log) c t k)) k) c) s) (continues (madeAccess s t (x .d) c k)))
+        → Keeps 1 s (cond e (stops (Race t (lowest (conflictMask (s .log) c t k)) (raceKind (s .log) c (lowest (conflictMask (s .log) c t k)) k) c) s)
+        (continues (madeAccess s t (x .d) c k)))
     made c k true = tt
     made c k false = unfold madeAccess in (record { rowSame = refl; onSame = refl; savedSame = refl; stepsMore = omega arith; barriersSame = refl })
 
-    by : (a : Bool) (c : ℕ) (k : Kind) → Keeps 1 s (cond a (stops (Outside t (reg s t (cellByte m x))) s)
-        (cond (any (conflictMask (s .log) c t k)) (stops (Race t (lowest (conflictMask (s .log) c t k)) (raceKind (s .log) c (lowest (conflictMask (s .log) c t k)) k) c) s) (continues (madeAccess s t (x .d) c k))))
+    by : (a : Bool) (c : ℕ) (k : Kind)
+        → Keeps 1 s (cond a (stops (Outside t (reg s t (cellByte m x))) s)
+        (cond (any (conflictMask (s .log) c t k))
+        (stops (Race t (lowest (conflictMask (s .log) c t k)) (raceKind (s .log) c (lowest (conflictMask (s .log) c t k)) k) c) s)
+        (continues (madeAccess s t (x .d) c k))))
     by true c k = tt
     by false c k = made c k (any (conflictMask (s .log) c t k))
 
@@ -672,10 +724,14 @@ pub plain-row : (T : Table) (L : Shape) (s : LockState) (fs : List Frame) (g : G
 unfolding forEnabled andThen members
 plain-row T L s fs g S l f keep one later none =
     by (inTurn f (membersFrom 0 (s .enabled)) s) (keeps-all f keep (membersFrom 0 (s .enabled)) s)
-    (turn-all T L (λ u. record { row = suc (s .row); loops = loopsOf T fs }) (record { row = s .row; loops = loopsOf T fs }) f one 0 (s .enabled) (place T (s .row) (s .enabled) fs) s g
-    (let h = S .onSize in omega arith) (λ j h. ap (place T (s .row) (s .enabled) fs) (let z : 0 + j ≡ j = omega arith in z) ∙ place-in T (s .row) (s .enabled) fs j h) (S .match))
+    (turn-all T L (λ u. record { row = suc (s .row); loops = loopsOf T fs }) (record { row = s .row; loops = loopsOf T fs }) f one 0 (s .enabled)
+    (place T (s .row) (s .enabled) fs) s g
+    (let h = S .onSize in omega arith) (λ j h. ap (place T (s .row) (s .enabled) fs) (let z : 0 + j ≡ j = omega arith in z)
+    ∙ place-in T (s .row) (s .enabled) fs j h) (S .match))
   where
-    by : (o : Step) → Keeps (length (membersFrom 0 (s .enabled))) s o → Turned T L (λ u. record { row = suc (s .row); loops = loopsOf T fs }) (record { row = s .row; loops = loopsOf T fs }) 0 (s .enabled) (place T (s .row) (s .enabled) fs) g o
+    by : (o : Step) → Keeps (length (membersFrom 0 (s .enabled))) s o
+        → Turned T L (λ u. record { row = suc (s .row); loops = loopsOf T fs }) (record { row = s .row; loops = loopsOf T fs }) 0 (s .enabled)
+        (place T (s .row) (s .enabled) fs) g o
         → RowDone T L s g (andThen o (λ z. continues (advance (suc (z .row)) (z .enabled) (z .saved) z)))
     by (stops v z) k u = record { stopping = k; moves = u .0; run = u .1; fails = inl (u .2) }
     by (continues z) k u =
@@ -685,7 +741,8 @@ plain-row T L s fs g S l f keep one later none =
           frames = fs;
           run = u .0;
           sim = record {
-            match = match-onward T L (suc (s .row)) (s .enabled) (savedOf fs) _ z _ (match-at T L _ _ z _ (together T (L .threads) (s .row) (suc (s .row)) (s .enabled) fs (S .nested)) (u .1));
+            match = match-onward T L (suc (s .row)) (s .enabled) (savedOf fs) _ z _
+                (match-at T L _ _ z _ (together T (L .threads) (s .row) (suc (s .row)) (s .enabled) fs (S .nested)) (u .1));
             saving = refl;
             nested = S .nested;
             onSize = S .onSize;

@@ -59,11 +59,13 @@ unfolding place
 place-in T r on [] t h = refl
 place-in T r on (f ∷ fs) t h = rw h
 
-pub place-out : (T : Table) (r : ℕ) (on : Mask) (f : Frame) (fs : List Frame) (t : ℕ) → has on t ≡ false → place T r on (f ∷ fs) t ≡ place T (exit T (f .opener)) (f .mask) fs t
+pub place-out : (T : Table) (r : ℕ) (on : Mask) (f : Frame) (fs : List Frame) (t : ℕ) → has on t ≡ false
+    → place T r on (f ∷ fs) t ≡ place T (exit T (f .opener)) (f .mask) fs t
 unfolding place
 place-out T r on f fs t h = rw h
 
-pub place-any : (T : Table) (n r q : ℕ) (on : Mask) (fs : List Frame) (t : ℕ) → Nested n on fs → t < n → has on t ≡ false → place T r on fs t ≡ place T q on fs t
+pub place-any : (T : Table) (n r q : ℕ) (on : Mask) (fs : List Frame) (t : ℕ) → Nested n on fs → t < n → has on t ≡ false
+    → place T r on fs t ≡ place T q on fs t
 place-any T n r q on [] t k l h = absurd (true≢false (sym (k t l) ∙ h))
 place-any T n r q on (f ∷ fs) t k l h = place-out T r on f fs t h ∙ sym (place-out T q on f fs t h)
 

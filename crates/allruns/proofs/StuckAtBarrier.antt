@@ -32,7 +32,8 @@ some-fails p (x ∷ xs) d q = by (p x) refl q (some-fails p xs d)
     by false e q ih = (0, omega arith, e)
 
 -- In a well-formed table only a BARRIER waits.
-waits-at-barrier : (T : Table) (L : Shape) (t : ℕ) (x : Thread) (i o : Op) → Fits o i → isWaiting (effectOf T L t x (rowAt T (x .row)) o) ≡ true → isBarrier o ≡ true
+waits-at-barrier : (T : Table) (L : Shape) (t : ℕ) (x : Thread) (i o : Op) → Fits o i → isWaiting (effectOf T L t x (rowAt T (x .row)) o) ≡ true
+    → isBarrier o ≡ true
 unfolding effectOf isWaiting isBarrier
 waits-at-barrier T L t x i (CALC c) f q = q
 waits-at-barrier T L t x i (MEM m) f q = sym (reach-cases (λ e. isWaiting e ≡ false) L m _ _ _ refl refl) ∙ q
@@ -63,4 +64,6 @@ stuck-at-barrier T w L s k = (f .0, f .1, waits-at-barrier T L (f .0) x _ _ (w .
     l = leb-false _ _ (f .2)
 
     waiting : isWaiting (effectOf T L (f .0) x (rowAt T (x .row)) (rowAt T (x .row) .op)) ≡ true
-    waiting = rw (lt-ltb (x .row) (length T) l) at (not-false (isWaiting (effectAt T L s (f .0))) (is-false _ (λ e. k .halted (row (f .0)) (and-make good (and-make (lt-ltb _ _ (f .1)) e)))))
+    waiting =
+        rw (lt-ltb (x .row) (length T) l) at
+        (not-false (isWaiting (effectAt T L s (f .0))) (is-false _ (λ e. k .halted (row (f .0)) (and-make good (and-make (lt-ltb _ _ (f .1)) e)))))

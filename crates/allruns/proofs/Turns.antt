@@ -18,7 +18,8 @@ use Rattle.spec.specs.Op.{CALC, Calc, MEM, Mem, Op, value}
 use Rattle.spec.specs.Runs.{Run, after}
 use Rattle.spec.specs.Shape.{Shape, address, bound, total}
 use Rattle.spec.specs.Table.{Row, Table, cellByte, kindOf, rowAt}
-use Rattle.spec.specs.Threads.{Effect, Group, Move, Thread, accesses, accessesOf, cellsAfter, effect, effectAt, effectOf, endsBadly, isOutside, isWaiting, machine, next, noThread, performed, possible, races, reach, recorded, row, strays, threadAfter, threadCount}
+use Rattle.spec.specs.Threads.{Effect, Group, Move, Thread, accesses, accessesOf, cellsAfter, effect, effectAt, effectOf, endsBadly, isOutside}
+use Rattle.spec.specs.Threads.{isWaiting, machine, next, noThread, performed, possible, races, reach, recorded, row, strays, threadAfter, threadCount}
 use Rattle.spec.specs.declared.Verdict.the-variants.{Outside, Race}
 use Rattle.spec.specs.Threads as own
 use Rattle.allruns.proofs.LogRecord.{LogMatches, log-tested, log-entered}
@@ -34,11 +35,13 @@ module _ (T : Table) (L : Shape) (new : ℕ → Pos) (here : Pos) where
 
   -- What the part of the threads of m, from k on, comes to.
   abbrev pub Turned : ℕ → Mask → (ℕ → Pos) → Group → Step → Type 0
-  Turned k m P g (continues s) = Run (machine T L) g (map row (membersFrom k m)) × Match T L (movedAll k m new P) s (after (machine T L) g (map row (membersFrom k m)))
+  Turned k m P g (continues s) =
+      Run (machine T L) g (map row (membersFrom k m)) × Match T L (movedAll k m new P) s (after (machine T L) g (map row (membersFrom k m)))
   Turned k m P g (stops v s) = (ks : List Move) × Run (machine T L) g ks × (after (machine T L) g ks .bad ≡ true)
 
   turned-cons : (f : LockState → ℕ → Step) (k : ℕ) (m : Mask) (P : ℕ → Pos) (g : Group) (o : Step) → One k P g o
-      → ((s : LockState) → Match T L (moved P k (new k)) s (next T L g (row k)) → Turned (suc k) m (moved P k (new k)) (next T L g (row k)) (inTurn f (membersFrom (suc k) m) s))
+      → ((s : LockState) → Match T L (moved P k (new k)) s (next T L g (row k)) → Turned (suc k) m (moved P k (new k)) (next T L g (row k))
+      (inTurn f (membersFrom (suc k) m) s))
       → Turned k (true ∷ m) P g (andThen o (inTurn f (membersFrom (suc k) m)))
   unfolding andThen membersFrom movedAll
   turned-cons f k m P g (stops v s) h ih = (row k ∷ [], (h .0, tt), h .1)
@@ -53,9 +56,10 @@ module _ (T : Table) (L : Shape) (new : ℕ → Pos) (here : Pos) where
   turned-skip k m P g (continues s) u = u
   turned-skip k m P g (stops v s) u = u
 
-  pub turn-all : (f : LockState → ℕ → Step) → ((t : ℕ) (P : ℕ → Pos) (s : LockState) (g : Group) → t < (L .threads) → P t ≡ here → Match T L P s g → One t P g (f s t))
-      → (k : ℕ) (m : Mask) (P : ℕ → Pos) (s : LockState) (g : Group) → k + length m ≤ (L .threads) → ((j : ℕ) → has m j ≡ true → P (k + j) ≡ here) → Match T L P s g
-      → Turned k m P g (inTurn f (membersFrom k m) s)
+  pub turn-all : (f : LockState → ℕ → Step)
+      → ((t : ℕ) (P : ℕ → Pos) (s : LockState) (g : Group) → t < (L .threads) → P t ≡ here → Match T L P s g → One t P g (f s t))
+      → (k : ℕ) (m : Mask) (P : ℕ → Pos) (s : LockState) (g : Group) → k + length m ≤ (L .threads) → ((j : ℕ) → has m j ≡ true → P (k + j) ≡ here)
+      → Match T L P s g → Turned k m P g (inTurn f (membersFrom k m) s)
   unfolding inTurn membersFrom movedAll has
   turn-all f one k [] P s g l at h = (tt, h)
   turn-all f one k (false ∷ m) P s g l at h =
@@ -78,8 +82,9 @@ module _ (T : Table) (L : Shape) (t : ℕ) (P : ℕ → Pos) (s : LockState) (g 
   may x q i = and-make (ap not (h .good)) (and-make (lt-ltb t _ (rw (h .size) l)) (ap (λ a. not (isWaiting a)) q ∙ ap not i))
 
   -- the machine's own step, where it is not bad: thread t alone has changed
-  pub stepped-threads : (x : Effect) (p : Pos) (rs : List (List ℕ)) (r : List ℕ) → rs ≡ set (s .regs) t r → threadAfter (getD (g .threads) t noThread) (g .cells) x ≡ body p r
-      → (u : ℕ) → u < (L .threads) → getD (performed g t x .threads) u noThread ≡ body (moved P t p u) (getD rs u [])
+  pub stepped-threads : (x : Effect) (p : Pos) (rs : List (List ℕ)) (r : List ℕ) → rs ≡ set (s .regs) t r
+      → threadAfter (getD (g .threads) t noThread) (g .cells) x ≡ body p r → (u : ℕ) → u < (L .threads)
+      → getD (performed g t x .threads) u noThread ≡ body (moved P t p u) (getD rs u [])
   unfolding performed
   stepped-threads x p rs r q e u k = by (ℕ-discrete u t)
     where
@@ -94,9 +99,9 @@ module _ (T : Table) (L : Shape) (t : ℕ) (P : ℕ → Pos) (s : LockState) (g 
           ∙ ap₂ body (sym (moved-other P t u p d)) (sym (ap (λ y. getD y u []) q ∙ getD-set-other (s .regs) t u r [] d))
 
   -- where the machine stands after thread t's own act x, which is not bad
-  pub matched : (x : Effect) (p : Pos) (r : List ℕ) (s₁ : LockState) → threadAfter (getD (g .threads) t noThread) (g .cells) x ≡ body p r → s₁ .regs ≡ set (s .regs) t r
-      → cellsAfter (g .cells) x ≡ s₁ .cells → length (s₁ .cells) ≡ length (s .cells) → LogMatches (L .threads) (length (s .cells)) (recorded (g .made) t (accessesOf x)) (s₁ .log)
-      → Match T L (moved P t p) s₁ (performed g t x)
+  pub matched : (x : Effect) (p : Pos) (r : List ℕ) (s₁ : LockState) → threadAfter (getD (g .threads) t noThread) (g .cells) x ≡ body p r
+      → s₁ .regs ≡ set (s .regs) t r → cellsAfter (g .cells) x ≡ s₁ .cells → length (s₁ .cells) ≡ length (s .cells)
+      → LogMatches (L .threads) (length (s .cells)) (recorded (g .made) t (accessesOf x)) (s₁ .log) → Match T L (moved P t p) s₁ (performed g t x)
   unfolding performed
   matched x p r s₁ e q k len logs =
       record {
@@ -109,8 +114,8 @@ module _ (T : Table) (L : Shape) (t : ℕ) (P : ℕ → Pos) (s : LockState) (g 
         logs = subst (λ k. LogMatches (L .threads) k (recorded (g .made) t (accessesOf x)) (s₁ .log)) (sym len) logs;
       }
 
-  pub next-is : (x : Effect) (p : Pos) (s₁ : LockState) → effectAt T L g t ≡ x → isWaiting x ≡ false → endsBadly g t x ≡ false → Match T L (moved P t p) s₁ (performed g t x)
-      → (possible T L g (row t) ≡ true) × Match T L (moved P t p) s₁ (next T L g (row t))
+  pub next-is : (x : Effect) (p : Pos) (s₁ : LockState) → effectAt T L g t ≡ x → isWaiting x ≡ false → endsBadly g t x ≡ false
+      → Match T L (moved P t p) s₁ (performed g t x) → (possible T L g (row t) ≡ true) × Match T L (moved P t p) s₁ (next T L g (row t))
   next-is x p s₁ a i b m = (may x a i, subst (Match T L (moved P t p) s₁) (sym (next-done T L g t (ap (endsBadly g t) a ∙ b) ∙ ap (performed g t) a)) m)
 
   -- nothing noted
@@ -130,9 +135,11 @@ module _ (T : Table) (L : Shape) (t : ℕ) (P : ℕ → Pos) (s : LockState) (g 
   quiet-one p r s₁ a q c d =
       next-is (own.goes (body p r)) p s₁ (own-act ∙ a) refl refl
       (matched (own.goes (body p r)) p r s₁ refl q (h .cells ∙ sym c) (ap length c)
-      (subst (LogMatches (L .threads) (length (s .cells)) (recorded (g .made) t [])) (sym d) (subst (λ R. LogMatches (L .threads) (length (s .cells)) R (s .log)) (sym none-noted) (h .logs))))
+      (subst (LogMatches (L .threads) (length (s .cells)) (recorded (g .made) t [])) (sym d)
+      (subst (λ R. LogMatches (L .threads) (length (s .cells)) R (s .log)) (sym none-noted) (h .logs))))
 
-pub act-is : (T : Table) (L : Shape) (t : ℕ) (th : Thread) (o : Op) → th .row < length T → rowAt T (th .row) .op ≡ o → effect T L t th ≡ effectOf T L t th (rowAt T (th .row)) o
+pub act-is : (T : Table) (L : Shape) (t : ℕ) (th : Thread) (o : Op) → th .row < length T → rowAt T (th .row) .op ≡ o
+    → effect T L t th ≡ effectOf T L t th (rowAt T (th .row)) o
 unfolding effect
 act-is T L t th o l q = rw (lt-ltb _ _ l) (ap (effectOf T L t th (rowAt T (th .row))) q)
 
@@ -141,7 +148,8 @@ spot-within : (L : Shape) (m : Mem) (c : ℕ) → c < bound L m → address L m 
 unfolding bound address total
 spot-within L m c l = l
 
-module _ (T : Table) (L : Shape) (t : ℕ) (P : ℕ → Pos) (s : LockState) (g : Group) (l : t < (L .threads)) (h : Match T L P s g) (inside : P t .row < length T) where
+module _ (T : Table) (L : Shape) (t : ℕ) (P : ℕ → Pos) (s : LockState) (g : Group) (l : t < (L .threads)) (h : Match T L P s g)
+    (inside : P t .row < length T) where
   pub touch-one : (here : Pos) (new : ℕ → Pos) (m : Mem) → rowAt T (P t .row) .op ≡ MEM m → new t ≡ record { row = suc (P t .row); loops = P t .loops }
       → One T L new here t P g (accessTurn L m (rowAt T (P t .row)) s t)
   unfolding accessTurn tryAccess
@@ -192,23 +200,33 @@ module _ (T : Table) (L : Shape) (t : ℕ) (P : ℕ → Pos) (s : LockState) (g 
       touch-match : b < bound L m → any f ≡ false → Match T L (moved P t pos) (madeAccess s t (x .d) c k) (performed g t (accesses c k (x .d)))
       touch-match y o =
           matched T L t P s g l h (accesses c k (x .d)) pos (registersAfter k (x .d) (getD (s .cells) c 0) (getD (s .regs) t [])) (madeAccess s t (x .d) c k)
-          (unfold threadAfter in (ap₂ (λ th cs. record { row = suc (th .row); regs = registersAfter k (x .d) (getD cs c 0) (th .regs); loops = th .loops }) (h .threads t l) (h .cells)))
-          (unfold madeAccess in refl) (unfold cellsAfter madeAccess in (ap (λ cs. set cs c (cellAfter k (getD cs c 0))) (h .cells))) (unfold madeAccess in (length-set (s .cells) c _))
+          (unfold threadAfter in
+          (ap₂ (λ th cs. record { row = suc (th .row); regs = registersAfter k (x .d) (getD cs c 0) (th .regs); loops = th .loops }) (h .threads t l)
+          (h .cells)))
+          (unfold madeAccess in refl) (unfold cellsAfter madeAccess in (ap (λ cs. set cs c (cellAfter k (getD cs c 0))) (h .cells)))
+          (unfold madeAccess in (length-set (s .cells) c _))
           (unfold madeAccess accessesOf in (log-entered (L .threads) (length (s .cells)) (g .made) (s .log) (h .logs) t c l (within y) k o))
 
       by : (y : Bool) → leb (bound L m) b ≡ y
-          → One T L new here t P g (cond y (stops (Outside t b) s) (cond (any f) (stops (Race t (lowest f) (raceKind (s .log) c (lowest f) k) c) s) (continues (madeAccess s t (x .d) c k))))
-      by true y = (may T L t P s g l h _ (strayed (leb-true _ _ y)) (unfold isWaiting in refl), next-bad T L g t (ap (endsBadly g t) (strayed (leb-true _ _ y)) ∙ (unfold endsBadly isOutside in refl)))
+          → One T L new here t P g
+          (cond y (stops (Outside t b) s)
+          (cond (any f) (stops (Race t (lowest f) (raceKind (s .log) c (lowest f) k) c) s) (continues (madeAccess s t (x .d) c k))))
+      by true y = (
+        may T L t P s g l h _ (strayed (leb-true _ _ y)) (unfold isWaiting in refl),
+        next-bad T L g t (ap (endsBadly g t) (strayed (leb-true _ _ y)) ∙ (unfold endsBadly isOutside in refl)),
+      )
       by false y = at (any f) refl
         where
           y′ : b < bound L m
           y′ = leb-false _ _ y
 
-          at : (o : Bool) → any f ≡ o → One T L new here t P g (cond o (stops (Race t (lowest f) (raceKind (s .log) c (lowest f) k) c) s) (continues (madeAccess s t (x .d) c k)))
+          at : (o : Bool) → any f ≡ o
+              → One T L new here t P g (cond o (stops (Race t (lowest f) (raceKind (s .log) c (lowest f) k) c) s) (continues (madeAccess s t (x .d) c k)))
           at true o = (may T L t P s g l h _ (made y′) (unfold isWaiting in refl), next-bad T L g t (ap (endsBadly g t) (made y′) ∙ hurt y′ ∙ o))
           at false o =
               subst (λ p. (possible T L g (row t) ≡ true) × Match T L (moved P t p) (madeAccess s t (x .d) c k) (next T L g (row t))) (sym e)
-              (next-is T L t P s g l h (accesses c k (x .d)) pos (madeAccess s t (x .d) c k) (made y′) (unfold isWaiting in refl) (hurt y′ ∙ o) (touch-match y′ o))
+              (next-is T L t P s g l h (accesses c k (x .d)) pos (madeAccess s t (x .d) c k) (made y′) (unfold isWaiting in refl) (hurt y′ ∙ o)
+              (touch-match y′ o))
 
   pub calc-one : (here : Pos) (new : ℕ → Pos) (k : Calc) → rowAt T (P t .row) .op ≡ CALC k → new t ≡ record { row = suc (P t .row); loops = P t .loops }
       → One T L new here t P g (computeTurn (rowAt T (P t .row)) (λ v a b. value k (L .threads) v (rowAt T (P t .row) .a) (rowAt T (P t .row) .b) a b) s t)
@@ -238,14 +256,16 @@ module _ (T : Table) (L : Shape) (new : ℕ → Pos) (here : Pos) (s : LockState
   quiet-all k [] P g l at effectOf h = (tt, h)
   quiet-all k (false ∷ m) P g l at effectOf h =
       quiet-all (suc k) m P g (omega arith) (λ j q. ap P (shift j) ∙ at (suc j) q)
-      (λ j q. subst (λ u. effect T L u (body here (getD (s .regs) u [])) ≡ own.goes (body (new u) (getD (s .regs) u []))) (sym (shift j)) (effectOf (suc j) q)) h
+      (λ j q. subst (λ u. effect T L u (body here (getD (s .regs) u [])) ≡ own.goes (body (new u) (getD (s .regs) u []))) (sym (shift j))
+      (effectOf (suc j) q)) h
     where
       shift : (j : ℕ) → suc k + j ≡ k + suc j
       shift j = omega arith
   quiet-all k (true ∷ m) P g l at effectOf h =
       let u = quiet-all (suc k) m (moved P k (new k)) (next T L g (row k)) (omega arith)
       (λ j q. moved-other P k (suc k + j) (new k) (λ e. omega arith) ∙ ap P (shift j) ∙ at (suc j) q)
-      (λ j q. subst (λ u. effect T L u (body here (getD (s .regs) u [])) ≡ own.goes (body (new u) (getD (s .regs) u []))) (sym (shift j)) (effectOf (suc j) q)) (one .1) in
+      (λ j q. subst (λ u. effect T L u (body here (getD (s .regs) u [])) ≡ own.goes (body (new u) (getD (s .regs) u []))) (sym (shift j))
+      (effectOf (suc j) q)) (one .1) in
       ((one .0, u .0), u .1)
     where
       shift : (j : ℕ) → suc k + j ≡ k + suc j

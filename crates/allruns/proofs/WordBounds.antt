@@ -16,10 +16,13 @@ use Rattle.spec.specs.declared.Verdict.the-variants.{Passed}
 use Rattle.spec.specs.Access.{Kind, load, store, cellAfter, registersAfter}
 use Rattle.spec.specs.AllRuns.{RunOf, leaves}
 use Rattle.spec.specs.Limits.{registers}
-use Rattle.spec.specs.LockStep.{LockState, LockResult, Saved, Step, accessTurn, advance, andThen, barrierRow, computeTurn, continues, countSteps, elseRow, endifRow, endwhileRow, forEnabled, ifRow, inTurn, initialState, leaveOrStay, lockstep, madeAccess, passBarrier, pop, reg, resultOf, runFrom, runRow, setReg, stops, topMask, tryAccess, whileRow}
+use Rattle.spec.specs.LockStep.{LockState, LockResult, Saved, Step, accessTurn, advance, andThen, barrierRow, computeTurn, continues, countSteps}
+use Rattle.spec.specs.LockStep.{elseRow, endifRow, endwhileRow, forEnabled, ifRow, inTurn, initialState, leaveOrStay, lockstep, madeAccess}
+use Rattle.spec.specs.LockStep.{passBarrier, pop, reg, resultOf, runFrom, runRow, setReg, stops, topMask, tryAccess, whileRow}
 use Rattle.spec.specs.Log.{conflictMask}
 use Rattle.spec.specs.Mask.{Mask, any, full}
-use Rattle.spec.specs.Op.{Op, Calc, SET, TID, COUNT, ADD, SUB, MUL, AND, OR, XOR, SHR, SAR, EQ, LT, SLT, CALC, Mem, MEM, LOAD, STORE, IF, ELSE, ENDIF, WHILE, ENDWHILE, BARRIER, UNKNOWN, value}
+use Rattle.spec.specs.Op.{Op, Calc, SET, TID, COUNT, ADD, SUB, MUL, AND, OR, XOR, SHR, SAR, EQ, LT, SLT, CALC, Mem, MEM, LOAD, STORE, IF, ELSE, ENDIF}
+use Rattle.spec.specs.Op.{WHILE, ENDWHILE, BARRIER, UNKNOWN, value}
 use Rattle.spec.specs.Shape.{Shape, address, bound, shapeOf}
 use Rattle.spec.specs.Table.{Table, Row, rowAt, cellByte, endOf, kindOf}
 use Rattle.spec.specs.Threads as own
@@ -62,7 +65,8 @@ value-word OR n t a b x y hn ht ha hb hx hy = or-lt 32 x y hx hy
 value-word XOR n t a b x y hn ht ha hb hx hy = xor-lt 32 x y hx hy
 value-word SHR n t a b x y hn ht ha hb hx hy = cond-keeps Word (ltb y 32) (omega (arith, div-le-self x (2 ^ y))) (omega arith)
 value-word SAR n t a b x y hn ht ha hb hx hy =
-    cond-keeps Word (ltb y 32) (unsigned-word (shrZ (signed x) (2 ^ y)) (omega (arith, mag-shr (signed x) (2 ^ y), signed-mag x hx))) (cond-keeps Word (top x) (omega arith) (omega arith))
+    cond-keeps Word (ltb y 32) (unsigned-word (shrZ (signed x) (2 ^ y)) (omega (arith, mag-shr (signed x) (2 ^ y), signed-mag x hx)))
+    (cond-keeps Word (top x) (omega arith) (omega arith))
 value-word EQ n t a b x y hn ht ha hb hx hy = truth-word (eqb x y)
 value-word LT n t a b x y hn ht ha hb hx hy = truth-word (ltb x y)
 value-word SLT n t a b x y hn ht ha hb hx hy = truth-word (ltZ (signed x) (signed y))
@@ -118,12 +122,14 @@ unfolding andThen
 sound-then n (continues s) f h g = g s h
 sound-then n (stops v s) f h g = h
 
-sound-turns : (n : ℕ) (f : LockState → ℕ → Step) → ((s : LockState) (t : ℕ) → Sound n s → SoundStep n (f s t)) → (ts : List ℕ) (s : LockState) → Sound n s → SoundStep n (inTurn f ts s)
+sound-turns : (n : ℕ) (f : LockState → ℕ → Step) → ((s : LockState) (t : ℕ) → Sound n s → SoundStep n (f s t)) → (ts : List ℕ) (s : LockState)
+    → Sound n s → SoundStep n (inTurn f ts s)
 unfolding inTurn
 sound-turns n f g [] s h = h
 sound-turns n f g (t ∷ ts) s h = sound-then n (f s t) (inTurn f ts) (g s t h) (sound-turns n f g ts)
 
-sound-enabled : (n : ℕ) (f : LockState → ℕ → Step) → ((s : LockState) (t : ℕ) → Sound n s → SoundStep n (f s t)) → (s : LockState) → Sound n s → SoundStep n (forEnabled f s)
+sound-enabled : (n : ℕ) (f : LockState → ℕ → Step) → ((s : LockState) (t : ℕ) → Sound n s → SoundStep n (f s t)) → (s : LockState) → Sound n s
+    → SoundStep n (forEnabled f s)
 unfolding forEnabled advance
 sound-enabled n f g s h = sound-then n (inTurn f _ s) _ (sound-turns n f g _ s h) (λ z k. k)
 
@@ -135,18 +141,21 @@ put-words n t s regs cells h p q = (
   record { ofThreads = λ u. set-keeps Words (s .regs) [] t regs u (λ l. p (omega (arith, h .0))) (h .1 .ofThreads u); ofCells = q },
 )
 
-sound-compute : (n : ℕ) (x : Row) (f : ℕ → ℕ → ℕ → ℕ) → ((t p q : ℕ) → t < n → Word p → Word q → Word (f t p q)) → (s : LockState) (t : ℕ) → Sound n s → SoundStep n (computeTurn x f s t)
+sound-compute : (n : ℕ) (x : Row) (f : ℕ → ℕ → ℕ → ℕ) → ((t p q : ℕ) → t < n → Word p → Word q → Word (f t p q)) → (s : LockState) (t : ℕ) → Sound n s
+    → SoundStep n (computeTurn x f s t)
 unfolding computeTurn setReg reg
 sound-compute n x f g s t h =
     put-words n t s _ (s .cells) h
-    (λ l i. set-keeps Word (getD (s .regs) t []) 0 (x .d) _ i (λ z. g t _ _ l (h .1 .ofThreads t (x .a)) (h .1 .ofThreads t (x .b))) (h .1 .ofThreads t i)) (h .1 .ofCells)
+    (λ l i. set-keeps Word (getD (s .regs) t []) 0 (x .d) _ i (λ z. g t _ _ l (h .1 .ofThreads t (x .a)) (h .1 .ofThreads t (x .b)))
+    (h .1 .ofThreads t i)) (h .1 .ofCells)
 
 sound-access : (n : ℕ) (L : Shape) (m : Mem) (x : Row) (s : LockState) (t : ℕ) → Sound n s → SoundStep n (accessTurn L m x s t)
 unfolding accessTurn tryAccess madeAccess reg
 sound-access n L m x s t h =
     cond-keeps (SoundStep n) (leb (bound L m) c) h
     (cond-keeps (SoundStep n) (any (conflictMask (s .log) (address L m c) t k)) h
-    (put-words n t s _ _ h (λ l. registers-words k (x .d) _ _ w (h .1 .ofCells (address L m c)) (h .1 .ofThreads t)) (cells-words k (address L m c) (s .cells) w (h .1 .ofCells))))
+    (put-words n t s _ _ h (λ l. registers-words k (x .d) _ _ w (h .1 .ofCells (address L m c)) (h .1 .ofThreads t))
+    (cells-words k (address L m c) (s .cells) w (h .1 .ofCells))))
   where
     c : ℕ
     c = reg s t (cellByte m x)
@@ -166,7 +175,8 @@ module _ (T : Table) (L : Shape) (bytes : Bytes T) (few : Word (L .threads)) whe
   unfolding runRow advance countSteps barrierRow ifRow elseRow endifRow whileRow endwhileRow passBarrier
   sound-row s l (CALC c) h =
       let b = bytes (s .row) l in
-      sound-enabled (L .threads) _ (sound-compute (L .threads) _ _ (λ t p q m hp hq. value-word c (L .threads) t _ _ p q few (omega arith) (b .0) (b .1) hp hq)) s h
+      sound-enabled (L .threads) _
+      (sound-compute (L .threads) _ _ (λ t p q m hp hq. value-word c (L .threads) t _ _ p q few (omega arith) (b .0) (b .1) hp hq)) s h
   sound-row s l (MEM m) h = sound-enabled (L .threads) _ (sound-access (L .threads) L m _) s h
   sound-row s l IF h = h
   sound-row s l ELSE h = h
@@ -176,7 +186,8 @@ module _ (T : Table) (L : Shape) (bytes : Bytes T) (few : Word (L .threads)) whe
   sound-row s l BARRIER h = cond-keeps (SoundStep (L .threads)) (any (s .enabled)) (cond-keeps (SoundStep (L .threads)) (full (s .enabled)) h h) h
   sound-row s l UNKNOWN h = h
 
-  sound-result : (x : Step) (f : LockState → LockResult) → SoundStep (L .threads) x → ((s : LockState) → Sound (L .threads) s → Sound (L .threads) (f s .state)) → Sound (L .threads) (resultOf x f .state)
+  sound-result : (x : Step) (f : LockState → LockResult) → SoundStep (L .threads) x
+      → ((s : LockState) → Sound (L .threads) s → Sound (L .threads) (f s .state)) → Sound (L .threads) (resultOf x f .state)
   unfolding resultOf
   sound-result (continues s) f h g = g s h
   sound-result (stops v s) f h g = h

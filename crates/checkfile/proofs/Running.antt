@@ -15,7 +15,7 @@ use Rattle.spec.specs.LockStep.{LockResult, lockstep, outcomeOf}
 use Rattle.spec.specs.LaunchFile.{Launch}
 use Rattle.spec.specs.Report.{runReport, reportOf}
 use Rattle.spec.specs.Entries.{over, launchRun, launchReport, writerRefusal, writerAnswer, writerBuffer, writtenOf, keptIf}
-use Rattle.layout.proofs.Running.{RunIs}
+use Rattle.layout.specs.Running.{RunIs}
 use Rattle.report.specs.Subjects.{ran, FitsOutput}
 use Rattle.report.proofs.Entry.{cells-right, fitting}
 use Rattle.reportlines.proofs.Writing.{over-length}

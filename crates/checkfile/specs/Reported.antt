@@ -10,7 +10,7 @@ use Rattle.spec.specs.Table.{rowsOf}
 use Rattle.spec.specs.Log.{logWords}
 use Rattle.spec.specs.LaunchFile.{Launch}
 use Rattle.spec.specs.Entries.{over, launchRun, launchReport}
-use Rattle.layout.proofs.Running.{Runnable}
+use Rattle.layout.specs.Running.{Runnable}
 
 pub record Asks (table ends : List ℕ) (threads limit : ℕ) (words cells log output : List ℕ) : Type 0 where
   pub checked : Runnable table ends

@@ -15,7 +15,7 @@ use Rattle.spec.specs.Op.{Calc, CALC, opOf, value}
 use Rattle.spec.specs.Table.{Row}
 use Rattle.spec.specs.LockStep.{LockState, Step, inTurn, computeTurn, setReg, update, reg}
 use Rattle.layout.specs.declared.Access.the-variants.{Done}
-use Rattle.layout.proofs.Memory.{Regs, Memory, Did, OneTurn, ComputeAsks, ComputeAll}
+use Rattle.layout.specs.Memory.{Regs, Memory, Did, OneTurn, ComputeAsks, ComputeAll}
 use Rattle.layout.proofs.Buffers.{regs-set}
 use Rattle.layout.proofs.Turning.{Turning, turn-start, turn-in, turn-out, turn-whole}
 use Rattle.compute.specs.RowLanes.{Puts, lane, chosen, RowLanes}

@@ -1,7 +1,7 @@
 // A computing row: its values in all 32 lanes, then a store under the mask.
 ghost use Prim.Native.Nat.{_/_, _%_, _^_, _<_, _≤_};
 ghost use lib.ListN.{getD};
-ghost use Rattle.layout.proofs.Memory.{ComputeAsks, ComputeAll};
+ghost use Rattle.layout.specs.Memory.{ComputeAsks, ComputeAll};
 ghost use Rattle.lanes.specs.Lanes.{Filled};
 ghost use Rattle.compute.specs.RowLanes.{Puts, lane, picked, RowLanes};
 

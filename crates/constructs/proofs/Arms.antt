@@ -9,7 +9,7 @@ use Rattle.spec.specs.LockStep.{LockState, Step, continues, ifRow, elseRow, end
 use Rattle.layout.specs.declared.State.{State}
 use Rattle.layout.specs.declared.Next.{Next}
 use Rattle.layout.specs.declared.Next.the-variants as next
-use Rattle.layout.proofs.Represents.{Represents, After, ifOn, whileOn}
+use Rattle.layout.specs.Represents.{Represents, After, ifOn, whileOn}
 
 -- The arms of a match on the op.
 module _ (n : ℕ) (T : Table) (L : Shape) (x : Row) (z : LockState) (op : ℕ) (q : x .op ≡ opOf op) (regs cells log saved openers : List ℕ) where

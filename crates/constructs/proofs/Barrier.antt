@@ -16,7 +16,7 @@ use Rattle.layout.specs.declared.State.{State}
 use Rattle.layout.specs.declared.Next.the-variants as next
 use Rattle.layout.proofs.LogBuffer.{cleared-is}
 use Rattle.layout.proofs.Turning.{kept-none}
-use Rattle.layout.proofs.Represents.{Represents, After, movedOn}
+use Rattle.layout.specs.Represents.{Represents, After, movedOn}
 use Rattle.layout.proofs.PlainRows.{moves-on}
 
 module _ (n : ℕ) (z : LockState) (s : State) (regs cells log saved openers : List ℕ) (R : Represents n z s regs cells log saved openers) where

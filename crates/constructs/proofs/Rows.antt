@@ -11,9 +11,9 @@ use Rattle.spec.specs.Table.{Table, endOf}
 use Rattle.spec.specs.Mask.{Mask, maskWord, any, holding, minus, members}
 use Rattle.spec.specs.LockStep.{Saved, LockState, topMask, pop, topOpener, savedAtWhile, leaveOrStay, advance, countSteps, elseRow, endifRow, endwhileRow}
 use Rattle.masks.proofs.Words.{ones-are, any-none, any-some, word-minus, minus-size}
-use Rattle.layout.proofs.Memory.{Memory}
+use Rattle.layout.specs.Memory.{Memory}
 use Rattle.layout.specs.declared.State.{State}
-use Rattle.layout.proofs.Represents.{Saves, Represents, EnteredWhile, ifOn}
+use Rattle.layout.specs.Represents.{Saves, Represents, EnteredWhile, ifOn}
 use Rattle.layout.proofs.PlainRows.{memory-advance}
 use Rattle.layout.proofs.Saving.{saves-push, saves-anew, saves-top, top-size, saves-back, saves-pop, pop-length, anew-length}
 

@@ -1,7 +1,8 @@
 // The rows of constructs, and BARRIER. Masks are saved on entry, with the construct's row beside them.
 ghost use mathlib.Core.Path.{_≡_};
 ghost use Prim.Native.Nat.{_<_, _≤_};
-ghost use Rattle.layout.proofs.Represents.{Room, Becomes, ifOn, ElseBecomes, EndifBecomes, RoomForWhile, EnteredWhile, WhileBecomes, EndwhileBecomes, DepthAsks, ConstructDone, BarrierDone, movedOn};
+ghost use Rattle.layout.specs.Represents.{Room, Becomes, ifOn, ElseBecomes, EndifBecomes, RoomForWhile, EnteredWhile};
+ghost use Rattle.layout.specs.Represents.{WhileBecomes, EndwhileBecomes, DepthAsks, ConstructDone, BarrierDone, movedOn};
 
 fn if_row(
     regs: &[u32; 512],

@@ -21,7 +21,7 @@ use Rattle.spec.specs.Demands.{BareDemand3}
 use Rattle.structure.proofs.Refusals.{unless-none, orElse-none}
 use Rattle.allruns.proofs.Bools.{and-left, and-right}
 use Rattle.allruns.proofs.Launches.{bare-demand3}
-use Rattle.layout.proofs.Running.{RunIs}
+use Rattle.layout.specs.Running.{RunIs}
 use Rattle.admission.proofs.Answers.{found, passed, ends}
 
 -- What the numbers are where none of them is refused.

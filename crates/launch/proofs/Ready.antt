@@ -7,7 +7,7 @@ use native.Mathlib.Omega.{arith}
 use lib.ListN.{length, getD}
 use Rattle.spec.specs.Table.{rowsOf, endOf}
 use Rattle.spec.specs.TableCheck.{tableRefusal}
-use Rattle.layout.proofs.Running.{Runnable}
+use Rattle.layout.specs.Running.{Runnable}
 use Rattle.step.proofs.Tables.{rows-length}
 use Rattle.reader.specs.Answer.{ifLoop, ifAccepted, endAt}
 

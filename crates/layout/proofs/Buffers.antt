@@ -7,7 +7,7 @@ use native.Mathlib.Decide.{ℕ-discrete}
 use lib.ListN.{length, getD, set, length-set, length-map, List·getD-append, List·getD-map}
 use lib.Seq.{getD-set-same, getD-set-other, getD-append-add, set-append-left}
 use Rattle.spec.specs.Mask.{Mask, maskWord}
-use Rattle.layout.proofs.Memory.{Regs, Masks}
+use Rattle.layout.specs.Memory.{Regs, Masks}
 use Rattle.layout.proofs.Lists.{map-set, set-append-right}
 
 -- register d of thread t is set to v

@@ -1,9 +1,6 @@
-pub mod Memory
 pub mod Lists
 pub mod Buffers
 pub mod LogBuffer
 pub mod Turning
-pub mod Represents
 pub mod Saving
 pub mod PlainRows
-pub mod Running

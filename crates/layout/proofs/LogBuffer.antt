@@ -17,7 +17,7 @@ use Rattle.spec.specs.Table.{kindOf}
 use Rattle.spec.specs.Mask.{Mask, maskWord, has}
 use Rattle.spec.specs.Log.{Log, logWords, emptyLog, cleared, withThread, logged, testedMask, conflictMask, raceKind}
 use Rattle.masks.proofs.Words.{word-or, word-set, word-has, word-except, union-size}
-use Rattle.layout.proofs.Memory.{Masks, LogIs}
+use Rattle.layout.specs.Memory.{Masks, LogIs}
 use Rattle.layout.proofs.Buffers.{masks-set, reader-at, writer-at, reader-set, writer-set}
 
 module _ (n k : ℕ) (G : Log) (log : List ℕ) (L : LogIs n k G log) where
@@ -184,30 +184,3 @@ empty-is n k log e =
   where
     twice : 2 * k ≡ k + k
     twice = omega arith
-
--- What the code's three functions on the log mean, for an access of cell i by op; the value that a store stores does not matter to them.
-abbrev pub ConflictIs : (op k i t : ℕ) → (log : List ℕ) → ℕ → Type 0
-ConflictIs op k i t log r =
-    (n v : ℕ) (m : Mem) (G : Log) → opOf op ≡ MEM m → n ≤ 32 → t < n → LogIs n k G log → r ≡ maskWord (conflictMask G i t (kindOf m v))
-
--- The same by the thread's bit.
-abbrev pub ConflictBy : (op k i bit : ℕ) → (log : List ℕ) → ℕ → Type 0
-ConflictBy op k i bit log r = (t : ℕ) → t < 32 → bit ≡ 2 ^ t → ConflictIs op k i t log r
-
-abbrev pub KindIs : (op k i u : ℕ) → (log : List ℕ) → AccessKind → Type 0
-KindIs op k i u log r = (n v : ℕ) (m : Mem) (G : Log) → opOf op ≡ MEM m → LogIs n k G log → r ≡ raceKind G i u (kindOf m v)
-
-abbrev pub LoggedIs : (op k i t : ℕ) → (log log′ : List ℕ) → Type 0
-LoggedIs op k i t log log′ =
-    (n v : ℕ) (m : Mem) (G : Log) → opOf op ≡ MEM m → n ≤ 32 → t < n → LogIs n k G log → LogIs n k (logged G i t (kindOf m v)) log′
-
-abbrev pub LoggedBy : (op k i bit : ℕ) → (log log′ : List ℕ) → Type 0
-LoggedBy op k i bit log log′ = (t : ℕ) → t < 32 → bit ≡ 2 ^ t → LoggedIs op k i t log log′
-
--- Where the log has room for the access.
-pub record LogAsks (op k i : ℕ) (log : List ℕ) : Type 0 where
-  pub known : 16 ≤ op
-  pub small : op ≤ 17
-  pub twice : length log ≡ 2 * k
-  pub inside : i < k
-  pub few : k ≤ 1024

@@ -10,8 +10,8 @@ use Rattle.layout.specs.declared.Access.{Access}
 use Rattle.layout.specs.declared.Access.the-variants.{Done, Stop}
 use Rattle.layout.specs.declared.State.{State}
 use Rattle.layout.specs.declared.Next.{Next}
-use Rattle.layout.proofs.Memory.{Memory, Kept, Did}
-use Rattle.layout.proofs.Represents.{Saves, Represents, After, Counted, Counts, movedOn, heldBack, accessed}
+use Rattle.layout.specs.Memory.{Memory, Kept, Did}
+use Rattle.layout.specs.Represents.{Saves, Represents, After, Counted, Counts, movedOn, heldBack, accessed}
 
 pub counted-moved : (s r : State) (k : ℕ) → r ≡ movedOn s k → k ≤ 32 → Counted s r
 counted-moved s r k e h = subst (Counted s) (sym e) (record { rows-one = refl; steps-some = omega arith; barriers-one = omega arith })

@@ -10,7 +10,7 @@ use lib.Seq.{getD-set-same, getD-set-other}
 use Rattle.spec.specs.Mask.{Mask, maskWord}
 use Rattle.spec.specs.LockStep.{Saved, LockState, topMask, pop, topOpener, savedAtWhile}
 use Rattle.layout.specs.declared.State.{State}
-use Rattle.layout.proofs.Represents.{Saves, EnteredWhile, RoomForWhile}
+use Rattle.layout.specs.Represents.{Saves, EnteredWhile, RoomForWhile}
 
 -- a store above the saved masks leaves them
 pub saves-above : (n : ℕ) (v : List Saved) (saved openers : List ℕ) (i j x y : ℕ) → length v ≤ i → length v ≤ j → Saves n v saved openers

@@ -12,7 +12,7 @@ use Rattle.spec.specs.LockStep.{LockState, Step, continues, stops, inTurn, andT
 use Rattle.masks.proofs.Words.{word-half, word-odd, ones-are}
 use Rattle.layout.specs.declared.Access.{Access}
 use Rattle.layout.specs.declared.Access.the-variants.{Done, Stop}
-use Rattle.layout.proofs.Memory.{Memory, Kept, Did, OneTurn, stepsOf}
+use Rattle.layout.specs.Memory.{Memory, Kept, Did, OneTurn, stepsOf}
 
 pub kept-none : (s : LockState) → Kept 0 s s
 kept-none s = record { row-same = refl; enabled-same = refl; saved-same = refl; rows-same = refl; barriers-same = refl; steps-more = omega arith }

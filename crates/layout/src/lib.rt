@@ -1,4 +1,4 @@
-// The run's own state, and how its buffers stand for the lock-step definition's (proofs/). No functions.
+// The run's own state, and how its buffers stand for the lock-step definition's (specs/). No functions.
 // regs holds register r of thread t at r * 32 + t; log holds all reader masks, then all writer masks;
 // saved and openers hold the mask and the row of each open construct, the innermost last below the depth.
 

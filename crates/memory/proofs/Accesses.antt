@@ -23,9 +23,10 @@ use Rattle.spec.specs.LockStep.{LockState, Step, continues, stops, reg, madeAcc
 use Rattle.masks.proofs.Words.{any-none, any-some, lowest-is}
 use Rattle.layout.specs.declared.Access.{Access}
 use Rattle.layout.specs.declared.Access.the-variants.{Done, Stop}
-use Rattle.layout.proofs.Memory.{Regs, LogIs, Memory, Did, stepsOf, Transferred, CellRegister}
+use Rattle.layout.specs.Memory.{Regs, LogIs, Memory, Did, stepsOf, Transferred, CellRegister}
 use Rattle.layout.proofs.Buffers.{regs-set}
-use Rattle.layout.proofs.LogBuffer.{ConflictIs, KindIs, LoggedIs, conflict-size}
+use Rattle.layout.specs.Logging.{ConflictIs, KindIs, LoggedIs}
+use Rattle.layout.proofs.LogBuffer.{conflict-size}
 use Rattle.layout.proofs.Turning.{kept-none}
 use Rattle.accesslog.proofs.LogTests.{mem-load, mem-store}
 

@@ -15,8 +15,8 @@ use Rattle.spec.specs.TableCheck.{tableRefusal, isKnown}
 use Rattle.structure.proofs.Ops.{known-of-other}
 use Rattle.structure.proofs.Acceptance.{operands-fit, accepted-if}
 use Rattle.allruns.proofs.Bools.{and-left, and-right}
-use Rattle.layout.proofs.Memory.{ComputeAsks}
-use Rattle.layout.proofs.Running.{RowAsks}
+use Rattle.layout.specs.Memory.{ComputeAsks}
+use Rattle.layout.specs.Running.{RowAsks}
 use Rattle.step.proofs.Tables.{row-bytes}
 
 -- Which bytes of a form are registers.

@@ -4,7 +4,7 @@ ghost use Prim.Native.Nat.{_*_, _≤_};
 ghost use lib.ListN.{length};
 ghost use Rattle.spec.specs.Table.{rowsOf};
 ghost use Rattle.spec.specs.LockStep.{lockstep};
-ghost use Rattle.layout.proofs.Running.{Runnable, RunIs, endedAs};
+ghost use Rattle.layout.specs.Running.{Runnable, RunIs, endedAs};
 
 fn ended(v: spec::Verdict, s: layout::State) -> spec::Outcome
     requires { ⌜ s .row ≤ 256 ⌝ }
@@ -28,7 +28,8 @@ pub fn run(
     cells: &mut [u32],
     log: &mut [u32],
 ) -> spec::Outcome
-    requires { ⌜ Runnable (now table) (now ends) × (1 ≤ n) × (n ≤ 32) × (limit ≤ 1000000) × (length (now log) ≡ 2 * length (now cells)) × (length (now cells) ≤ 1024) ⌝ }
+    requires { ⌜ Runnable (now table) (now ends) × (1 ≤ n) × (n ≤ 32) × (limit ≤ 1000000)
+        × (length (now log) ≡ 2 * length (now cells)) × (length (now cells) ≤ 1024) ⌝ }
     ensures { λ r. ⌜ RunIs (lockstep (rowsOf (now (table .entry))) n (now (cells .entry)) limit) r (now (cells .exit)) (now (log .exit)) ⌝ }
 {
     let count = table.len() / 4;

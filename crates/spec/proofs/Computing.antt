@@ -3,22 +3,58 @@ use Rattle.spec.specs.Answers.{refusalNumber, refusalPlace, unless, orEl
 use Rattle.spec.specs.Lists.{anyOf, every, equalList}
 use Rattle.spec.specs.Access.{cellAfter, registersAfter, compatible, conflict}
 use Rattle.spec.specs.Op.{opTable, opOf, form, formOf, isRegister, isUnused, operandsFit, value}
-use Rattle.spec.specs.Table.{rowOf, rowsOf, noRow, rowAt, cellByte, kindOf, role, openedBy, openBefore, scanRow, scan, endOf, pastElse, elseOf, startOf, innermost}
-use Rattle.spec.specs.TableCheck.{opener, isKnown, elseFits, endifFits, endwhileFits, fits, shallow, divided, openAfter, rowRefusal, leftOpen, rowsRefusal, tableRefusal}
+use Rattle.spec.specs.Table.{rowOf, rowsOf, noRow, rowAt, cellByte, kindOf, role, openedBy, openBefore, scanRow, scan, endOf, pastElse, elseOf}
+use Rattle.spec.specs.Table.{startOf, innermost}
+use Rattle.spec.specs.TableCheck.{opener, isKnown, elseFits, endifFits, endwhileFits, fits, shallow, divided, openAfter, rowRefusal, leftOpen}
+use Rattle.spec.specs.TableCheck.{rowsRefusal, tableRefusal}
 use Rattle.spec.specs.Mask.{maskWord, has, membersFrom, members, any, full, minus, union, lowest, nonzero, holding}
 use Rattle.spec.specs.Shape.{shapeOf, total, bound, address}
 use Rattle.spec.specs.Log.{logWords, emptyLog, cleared, withThread, logged, testedMask, conflictMask, raceKind}
 use Rattle.spec.specs.LockStep as lockStep
-use Rattle.spec.specs.LockStep.{initialState, andThen, inTurn, advance, update, setReg, computeTurn, madeAccess, tryAccess, accessTurn, forEnabled, countSteps, topMask, topOpener, pop, ifRow, elseRow, endifRow, savedAtWhile, leaveOrStay, whileRow, endwhileRow, passBarrier, barrierRow, runRow, resultOf, runFrom, lockstep, outcomeOf, countedAt, countedAfter, countedFrom, countedBarriers}
-use Rattle.spec.specs.Threads.{reg, goto, put, reach, onIf, onWhile, effectOf, effect, emptyRecord, recorded, anyBelow, races, initialGroup, noThread, threadCount, effectAt, accessesOf, isOutside, endsBadly, markBad, threadAfter, cellsAfter, performed, pastBarrier, released, next, isBarrier, atOneBarrier, isWaiting, possible, atEnd, shown}
+use Rattle.spec.specs.LockStep.{initialState, andThen, inTurn, advance, update, setReg, computeTurn, madeAccess, tryAccess, accessTurn}
+use Rattle.spec.specs.LockStep.{forEnabled, countSteps, topMask, topOpener, pop, ifRow, elseRow, endifRow, savedAtWhile, leaveOrStay, whileRow}
+use Rattle.spec.specs.LockStep.{endwhileRow, passBarrier, barrierRow, runRow, resultOf, runFrom, lockstep, outcomeOf, countedAt, countedAfter}
+use Rattle.spec.specs.LockStep.{countedFrom, countedBarriers}
+use Rattle.spec.specs.Threads.{reg, goto, put, reach, onIf, onWhile, effectOf, effect, emptyRecord, recorded, anyBelow, races, initialGroup}
+use Rattle.spec.specs.Threads.{noThread, threadCount, effectAt, accessesOf, isOutside, endsBadly, markBad, threadAfter, cellsAfter, performed}
+use Rattle.spec.specs.Threads.{pastBarrier, released, next, isBarrier, atOneBarrier, isWaiting, possible, atEnd, shown}
 use Rattle.spec.specs.AllRuns.{isRelease}
 use Rattle.spec.specs.Text.{text, digitsWithin, decimal, isDigit, isNumber, digitsValue, numberBelow, startingWith, splitAt}
-use Rattle.spec.specs.LaunchFile.{continue, _>>=_, _>>_, gives, inOrder, times, given, lineValue, isDue, due, require, fileEnds, exactly, number, byte, rowValue, numberLines, dueNumber, numbers, contentLines, launchLines, unlessRefused, checkedTable, fileLaunch}
-use Rattle.spec.specs.Report.{verdictText, kindText, valueText, keyLine, lineBytes, _is_, bytesOf, details, detailsOf, headWith, headLines, eachLine, endLine, runLines, runReport, refusalLines, refusalReport, reportOf}
-use Rattle.spec.specs.Entries.{over, bareNumbers, bareLent, bareRefusal, bareRun, answerOf, keptIf, bareAnswer, bareCells, bareLog, cellsReported, writerRefusal, writtenOf, writerAnswer, writerBuffer, fileLent, andState, fileChecked, launchRun, launchReport, reportLength, fileAnswer, ifAccepted, fileCellsAfter, fileLogAfter, fileOutputAfter, printed, checkPrints}
+use Rattle.spec.specs.LaunchFile.{continue, _>>=_, _>>_, gives, inOrder, times, given, lineValue, isDue, due, require, fileEnds, exactly}
+use Rattle.spec.specs.LaunchFile.{number, byte, rowValue, numberLines, dueNumber, numbers, contentLines, launchLines, unlessRefused, checkedTable, fileLaunch}
+use Rattle.spec.specs.Report.{verdictText, kindText, valueText, keyLine, lineBytes, _is_, bytesOf, details, detailsOf, headWith, headLines}
+use Rattle.spec.specs.Report.{eachLine, endLine, runLines, runReport, refusalLines, refusalReport, reportOf}
+use Rattle.spec.specs.Entries.{over, bareNumbers, bareLent, bareRefusal, bareRun, answerOf, keptIf, bareAnswer, bareCells, bareLog}
+use Rattle.spec.specs.Entries.{cellsReported, writerRefusal, writtenOf, writerAnswer, writerBuffer, fileLent, andState, fileChecked, launchRun}
+use Rattle.spec.specs.Entries.{launchReport, reportLength, fileAnswer, ifAccepted, fileCellsAfter, fileLogAfter, fileOutputAfter, printed}
+use Rattle.spec.specs.Entries.{checkPrints}
 use Rattle.spec.specs.Examples.{withNewlines, lines, examples}
 
 -- Whoever unfolds this unfolds them all.
 unfoldable pub computing : Unit {0}
-unfolding refusalNumber refusalPlace unless orElse first anyOf every equalList cellAfter registersAfter compatible conflict opTable opOf form formOf isRegister isUnused operandsFit value rowOf rowsOf noRow rowAt cellByte kindOf role openedBy openBefore scanRow scan endOf pastElse elseOf startOf innermost opener isKnown elseFits endifFits endwhileFits fits shallow divided openAfter rowRefusal leftOpen rowsRefusal tableRefusal maskWord has membersFrom members any full minus union lowest nonzero holding shapeOf total bound address logWords emptyLog cleared withThread logged testedMask conflictMask raceKind lockStep.reg initialState andThen inTurn advance update setReg computeTurn madeAccess tryAccess accessTurn forEnabled countSteps topMask topOpener pop ifRow elseRow endifRow savedAtWhile leaveOrStay whileRow endwhileRow passBarrier barrierRow runRow resultOf runFrom lockstep outcomeOf countedAt countedAfter countedFrom countedBarriers reg goto put reach onIf onWhile effectOf effect emptyRecord recorded anyBelow races initialGroup noThread threadCount effectAt accessesOf isOutside endsBadly markBad threadAfter cellsAfter performed pastBarrier released next isBarrier atOneBarrier isWaiting possible atEnd shown isRelease text digitsWithin decimal isDigit isNumber digitsValue numberBelow startingWith splitAt continue _>>=_ _>>_ gives inOrder times given lineValue isDue due require fileEnds exactly number byte rowValue numberLines dueNumber numbers contentLines launchLines unlessRefused checkedTable fileLaunch verdictText kindText valueText keyLine lineBytes _is_ bytesOf details detailsOf headWith headLines eachLine endLine runLines runReport refusalLines refusalReport reportOf over bareNumbers bareLent bareRefusal bareRun answerOf keptIf bareAnswer bareCells bareLog cellsReported writerRefusal writtenOf writerAnswer writerBuffer fileLent andState fileChecked launchRun launchReport reportLength fileAnswer ifAccepted fileCellsAfter fileLogAfter fileOutputAfter printed checkPrints withNewlines lines examples
+unfolding refusalNumber refusalPlace unless orElse first
+    anyOf every equalList
+    cellAfter registersAfter compatible conflict
+    opTable opOf form formOf isRegister isUnused operandsFit value
+    rowOf rowsOf noRow rowAt cellByte kindOf role openedBy openBefore scanRow scan endOf pastElse elseOf startOf innermost
+    opener isKnown elseFits endifFits endwhileFits fits shallow divided openAfter rowRefusal leftOpen rowsRefusal tableRefusal
+    maskWord has membersFrom members any full minus union lowest nonzero holding
+    shapeOf total bound address
+    logWords emptyLog cleared withThread logged testedMask conflictMask raceKind
+    lockStep.reg initialState andThen inTurn advance update setReg computeTurn madeAccess tryAccess accessTurn forEnabled countSteps
+    topMask topOpener pop ifRow elseRow endifRow savedAtWhile leaveOrStay whileRow endwhileRow passBarrier barrierRow runRow resultOf
+    runFrom lockstep outcomeOf countedAt countedAfter countedFrom countedBarriers
+    reg goto put reach onIf onWhile effectOf effect emptyRecord recorded anyBelow races initialGroup noThread threadCount effectAt
+    accessesOf isOutside endsBadly markBad threadAfter cellsAfter performed pastBarrier released next isBarrier atOneBarrier isWaiting
+    possible atEnd shown
+    isRelease
+    text digitsWithin decimal isDigit isNumber digitsValue numberBelow startingWith splitAt
+    continue _>>=_ _>>_ gives inOrder times given lineValue isDue due require fileEnds exactly number byte rowValue numberLines dueNumber
+    numbers contentLines launchLines unlessRefused checkedTable fileLaunch
+    verdictText kindText valueText keyLine lineBytes _is_ bytesOf details detailsOf headWith headLines eachLine endLine runLines runReport
+    refusalLines refusalReport reportOf
+    over bareNumbers bareLent bareRefusal bareRun answerOf keptIf bareAnswer bareCells bareLog cellsReported writerRefusal writtenOf
+    writerAnswer writerBuffer fileLent andState fileChecked launchRun launchReport reportLength fileAnswer ifAccepted fileCellsAfter
+    fileLogAfter fileOutputAfter printed checkPrints
+    withNewlines lines examples
 computing = tt

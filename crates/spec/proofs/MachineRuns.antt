@@ -91,8 +91,9 @@ unfoldable pub of : ℕ → ℕ → List Move
 of k t = replicate k (row t)
 
 -- P1, row by row as in lock step: thread 1's store ends the run badly, and no move is possible after it.
-pub race-is-bad : played racing 2 (1 ∷ 1 ∷ 1 ∷ []) (row 0 ∷ row 1 ∷ row 0 ∷ row 1 ∷ row 0 ∷ row 1 ∷ row 0 ∷ row 1 ∷ row 0 ∷ row 1 ∷ row 0 ∷ row 1 ∷ row 0 ∷ row 1 ∷ []) ≡
-    record { allPossible = true; ended = false; bad = true; mayMove = false; mayRelease = false; cells = 2 ∷ 1 ∷ 1 ∷ []; atReleases = [] }
+pub race-is-bad : played racing 2 (1 ∷ 1 ∷ 1 ∷ [])
+    (row 0 ∷ row 1 ∷ row 0 ∷ row 1 ∷ row 0 ∷ row 1 ∷ row 0 ∷ row 1 ∷ row 0 ∷ row 1 ∷ row 0 ∷ row 1 ∷ row 0 ∷ row 1 ∷ [])
+    ≡ record { allPossible = true; ended = false; bad = true; mayMove = false; mayRelease = false; cells = 2 ∷ 1 ∷ 1 ∷ []; atReleases = [] }
 unfolding computing played isRun racing of
 race-is-bad = refl
 

@@ -12,7 +12,8 @@ lentCells = 5 ∷ 6 ∷ []
 
 -- The answer, the cells and the log of a bare launch.
 unfoldable pub bare : (table : List ℕ) → (threads cells limit : ℕ) → (log : List ℕ) → Answer × (List ℕ × List ℕ)
-bare table threads cells limit log = (bareAnswer table threads cells limit lentCells log, (bareCells table threads cells limit lentCells log, bareLog table threads cells limit lentCells log))
+bare table threads cells limit log =
+    (bareAnswer table threads cells limit lentCells log, (bareCells table threads cells limit lentCells log, bareLog table threads cells limit lentCells log))
 
 unfoldable pub lentLog : List ℕ
 lentLog = 1 ∷ 2 ∷ 3 ∷ 4 ∷ []

@@ -24,7 +24,8 @@ pub record Access : Type 0 where
   pub cell : ℕ
   pub kind : Kind
 
--- "The threads' own machine": two accesses of one cell by different threads race if one of them at least is a store. So two kinds are compatible if both only read.
+-- "The threads' own machine": two accesses of one cell by different threads race if one of them at least is a store.
+-- So two kinds are compatible if both only read.
 unfoldable pub compatible : Kind → Kind → Bool
 compatible load load = true
 compatible load (store w) = false

@@ -37,7 +37,8 @@ unfoldable pub isRelease : Move → Bool
 isRelease (row t) = false
 isRelease release = true
 
--- Every run does well: runs always come to an end, none ends badly (no race, no access outside), and none is stuck. In a table that is not refused, what is stuck has a thread left at a barrier.
+-- Every run does well: runs always come to an end, none ends badly (no race, no access outside), and none is stuck.
+-- In a table that is not refused, what is stuck has a thread left at a barrier.
 pub record EveryRunEndsWell (T : Table) (n : ℕ) (cells : List ℕ) : Type 0 where
   pub always : RunsAlwaysEnd (machineOf T n cells) (startOfRuns T n cells)
   pub neverBad : (ms : List Move) → RunOf T n cells ms → machineOf T n cells .Bad (leaves T n cells ms) → ⊥

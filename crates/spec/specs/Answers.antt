@@ -9,7 +9,9 @@ pub use Rattle.spec.specs.declared.Verdict.{Verdict}
 pub use Rattle.spec.specs.declared.Verdict.the-variants.{Passed, Race, Outside, Diverged, Spent}
 pub use Rattle.spec.specs.declared.Outcome.{Outcome}
 pub use Rattle.spec.specs.declared.Refusal.{Refusal}
-pub use Rattle.spec.specs.declared.Refusal.the-variants.{TableLength, TooManyRows, UnknownOp, BadOperand, Misplaced, TooDeep, LeftOpen, ThreadsOutOfRange, CellsOutOfRange, LimitOutOfRange, LineNotDue, FileTooLong, CellsLength, LogLength, ReportTooLong, ReportCells, OutputLength}
+pub use Rattle.spec.specs.declared.Refusal.the-variants.{TableLength, TooManyRows, UnknownOp, BadOperand, Misplaced, TooDeep, LeftOpen}
+pub use Rattle.spec.specs.declared.Refusal.the-variants.{ThreadsOutOfRange, CellsOutOfRange, LimitOutOfRange, LineNotDue, FileTooLong}
+pub use Rattle.spec.specs.declared.Refusal.the-variants.{CellsLength, LogLength, ReportTooLong, ReportCells, OutputLength}
 pub use Rattle.spec.specs.declared.Answer.{Answer}
 pub use Rattle.spec.specs.declared.Written.{Written}
 pub use Rattle.spec.specs.declared.Subject.{Subject}

@@ -1,6 +1,6 @@
 -- Worked launches: P1 to P8 of document 01, other launches that it names, and launches that tell its misreadings apart.
 -- P1's file and report are document 01's; the rest was worked out by hand from it. Assumes nothing.
-use mathlib.Core.List.{List, [], _∷_}
+use mathlib.Core.List.{List, [], _∷_, _++_}
 use mathlib.Core.Bool.{cond}
 use Prim.Native.Nat.{ℕ}
 use Prim.Native.String.{String}
@@ -26,13 +26,17 @@ unfoldable pub examples : List Worked
 examples =
     -- P1: thread 1 stores a cell that thread 0 has read
     record {
-      file = lines "kernel=1/threads=2/cells=3/limit=100/rows=7/row=2,0,0,0/row=1,1,1,0/row=4,2,0,1/row=16,3,2,0/row=16,4,0,0/row=4,3,3,4/row=17,0,3,0/cell=1/cell=1/cell=1/end=kernel";
+      file = lines "kernel=1/threads=2/cells=3/limit=100/rows=7"
+          ++ lines "row=2,0,0,0/row=1,1,1,0/row=4,2,0,1/row=16,3,2,0/row=16,4,0,0/row=4,3,3,4/row=17,0,3,0"
+          ++ lines "cell=1/cell=1/cell=1/end=kernel";
       report = lines "verdict=race/row=6/thread=1/other=0/kind=rw/at=1/rows=6/steps=13/barriers=0/cell=2/cell=1/cell=1/end=report";
       log = 1 ∷ 3 ∷ 2 ∷ 1 ∷ 0 ∷ 0 ∷ [];
     }
     -- P2: the same with a BARRIER between rows 3 and 4
     ∷ record {
-      file = lines "kernel=1/threads=2/cells=3/limit=100/rows=8/row=2,0,0,0/row=1,1,1,0/row=4,2,0,1/row=16,3,2,0/row=37,0,0,0/row=16,4,0,0/row=4,3,3,4/row=17,0,3,0/cell=1/cell=1/cell=1/end=kernel";
+      file = lines "kernel=1/threads=2/cells=3/limit=100/rows=8"
+          ++ lines "row=2,0,0,0/row=1,1,1,0/row=4,2,0,1/row=16,3,2,0/row=37,0,0,0/row=16,4,0,0/row=4,3,3,4/row=17,0,3,0"
+          ++ lines "cell=1/cell=1/cell=1/end=kernel";
       report = lines "verdict=passed/row=-/thread=-/other=-/kind=-/at=-/rows=8/steps=14/barriers=1/cell=2/cell=2/cell=1/end=report";
       log = 1 ∷ 2 ∷ 0 ∷ 1 ∷ 2 ∷ 0 ∷ [];
     }
@@ -73,18 +77,25 @@ examples =
     }
     -- P8: SLT of 2 ^ 31 and 0, into cell 0, and LT of the same, into cell 1
     ∷ record {
-      file = lines "kernel=1/threads=1/cells=2/limit=100/rows=9/row=1,1,0,128/row=1,2,0,1/row=6,2,2,2/row=6,1,1,2/row=14,3,1,0/row=13,4,1,0/row=17,0,3,0/row=1,5,1,0/row=17,5,4,0/cell=9/cell=9/end=kernel";
+      file = lines "kernel=1/threads=1/cells=2/limit=100/rows=9"
+          ++ lines "row=1,1,0,128/row=1,2,0,1/row=6,2,2,2/row=6,1,1,2/row=14,3,1,0/row=13,4,1,0/row=17,0,3,0/row=1,5,1,0/row=17,5,4,0"
+          ++ lines "cell=9/cell=9/end=kernel";
       report = lines "verdict=passed/row=-/thread=-/other=-/kind=-/at=-/rows=9/steps=9/barriers=0/cell=1/cell=0/end=report";
       log = 0 ∷ 0 ∷ 1 ∷ 1 ∷ [];
     }
     -- nesting 8, and the ninth IF of nesting 9
     ∷ record {
-      file = lines "kernel=1/threads=1/cells=1/limit=100/rows=16/row=32,0,0,0/row=32,0,0,0/row=32,0,0,0/row=32,0,0,0/row=32,0,0,0/row=32,0,0,0/row=32,0,0,0/row=32,0,0,0/row=34,0,0,0/row=34,0,0,0/row=34,0,0,0/row=34,0,0,0/row=34,0,0,0/row=34,0,0,0/row=34,0,0,0/row=34,0,0,0/cell=0/end=kernel";
+      file = lines "kernel=1/threads=1/cells=1/limit=100/rows=16"
+          ++ lines "row=32,0,0,0/row=32,0,0,0/row=32,0,0,0/row=32,0,0,0/row=32,0,0,0/row=32,0,0,0/row=32,0,0,0/row=32,0,0,0/row=34,0,0,0"
+          ++ lines "row=34,0,0,0/row=34,0,0,0/row=34,0,0,0/row=34,0,0,0/row=34,0,0,0/row=34,0,0,0/row=34,0,0,0"
+          ++ lines "cell=0/end=kernel";
       report = lines "verdict=passed/row=-/thread=-/other=-/kind=-/at=-/rows=16/steps=2/barriers=0/cell=0/end=report";
       log = 0 ∷ 0 ∷ [];
     }
     ∷ record {
-      file = lines "kernel=1/threads=1/cells=1/limit=100/rows=9/row=32,0,0,0/row=32,0,0,0/row=32,0,0,0/row=32,0,0,0/row=32,0,0,0/row=32,0,0,0/row=32,0,0,0/row=32,0,0,0/row=32,0,0,0/cell=0/end=kernel";
+      file = lines "kernel=1/threads=1/cells=1/limit=100/rows=9"
+          ++ lines "row=32,0,0,0/row=32,0,0,0/row=32,0,0,0/row=32,0,0,0/row=32,0,0,0/row=32,0,0,0/row=32,0,0,0/row=32,0,0,0/row=32,0,0,0"
+          ++ lines "cell=0/end=kernel";
       report = lines "refused=6/place=8/end=report";
       log = [];
     }
@@ -101,7 +112,11 @@ examples =
     }
     -- the two-loop barrier of source document 001: each thread comes to it four times, with other loop counts
     ∷ record {
-      file = lines "kernel=1/threads=2/cells=1/limit=100/rows=22/row=2,0,0,0/row=1,6,1,0/row=1,7,4,0/row=32,0,0,0/row=4,1,6,15/row=4,2,7,15/row=33,0,0,0/row=4,1,7,15/row=4,2,6,15/row=34,0,0,0/row=13,5,3,1/row=35,0,5,0/row=1,4,0,0/row=13,8,4,2/row=35,0,8,0/row=37,0,0,0/row=4,4,4,6/row=13,8,4,2/row=36,0,0,0/row=4,3,3,6/row=13,5,3,1/row=36,0,0,0/cell=0/end=kernel";
+      file = lines "kernel=1/threads=2/cells=1/limit=100/rows=22"
+          ++ lines "row=2,0,0,0/row=1,6,1,0/row=1,7,4,0/row=32,0,0,0/row=4,1,6,15/row=4,2,7,15/row=33,0,0,0/row=4,1,7,15/row=4,2,6,15/row=34,0,0,0"
+          ++ lines "row=13,5,3,1/row=35,0,5,0/row=1,4,0,0/row=13,8,4,2/row=35,0,8,0/row=37,0,0,0/row=4,4,4,6/row=13,8,4,2/row=36,0,0,0/row=4,3,3,6"
+          ++ lines "row=13,5,3,1/row=36,0,0,0"
+          ++ lines "cell=0/end=kernel";
       report = lines "verdict=diverged/row=15/thread=1/other=0/kind=-/at=-/rows=20/steps=33/barriers=1/cell=0/end=report";
       log = 0 ∷ 0 ∷ [];
     }
@@ -119,15 +134,17 @@ examples =
     }
     -- ELSE goes by what its IF enabled, though thread 1 has changed R0 since
     ∷ record {
-      file =
-          lines
-          "kernel=1/threads=2/cells=2/limit=100/rows=8/row=2,0,0,0/row=2,2,0,0/row=32,0,0,0/row=1,0,0,0/row=33,0,0,0/row=1,1,7,0/row=34,0,0,0/row=17,2,1,0/cell=9/cell=9/end=kernel";
+      file = lines "kernel=1/threads=2/cells=2/limit=100/rows=8"
+          ++ lines "row=2,0,0,0/row=2,2,0,0/row=32,0,0,0/row=1,0,0,0/row=33,0,0,0/row=1,1,7,0/row=34,0,0,0/row=17,2,1,0"
+          ++ lines "cell=9/cell=9/end=kernel";
       report = lines "verdict=passed/row=-/thread=-/other=-/kind=-/at=-/rows=8/steps=13/barriers=0/cell=7/cell=0/end=report";
       log = 0 ∷ 0 ∷ 1 ∷ 2 ∷ [];
     }
     -- thread 1 stores, then thread 0 loads in the ELSE part
     ∷ record {
-      file = lines "kernel=1/threads=2/cells=1/limit=100/rows=7/row=2,0,0,0/row=32,0,0,0/row=17,1,0,0/row=1,0,0,0/row=33,0,0,0/row=16,2,1,0/row=34,0,0,0/cell=4/end=kernel";
+      file = lines "kernel=1/threads=2/cells=1/limit=100/rows=7"
+          ++ lines "row=2,0,0,0/row=32,0,0,0/row=17,1,0,0/row=1,0,0,0/row=33,0,0,0/row=16,2,1,0/row=34,0,0,0"
+          ++ lines "cell=4/end=kernel";
       report = lines "verdict=race/row=5/thread=0/other=1/kind=wr/at=0/rows=5/steps=7/barriers=0/cell=1/end=report";
       log = 0 ∷ 2 ∷ [];
     }
@@ -139,13 +156,17 @@ examples =
     }
     -- a thread that has both read and written is met as a writer
     ∷ record {
-      file = lines "kernel=1/threads=3/cells=1/limit=100/rows=8/row=2,0,0,0/row=1,1,2,0/row=12,2,0,1/row=32,0,2,0/row=16,3,4,0/row=17,4,0,0/row=34,0,0,0/row=17,4,0,0/cell=4/end=kernel";
+      file = lines "kernel=1/threads=3/cells=1/limit=100/rows=8"
+          ++ lines "row=2,0,0,0/row=1,1,2,0/row=12,2,0,1/row=32,0,2,0/row=16,3,4,0/row=17,4,0,0/row=34,0,0,0/row=17,4,0,0"
+          ++ lines "cell=4/end=kernel";
       report = lines "verdict=race/row=7/thread=0/other=2/kind=ww/at=0/rows=7/steps=17/barriers=0/cell=2/end=report";
       log = 4 ∷ 4 ∷ [];
     }
     -- a loop that threads leave at different times, and the ADD behind it by all
     ∷ record {
-      file = lines "kernel=1/threads=3/cells=3/limit=100/rows=7/row=2,0,0,0/row=1,1,1,0/row=4,2,0,15/row=35,0,2,0/row=5,2,2,1/row=36,0,0,0/row=17,0,2,0/cell=7/cell=7/cell=7/end=kernel";
+      file = lines "kernel=1/threads=3/cells=3/limit=100/rows=7"
+          ++ lines "row=2,0,0,0/row=1,1,1,0/row=4,2,0,15/row=35,0,2,0/row=5,2,2,1/row=36,0,0,0/row=17,0,2,0"
+          ++ lines "cell=7/cell=7/cell=7/end=kernel";
       report = lines "verdict=passed/row=-/thread=-/other=-/kind=-/at=-/rows=11/steps=24/barriers=0/cell=0/cell=0/cell=0/end=report";
       log = 0 ∷ 0 ∷ 0 ∷ 1 ∷ 2 ∷ 4 ∷ [];
     }

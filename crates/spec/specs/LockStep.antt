@@ -148,7 +148,8 @@ ifRow x s =
 -- ELSE, after its steps, enables those of the saved mask that its IF did not: all but those that come to the ELSE enabled.
 unfoldable pub elseRow : LockState → LockState
 elseRow s =
-    advance (suc (s .row)) (minus (topMask (s .saved)) (s .enabled)) (record { opener = s .row; mask = topMask (s .saved) } ∷ pop (s .saved)) (countSteps (s .enabled) s)
+    advance (suc (s .row)) (minus (topMask (s .saved)) (s .enabled)) (record { opener = s .row; mask = topMask (s .saved) } ∷ pop (s .saved))
+    (countSteps (s .enabled) s)
 
 -- ENDIF first restores the saved mask, and then that steps.
 unfoldable pub endifRow : LockState → LockState

@@ -4,7 +4,8 @@ use mathlib.Core.Bool.{Bool, cond}
 use Prim.Native.Nat.{ℕ, _+_, _≤_}
 use lib.ListN.{length}
 
--- A machine: its states, its moves, which moves are possible where, what a move leaves, what an observer is shown at it, and its last states: those at which a run has come to its end, and those at which it has ended badly.
+-- A machine: its states, its moves, which moves are possible where, what a move leaves, what an observer is shown at it, and its last states:
+-- those at which a run has come to its end, and those at which it has ended badly.
 pub record Machine : Type 1 where
   pub State : Type 0
   pub Move : Type 0

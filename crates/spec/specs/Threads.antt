@@ -1,4 +1,5 @@
--- The threads' own machine: each thread has its row, registers and loop counts, and any thread may make the next move. "The threads' own machine". Assumes nothing.
+-- The threads' own machine: each thread has its row, registers and loop counts, and any thread may make the next move. "The threads' own machine".
+-- Assumes nothing.
 use mathlib.Core.Path.{_≡_}
 use mathlib.Core.List.{List, [], _∷_, _++_, map}
 use mathlib.Core.Bool.{Bool, true, false, cond, not, _&&_, _||_}
@@ -30,7 +31,8 @@ goto th r = record { row = r; regs = th .regs; loops = th .loops }
 unfoldable pub put : Thread → (d v : ℕ) → Thread
 put th d v = record { row = suc (th .row); regs = set (th .regs) d v; loops = th .loops }
 
--- What a thread's row does, alone: it waits (BARRIER, and the table's end), it goes on as another thread state, it reaches outside the cells, or it accesses cell c by kind k, d being the row's byte d.
+-- What a thread's row does, alone: it waits (BARRIER, and the table's end), it goes on as another thread state, it reaches outside the cells,
+-- or it accesses cell c by kind k, d being the row's byte d.
 pub data Effect : Type 0 where
   waits : Effect
   goes : Thread → Effect

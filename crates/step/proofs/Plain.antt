@@ -13,8 +13,8 @@ use Rattle.layout.specs.declared.Access.the-variants.{Done}
 use Rattle.layout.specs.declared.State.{State}
 use Rattle.layout.specs.declared.Next.{Next}
 use Rattle.layout.specs.declared.Next.the-variants as next
-use Rattle.layout.proofs.Memory.{Did}
-use Rattle.layout.proofs.Represents.{Represents, After, movedOn, accessed}
+use Rattle.layout.specs.Memory.{Did}
+use Rattle.layout.specs.Represents.{Represents, After, movedOn, accessed}
 use Rattle.layout.proofs.PlainRows.{plain-after}
 
 module _ (n : ℕ) (z : LockState) (s : State) (regs cells log saved openers : List ℕ) (R : Represents n z s regs cells log saved openers) (T : Table)

@@ -9,8 +9,8 @@ use Rattle.spec.specs.Op.{Calc, SET, TID, COUNT, ADD, SUB, MUL, AND, OR, XOR, S
 use Rattle.spec.specs.Table.{Row, rowOf, rowsOf, rowAt}
 use Rattle.spec.specs.LockStep.{LockState}
 use Rattle.layout.specs.declared.State.{State}
-use Rattle.layout.proofs.Memory.{ComputeAsks}
-use Rattle.layout.proofs.Represents.{Represents}
+use Rattle.layout.specs.Memory.{ComputeAsks}
+use Rattle.layout.specs.Represents.{Represents}
 
 -- A row of the table, by its four bytes.
 abbrev pub rowBytes : List ℕ → ℕ → Row

@@ -1,9 +1,9 @@
 // One row of the run: the op is told apart, and the row's own function does it.
 ghost use mathlib.Core.Path.{_≡_};
 ghost use Prim.Native.Nat.{_+_, _*_, _<_, _≤_};
-ghost use Rattle.layout.proofs.Memory.{AccessAsks};
-ghost use Rattle.layout.proofs.Represents.{Room, accessed};
-ghost use Rattle.layout.proofs.Running.{AccessDone, Ready, Steps};
+ghost use Rattle.layout.specs.Memory.{AccessAsks};
+ghost use Rattle.layout.specs.Represents.{Room, accessed};
+ghost use Rattle.layout.specs.Running.{AccessDone, Ready, Steps};
 
 fn index(x: u8) -> usize
     ensures { λ r. ⌜ (r ≡ x) × (r < 256) ⌝ }
@@ -53,7 +53,8 @@ fn access_row(
     s: layout::State,
 ) -> layout::Next
     requires { ⌜ Room s × (n ≤ 32) × AccessAsks op d a (now cells) (now log) ⌝ }
-    ensures { λ r. ⌜ AccessDone op n d a s (now (regs .entry)) (now (cells .entry)) (now (log .entry)) r (now (regs .exit)) (now (cells .exit)) (now (log .exit)) ⌝ }
+    ensures { λ r. ⌜ AccessDone op n d a s (now (regs .entry)) (now (cells .entry)) (now (log .entry)) r
+        (now (regs .exit)) (now (cells .exit)) (now (log .exit)) ⌝ }
 {
     after_access(memory::access_row(regs, cells, log, n, s.mask, op, d, a), s)
 }
@@ -71,7 +72,9 @@ pub fn step(
     s: layout::State,
 ) -> layout::Next
     requires { ⌜ Ready (now table) n s (now cells) (now log) (now openers) ⌝ }
-    ensures { λ r. ⌜ Steps (now (table .entry)) (now (ends .entry)) n s (now (regs .entry)) (now (cells .entry)) (now (log .entry)) (now (saved .entry)) (now (openers .entry)) r (now (regs .exit)) (now (cells .exit)) (now (log .exit)) (now (saved .exit)) (now (openers .exit)) ⌝ }
+    ensures { λ r. ⌜ Steps (now (table .entry)) (now (ends .entry)) n s
+        (now (regs .entry)) (now (cells .entry)) (now (log .entry)) (now (saved .entry)) (now (openers .entry)) r
+        (now (regs .exit)) (now (cells .exit)) (now (log .exit)) (now (saved .exit)) (now (openers .exit)) ⌝ }
 {
     let row = s.row;
     let op = table[row * 4];

@@ -49,7 +49,14 @@ sort WHILE = part refl refl isWhile
 sort ENDWHILE = part refl refl isEndwhile
 sort BARRIER = outside (record { alone = refl; fitting = λ os. refl; flat = λ os. refl; keeping = λ r os. refl; known = λ n. refl; anywhere = λ k i. tt })
 sort UNKNOWN =
-    outside (record { alone = refl; fitting = λ os. refl; flat = λ os. refl; keeping = λ r os. refl; known = λ n. absurd (n refl); anywhere = λ k i. absurd (false≢true k) })
+    outside (record {
+      alone = refl;
+      fitting = λ os. refl;
+      flat = λ os. refl;
+      keeping = λ r os. refl;
+      known = λ n. absurd (n refl);
+      anywhere = λ k i. absurd (false≢true k);
+    })
 
 -- The grammar says of a plain row only its role.
 pub plain-of-role : (op : Op) → role op ≡ plain → Plain op

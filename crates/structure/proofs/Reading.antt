@@ -86,7 +86,13 @@ grow x p divides rows l m =
           };
     }
 grow x p closes rows l m =
-    record { front = Body.empty; rest = x ∷ rows; split = refl; deep = omega arith; after = record { front = at x p; rest = rows; split = refl; deep = omega arith; after = m } }
+    record {
+      front = Body.empty;
+      rest = x ∷ rows;
+      split = refl;
+      deep = omega arith;
+      after = record { front = at x p; rest = rows; split = refl; deep = omega arith; after = m };
+    }
 
 reads : {rows : Table} {r : ℕ} {os : List Open} → Nests rows r os → length os ≤ maxNesting → Reads os rows
 unfolding bodyRows bodyDepth

@@ -32,7 +32,8 @@ mutual
       (regroup (bodyRows b) (z ∷ []) rest (body-nests b (z ∷ rest) (suc r) (inThen r ∷ os) (omega arith) (λ i. row q closes (n (suc i)))))
   construct-nests (ifElse x p b y q c z e) rest r os l n =
       row p (opens {os = os} startsIf (omega arith))
-      (regroup (bodyRows b) (y ∷ (bodyRows c ++ (z ∷ []))) rest (body-nests b (y ∷ ((bodyRows c ++ (z ∷ [])) ++ rest)) (suc r) (inThen r ∷ os) (omega arith) (λ i.
+      (regroup (bodyRows b) (y ∷ (bodyRows c ++ (z ∷ []))) rest
+      (body-nests b (y ∷ ((bodyRows c ++ (z ∷ [])) ++ rest)) (suc r) (inThen r ∷ os) (omega arith) (λ i.
       row q divides
       (regroup (bodyRows c) (z ∷ []) rest (body-nests c (z ∷ rest) (suc i) (inElse r ∷ os) (omega arith) (λ j. row e closes (n (suc j))))))))
   construct-nests (while x p b z q) rest r os l n =

@@ -12,7 +12,7 @@ use lib.Seq.{drop-cons}
 use Rattle.spec.specs.Mask.{Mask, maskWord, minus, holding, nonzero}
 use Rattle.masks.proofs.Bits.{one-bit}
 use Rattle.masks.proofs.Words.{word-lt, word-minus}
-use Rattle.layout.proofs.Memory.{Regs, zeros, ZerosAre}
+use Rattle.layout.specs.Memory.{Regs, zeros, ZerosAre}
 
 snoc : (m : Mask) (c : Bool) → maskWord (m ++ (c ∷ [])) ≡ maskWord m + cond c (2 ^ length m) 0
 unfolding maskWord

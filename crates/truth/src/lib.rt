@@ -1,6 +1,6 @@
 // Which threads find a register true.
 ghost use Prim.Native.Nat.{_<_};
-ghost use Rattle.layout.proofs.Memory.{ZerosAre, HoldingIs};
+ghost use Rattle.layout.specs.Memory.{ZerosAre, HoldingIs};
 
 // The lanes in which register a is 0, as a word: a straight loop over all 32.
 fn zero_lanes(regs: &[u32; 512], a: usize) -> u32

@@ -8,7 +8,7 @@ use lib.ListN.{length}
 use Rattle.spec.specs.Op.{Mem, MEM, opOf}
 use Rattle.spec.specs.Table.{Row}
 use Rattle.spec.specs.LockStep.{accessTurn}
-use Rattle.layout.proofs.Memory.{OneTurn}
+use Rattle.layout.specs.Memory.{OneTurn}
 use Rattle.layout.proofs.Turning.{Turns, turn-start, turn-whole, go-in, go-out, go-stop}
 use Rattle.masks.proofs.Bits.{next-bit}
 use Rattle.memory.proofs.access_row.Statement.{statement}

@@ -3,7 +3,7 @@ use mathlib.Core.Path.{_≡_, refl, _∙_, subst}
 use Prim.Native.Nat.{_-_}
 use native.Mathlib.Omega.{arith}
 use lib.ListN.{length}
-use Rattle.layout.proofs.Represents.{Counts}
+use Rattle.layout.specs.Represents.{Counts}
 use Rattle.run.proofs.Going.{Going, go-start, go-row, go-passed, go-spent, go-next, go-stop, go-stop-row, go-ready}
 use Rattle.run.proofs.run.Statement.{statement}
 use Rattle.run.proofs.run.Tie as tie

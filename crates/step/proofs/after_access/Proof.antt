@@ -1,6 +1,6 @@
 use mathlib.Core.Path.{sym, ap, _∙_}
 use Rattle.layout.specs.declared.Next.the-variants as next
-use Rattle.layout.proofs.Represents.{accessed}
+use Rattle.layout.specs.Represents.{accessed}
 use borrow.Author.Needs.{needs}
 use Rattle.step.proofs.after_access.Statement.{statement}
 use Rattle.step.proofs.after_access.Tie as tie

@@ -4,7 +4,7 @@ use native.Mathlib.Omega.{arith}
 use lib.ListN.{length, getD}
 use Rattle.spec.specs.Table.{rowsOf, rowAt, endOf}
 use Rattle.layout.proofs.PlainRows.{counted-moved}
-use Rattle.layout.proofs.Running.{shapeBy}
+use Rattle.layout.specs.Running.{shapeBy}
 use Rattle.constructs.proofs.Arms.{barrier-arm}
 use Rattle.step.proofs.Tables.{compute-op, compute-asks, row-here}
 use Rattle.step.proofs.Plain.{compute-after}

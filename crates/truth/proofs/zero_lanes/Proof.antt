@@ -4,7 +4,7 @@ use mathlib.Core.Logic.{⊎-elim}
 use Prim.Native.Nat.{ℕ, _-_, _≤_}
 use native.Mathlib.Omega.{arith}
 use borrow.Author.Needs.{needs}
-use Rattle.layout.proofs.Memory.{ZerosAre}
+use Rattle.layout.specs.Memory.{ZerosAre}
 use Rattle.truth.proofs.Zeros.{none-yet, lane-left, lane-zero}
 use Rattle.truth.proofs.zero_lanes.Statement.{statement}
 use Rattle.truth.proofs.zero_lanes.Tie as tie

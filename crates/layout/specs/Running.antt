@@ -14,8 +14,8 @@ use Rattle.spec.specs.Log.{logWords}
 use Rattle.spec.specs.LockStep.{LockState, runRow, LockResult, outcomeOf}
 use Rattle.layout.specs.declared.State.{State}
 use Rattle.layout.specs.declared.Next.{Next}
-use Rattle.layout.proofs.Memory.{ComputeAsks}
-use Rattle.layout.proofs.Represents.{Represents, After, Counts, Room, DepthAsks}
+use Rattle.layout.specs.Memory.{ComputeAsks}
+use Rattle.layout.specs.Represents.{Represents, After, Counts, Room, DepthAsks}
 
 -- What the bytes of a row ask.
 pub record RowAsks (op d a b : ℕ) : Type 0 where

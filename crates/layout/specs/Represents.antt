@@ -15,7 +15,7 @@ use Rattle.layout.specs.declared.Access.the-variants.{Done, Stop}
 use Rattle.layout.specs.declared.State.{State}
 use Rattle.layout.specs.declared.Next.{Next}
 use Rattle.layout.specs.declared.Next.the-variants as next
-use Rattle.layout.proofs.Memory.{Memory}
+use Rattle.layout.specs.Memory.{Memory}
 
 -- The saved masks: the innermost is the last below the depth.
 abbrev pub Saves : ℕ → List Saved → (saved openers : List ℕ) → Type 0

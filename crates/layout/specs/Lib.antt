@@ -1,0 +1,4 @@
+pub mod Memory
+pub mod Logging
+pub mod Represents
+pub mod Running
