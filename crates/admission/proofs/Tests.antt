@@ -6,7 +6,8 @@ use Prim.Native.Nat.{ℕ, _*_, _/_, _%_, _<_, _≤_}
 use native.Mathlib.Omega.{arith}
 use borrow.Author.Tests.{eq-eqb, ne-eqb, le-leb, lt-leb}
 use lib.Dec.{leb}
-use Rattle.spec.specs.declared.Refusal.the-variants.{TableLength, TooManyRows, ThreadsOutOfRange, CellsOutOfRange, LimitOutOfRange, CellsLength, LogLength, OutputLength}
+use Rattle.spec.specs.declared.Refusal.the-variants.{TableLength, TooManyRows, ThreadsOutOfRange, CellsOutOfRange, LimitOutOfRange, CellsLength}
+use Rattle.spec.specs.declared.Refusal.the-variants.{LogLength, OutputLength}
 use Rattle.spec.specs.Entries.{bareNumbers, bareLent, fileLent}
 use Rattle.admission.proofs.Answers.{fails, holds, ends}
 
@@ -37,18 +38,21 @@ module _ (bytes threads cells limit : ℕ) where
       module _ (q : not w ≡ false) (v : Bool) (ev : v ≡ (leb 1 cells && leb cells 1024)) where
         pub bad-cells : not v ≡ true → some (CellsOutOfRange 0) ≡ bareNumbers bytes threads cells limit
         unfolding bareNumbers
-        bad-cells r = sym (holds _ _ _ (eq-eqb (bytes % 4) 0 e) ∙ holds _ _ _ (le-leb (bytes / 4) 256 h) ∙ holds _ _ _ (yes-by w _ ew q) ∙ fails _ _ _ (no-by v _ ev r))
+        bad-cells r =
+            sym (holds _ _ _ (eq-eqb (bytes % 4) 0 e) ∙ holds _ _ _ (le-leb (bytes / 4) 256 h) ∙ holds _ _ _ (yes-by w _ ew q) ∙ fails _ _ _ (no-by v _ ev r))
 
         module _ (r : not v ≡ false) where
           pub bad-limit : 1000000 < limit → some (LimitOutOfRange 0) ≡ bareNumbers bytes threads cells limit
           unfolding bareNumbers
           bad-limit l =
-              sym (holds _ _ _ (eq-eqb (bytes % 4) 0 e) ∙ holds _ _ _ (le-leb (bytes / 4) 256 h) ∙ holds _ _ _ (yes-by w _ ew q) ∙ holds _ _ _ (yes-by v _ ev r) ∙ fails _ _ _ (lt-leb limit 1000000 l))
+              sym (holds _ _ _ (eq-eqb (bytes % 4) 0 e) ∙ holds _ _ _ (le-leb (bytes / 4) 256 h) ∙ holds _ _ _ (yes-by w _ ew q)
+              ∙ holds _ _ _ (yes-by v _ ev r) ∙ fails _ _ _ (lt-leb limit 1000000 l))
 
           pub all-fine : limit ≤ 1000000 → none ≡ bareNumbers bytes threads cells limit
           unfolding bareNumbers
           all-fine l =
-              sym (holds _ _ _ (eq-eqb (bytes % 4) 0 e) ∙ holds _ _ _ (le-leb (bytes / 4) 256 h) ∙ holds _ _ _ (yes-by w _ ew q) ∙ holds _ _ _ (yes-by v _ ev r) ∙ holds _ _ _ (le-leb limit 1000000 l) ∙ ends)
+              sym (holds _ _ _ (eq-eqb (bytes % 4) 0 e) ∙ holds _ _ _ (le-leb (bytes / 4) 256 h) ∙ holds _ _ _ (yes-by w _ ew q)
+              ∙ holds _ _ _ (yes-by v _ ev r) ∙ holds _ _ _ (le-leb limit 1000000 l) ∙ ends)
 
 module _ (cells k held logged : ℕ) (ek : k ≡ cells) where
   pub bad-held : (held ≡ k → ⊥) → some CellsLength ≡ bareLent cells held logged

@@ -37,7 +37,8 @@ code-at : (o : Outcome) (k : ℕ) → k < 9 → valueCode (getD (runValues o) k 
 unfolding runValues valuesOf outcomeWords valueCode blank
 code-at o k h =
     let value : Line → Value = λ l. l .value in
-    ap valueCode (List·getD-append (map value (headLines o)) _ _ k (omega (arith, length-map (headLines o) value, head-many o)) ∙ List·getD-map value (headLines o) k blank)
+    ap valueCode (List·getD-append (map value (headLines o)) _ _ k (omega (arith, length-map (headLines o) value, head-many o))
+    ∙ List·getD-map value (headLines o) k blank)
     ∙ sym (List·getD-map (λ (l : Line). valueCode (l .value)) (headLines o) k blank)
 
 pub all-coded : (o : Outcome) (values : List Value) (i : ℕ) (words : List ℕ) → Coded values i words → i ≡ 9 → values ≡ runValues o → words ≡ outcomeWords o

@@ -70,7 +70,8 @@ kindFrom code = cond (eqb code 1) ReadWrite (cond (eqb code 2) WriteRead WriteWr
 
 unfoldable pub verdictFrom : (code thread other kind at : ℕ) → Verdict
 verdictFrom code thread other kind at =
-    cond (eqb code 1) Passed (cond (eqb code 2) (Race thread other (kindFrom kind) at) (cond (eqb code 3) (Outside thread at) (cond (eqb code 4) (Diverged thread other) Spent)))
+    cond (eqb code 1) Passed
+    (cond (eqb code 2) (Race thread other (kindFrom kind) at) (cond (eqb code 3) (Outside thread at) (cond (eqb code 4) (Diverged thread other) Spent)))
 
 unfoldable pub outcomeFrom : List ℕ → Outcome
 outcomeFrom ws =

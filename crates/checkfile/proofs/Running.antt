@@ -29,11 +29,13 @@ accepted o cells output some few room fits =
     let right = cells-right o cells some few in
     fitting (ran o) cells output (length (reportOf (ran o) cells)) right refl (omega (arith, fits right))
 
-wrote : (o : Outcome) (cells output : List ℕ) → writerRefusal (ran o) cells output ≡ none → writerAnswer (ran o) cells output ≡ Wrote (length (runReport o cells))
+wrote : (o : Outcome) (cells output : List ℕ) → writerRefusal (ran o) cells output ≡ none
+    → writerAnswer (ran o) cells output ≡ Wrote (length (runReport o cells))
 unfolding writerAnswer writtenOf reportOf
 wrote o cells output e = ap (λ (x : Option Refusal). writtenOf x (length (runReport o cells))) e
 
-written : (o : Outcome) (cells output : List ℕ) → writerRefusal (ran o) cells output ≡ none → writerBuffer (ran o) cells output ≡ over (runReport o cells) output
+written : (o : Outcome) (cells output : List ℕ) → writerRefusal (ran o) cells output ≡ none
+    → writerBuffer (ran o) cells output ≡ over (runReport o cells) output
 unfolding writerBuffer keptIf reportOf
 written o cells output e = ap (λ (x : Option Refusal). keptIf x output (over (runReport o cells) output)) e
 
@@ -42,7 +44,8 @@ module _ (table ends : List ℕ) (threads limit : ℕ) (words cells log output :
   placed-length placed p = ap length p ∙ over-length words cells (omega (arith, asks .fewCells, asks .cellsLent))
 
   -- The buffers: the words placed, the fronts that the run gave back, the report written.
-  module _ (placed ys zs out : List ℕ) (o : Outcome) (r : Written) (p : placed ≡ over words cells) (ly : length ys ≡ length words) (lz : length zs ≡ 2 * length words) where
+  module _ (placed ys zs out : List ℕ) (o : Outcome) (r : Written) (p : placed ≡ over words cells) (ly : length ys ≡ length words)
+      (lz : length zs ≡ 2 * length words) where
     abbrev launch : Launch
     launch = launchOf table threads limit words
 
@@ -54,14 +57,18 @@ module _ (table ends : List ℕ) (threads limit : ℕ) (words cells log output :
         → ReportedLaunch launch cells log output r (ys ++ drop (length words) placed) (zs ++ drop (2 * length words) log) out
     unfolding launchRun launchReport
     reported run report =
-        let same : lockstep (rowsOf table) threads (take (length words) placed) limit ≡ launchRun launch = ap (λ (w : List ℕ). lockstep (rowsOf table) threads w limit) (front-of words cells placed p) in
+        let same : lockstep (rowsOf table) threads (take (length words) placed) limit ≡ launchRun launch = ap
+        (λ (w : List ℕ). lockstep (rowsOf table) threads w limit) (front-of words cells placed p) in
         let kept : front ≡ ys = front-kept (length words) ys _ ly in
         let few : length front ≡ length words = ap length kept ∙ ly in
         let none = accepted o front output (omega (arith, few, asks .someCell)) (omega (arith, few, asks .fewCells)) (asks .outputLent) (report .1 .1) in
-        let whole : runReport o front ≡ launchReport launch = ap₂ runReport (run .outcome-is ∙ ap outcomeOf same) (kept ∙ run .cells-are ∙ ap (λ (x : LockResult). x .state .cells) same) in
+        let whole : runReport o front ≡ launchReport launch = ap₂ runReport (run .outcome-is ∙ ap outcomeOf same)
+        (kept ∙ run .cells-are ∙ ap (λ (x : LockResult). x .state .cells) same) in
         record {
           answered = report .0 ∙ wrote o front output none ∙ ap (λ (w : List ℕ). Wrote (length w)) whole;
-          cells-left = given-back-over words ys cells placed p ly ∙ ap (λ (w : List ℕ). over w cells) (run .cells-are ∙ ap (λ (x : LockResult). x .state .cells) same);
-          log-left = given-back (2 * length words) zs log lz ∙ ap (λ (w : List ℕ). over w log) (run .log-is ∙ ap (λ (x : LockResult). logWords (x .state .log)) same);
+          cells-left = given-back-over words ys cells placed p ly
+              ∙ ap (λ (w : List ℕ). over w cells) (run .cells-are ∙ ap (λ (x : LockResult). x .state .cells) same);
+          log-left = given-back (2 * length words) zs log lz
+              ∙ ap (λ (w : List ℕ). over w log) (run .log-is ∙ ap (λ (x : LockResult). logWords (x .state .log)) same);
           report-written = report .1 .0 ∙ written o front output none ∙ ap (λ (w : List ℕ). over w output) whole;
         }

@@ -17,7 +17,8 @@ use Rattle.spec.specs.Table.{rowsOf}
 use Rattle.spec.specs.TableCheck.{tableRefusal}
 use Rattle.spec.specs.Log.{logWords}
 use Rattle.spec.specs.LaunchFile.{Launch, Read, stop, read, refused, accepted, unlessRefused, checkedTable, fileLaunch}
-use Rattle.spec.specs.Entries.{fileLent, andState, fileChecked, launchRun, launchReport, reportLength, ifAccepted, fileAnswer, fileCellsAfter, fileLogAfter, fileOutputAfter}
+use Rattle.spec.specs.Entries.{fileLent, andState, fileChecked, launchRun, launchReport, reportLength, ifAccepted, fileAnswer, fileCellsAfter}
+use Rattle.spec.specs.Entries.{fileLogAfter, fileOutputAfter}
 use Rattle.spec.specs.Demands.{FileDemand3}
 use Rattle.structure.proofs.Refusals.{unless-none, orElse-none}
 use Rattle.allruns.proofs.Launches.{file-demand3}
@@ -116,7 +117,8 @@ module _ (file cells log output : List ℕ) where
   abbrev pub Entry : Written → (cells′ log′ output′ : List ℕ) → Type 0
   Entry r cells′ log′ output′ =
       (r ≡ fileAnswer file cells log output)
-      × ((cells′ ≡ fileCellsAfter file cells log output) × ((log′ ≡ fileLogAfter file cells log output) × ((output′ ≡ fileOutputAfter file cells log output) × FileDemand3 file)))
+      × ((cells′ ≡ fileCellsAfter file cells log output)
+      × ((log′ ≡ fileLogAfter file cells log output) × ((output′ ≡ fileOutputAfter file cells log output) × FileDemand3 file)))
 
   abbrev byState : Option Refusal
   byState = fileLent (length cells) (length log) (length output)

@@ -13,7 +13,8 @@ use Rattle.spec.specs.declared.Subject.the-variants as subject
 use Rattle.spec.specs.Answers.{unless, orElse, first, refusalNumber, refusalPlace}
 use Rattle.spec.specs.LaunchFile.{Launch, Checked, refused, accepted, unlessRefused, fileLaunch}
 use Rattle.spec.specs.Report.{refusalReport, reportOf}
-use Rattle.spec.specs.Entries.{over, writerRefusal, writtenOf, writerAnswer, writerBuffer, keptIf, fileLent, andState, fileChecked, launchReport, reportLength, ifAccepted, fileAnswer, fileOutputAfter, printed, checkPrints}
+use Rattle.spec.specs.Entries.{over, writerRefusal, writtenOf, writerAnswer, writerBuffer, keptIf, fileLent, andState, fileChecked, launchReport}
+use Rattle.spec.specs.Entries.{reportLength, ifAccepted, fileAnswer, fileOutputAfter, printed, checkPrints}
 use Rattle.reportlines.proofs.Writing.{over-length}
 use Rattle.report.specs.Subjects.{FitsOutput}
 use Rattle.report.proofs.Entry.{no-cells-asked, fitting}
@@ -39,12 +40,15 @@ unfolding over
 over-fits w xs l e h = omega (arith, h, ap length e, length-append w (drop (length w) xs), length-drop (length w) xs)
 
 -- The report of a refusal: it is asked for no cells, and it has room.
-module _ (why : Refusal) (number place : ℕ) (en : number ≡ refusalNumber why) (ep : place ≡ refusalPlace why) (cells output out : List ℕ) (r : Written) (room : 17408 ≤ length output) where
+module _ (why : Refusal) (number place : ℕ) (en : number ≡ refusalNumber why) (ep : place ≡ refusalPlace why) (cells output out : List ℕ)
+    (r : Written) (room : 17408 ≤ length output) where
   abbrev text : List ℕ
   text = refusalReport (refusalNumber why) (refusalPlace why)
 
   abbrev Told : Type 0
-  Told = (r ≡ writerAnswer (subject.Refused number place) cells output) × ((out ≡ writerBuffer (subject.Refused number place) cells output) × FitsOutput (subject.Refused number place) cells)
+  Told =
+      (r ≡ writerAnswer (subject.Refused number place) cells output)
+      × ((out ≡ writerBuffer (subject.Refused number place) cells output) × FitsOutput (subject.Refused number place) cells)
 
   same-text : reportOf (subject.Refused number place) cells ≡ text
   unfolding reportOf
@@ -54,7 +58,8 @@ module _ (why : Refusal) (number place : ℕ) (en : number ≡ refusalNumber why
   short t = omega (arith, ap length same-text, t .1 .1 (no-cells-asked number place cells))
 
   taken : Told → writerRefusal (subject.Refused number place) cells output ≡ none
-  taken t = fitting (subject.Refused number place) cells output (length text) (no-cells-asked number place cells) (ap length (sym same-text)) (omega (arith, short t))
+  taken t =
+      fitting (subject.Refused number place) cells output (length text) (no-cells-asked number place cells) (ap length (sym same-text)) (omega (arith, short t))
 
   wrote : Told → r ≡ Wrote (length text)
   unfolding writerAnswer writtenOf
@@ -86,7 +91,8 @@ module _ (file cells log output : List ℕ) (c : length cells ≡ 1024) (l : len
   unfolding fileChecked
   checked = by-file (fileLaunch file) (fileLent (length cells) (length log) (length output)) lent
 
-  module _ (r : Written) (out : List ℕ) (long : length out ≡ length output) (answer : r ≡ fileAnswer file cells log output) (buffer : out ≡ fileOutputAfter file cells log output) where
+  module _ (r : Written) (out : List ℕ) (long : length out ≡ length output) (answer : r ≡ fileAnswer file cells log output)
+      (buffer : out ≡ fileOutputAfter file cells log output) where
     size-told : r ≡ reportLength (fileLaunch file)
     unfolding fileAnswer
     size-told = answer ∙ ap reportLength checked
@@ -117,7 +123,8 @@ module _ (file cells log output : List ℕ) (c : length cells ≡ 1024) (l : len
 
     -- The refusal's report is written over the output as it was lent.
     pub refusal-printed : (why : Refusal) (size : ℕ) (last : List ℕ) → r ≡ Refused why
-        → (size ≡ length (refusalReport (refusalNumber why) (refusalPlace why))) × ((last ≡ over (refusalReport (refusalNumber why) (refusalPlace why)) out) × (size ≤ 17408))
+        → (size ≡ length (refusalReport (refusalNumber why) (refusalPlace why)))
+        × ((last ≡ over (refusalReport (refusalNumber why) (refusalPlace why)) out) × (size ≤ 17408))
         → (size ≡ length (checkPrints file)) × ((last ≡ over (checkPrints file) output) × (size ≤ length last))
     unfolding checkPrints
     refusal-printed why size last w t =

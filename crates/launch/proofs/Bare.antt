@@ -52,7 +52,8 @@ fine bytes threads cells limit e =
       fewRows = leb-true _ _ (unless-none _ _ .0 (f .0));
     }
 
-pub readable : (table : List ℕ) (threads cells limit : ℕ) → bareNumbers (length table) threads cells limit ≡ none → (length table % 4 ≡ 0) × (length table ≤ 4 * 256)
+pub readable : (table : List ℕ) (threads cells limit : ℕ) → bareNumbers (length table) threads cells limit ≡ none
+    → (length table % 4 ≡ 0) × (length table ≤ 4 * 256)
 readable table threads cells limit e = let f = fine (length table) threads cells limit e in (f .fours, omega (arith, f .fours, f .rows))
 
 pub lent-is : (cells held logged : ℕ) → bareLent cells held logged ≡ none → (held ≡ cells) × (logged ≡ 2 * cells)
@@ -70,7 +71,8 @@ module _ (table : List ℕ) (threads count limit : ℕ) (cells log : List ℕ) w
   abbrev pub Entry : Answer → (cells′ log′ : List ℕ) → Type 0
   Entry r cells′ log′ =
       (r ≡ bareAnswer table threads count limit cells log)
-      × ((cells′ ≡ bareCells table threads count limit cells log) × ((log′ ≡ bareLog table threads count limit cells log) × BareDemand3 table threads count limit cells log))
+      × ((cells′ ≡ bareCells table threads count limit cells log)
+      × ((log′ ≡ bareLog table threads count limit cells log) × BareDemand3 table threads count limit cells log))
 
   refused : (why : Refusal) → refusal ≡ some why → Entry (answer.Refused why) cells log
   unfolding bareAnswer bareCells bareLog answerOf keptIf
@@ -103,13 +105,17 @@ module _ (table : List ℕ) (threads count limit : ℕ) (cells log : List ℕ) w
   unfolding bareRefusal
   state-refuses why n t e = refused why (passed byNumbers _ n ∙ passed byTable _ t ∙ found byState why _ e)
 
-  pub ran : (o : Outcome) (cells′ log′ : List ℕ) → byNumbers ≡ none → byTable ≡ none → byState ≡ none → RunIs (lockstep (rowsOf table) threads cells limit) o cells′ log′ → Entry (answer.Ran o) cells′ log′
+  pub ran : (o : Outcome) (cells′ log′ : List ℕ) → byNumbers ≡ none → byTable ≡ none → byState ≡ none
+      → RunIs (lockstep (rowsOf table) threads cells limit) o cells′ log′ → Entry (answer.Ran o) cells′ log′
   unfolding bareRefusal bareAnswer bareCells bareLog answerOf keptIf bareRun
   ran o cells′ log′ n t s R =
       let e : refusal ≡ none = passed byNumbers _ n ∙ passed byTable _ t ∙ passed byState _ s ∙ ends in (
         ap answer.Ran (R .outcome-is) ∙ sym (ap (λ x. answerOf x (outcomeOf (bareRun table threads limit cells))) e),
         (
           R .cells-are ∙ sym (ap (λ x. keptIf x cells (bareRun table threads limit cells .state .cells)) e),
-          (R .log-is ∙ sym (ap (λ x. keptIf x log (logWords (bareRun table threads limit cells .state .log))) e), bare-demand3 table threads count limit cells log),
+          (
+            R .log-is ∙ sym (ap (λ x. keptIf x log (logWords (bareRun table threads limit cells .state .log))) e),
+            bare-demand3 table threads count limit cells log,
+          ),
         ),
       )

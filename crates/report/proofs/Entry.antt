@@ -55,8 +55,9 @@ pub turned-back : (what : Subject) (cells out : List ℕ) (r : Refusal) → writ
 unfolding writerAnswer writtenOf writerBuffer keptIf
 turned-back what cells out r e f = (rw e refl, (rw e refl, f))
 
-pub taken : (what : Subject) (cells out l : List ℕ) (n : ℕ) → writerRefusal what cells out ≡ none → n ≡ length (reportOf what cells) → l ≡ over (reportOf what cells) out
-    → FitsOutput what cells → (written.Wrote n ≡ writerAnswer what cells out) × ((l ≡ writerBuffer what cells out) × FitsOutput what cells)
+pub taken : (what : Subject) (cells out l : List ℕ) (n : ℕ) → writerRefusal what cells out ≡ none → n ≡ length (reportOf what cells)
+    → l ≡ over (reportOf what cells) out → FitsOutput what cells
+    → (written.Wrote n ≡ writerAnswer what cells out) × ((l ≡ writerBuffer what cells out) × FitsOutput what cells)
 unfolding writerAnswer writtenOf writerBuffer keptIf
 taken what cells out l n e en el f = (rw e (ap written.Wrote en), (rw e el, f))
 
@@ -65,7 +66,9 @@ pub cells-refused : (what : Subject) (cells out : List ℕ) (r : Refusal) → ce
     → (written.Refused r ≡ writerAnswer what cells out) × ((out ≡ writerBuffer what cells out) × FitsOutput what cells)
 unfolding writerRefusal first orElse
 cells-refused what cells out r e =
-    turned-back what cells out r (ap (λ (x : Option Refusal). orElse x (first (unless (leb (length (reportOf what cells)) (length out)) (ReportTooLong (length (reportOf what cells))) ∷ []))) e)
+    turned-back what cells out r
+    (ap (λ (x : Option Refusal). orElse x
+    (first (unless (leb (length (reportOf what cells)) (length out)) (ReportTooLong (length (reportOf what cells))) ∷ []))) e)
     (λ q. absurd (Option·none-ne-some r (sym q ∙ e)))
 
 pub fits : (what : Subject) (cells : List ℕ) (n : ℕ) → n ≡ length (reportOf what cells) → n ≤ 17408 → FitsOutput what cells

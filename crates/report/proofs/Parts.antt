@@ -46,6 +46,7 @@ unfolding over
 nothing xs = started (omega arith) refl refl
 
 -- A refusal's report is the last lines of the table.
-pub refusal-part : (number place : ℕ) (values : List Value) → values ≡ refusalValues number place → bytesOf (tableLines values 9 3) ≡ reportOf (refused number place) []
+pub refusal-part : (number place : ℕ) (values : List Value) → values ≡ refusalValues number place
+    → bytesOf (tableLines values 9 3) ≡ reportOf (refused number place) []
 unfolding reportOf refusalReport
 refusal-part number place values e = ap (λ (v : List Value). bytesOf (tableLines v 9 3)) e ∙ ap bytesOf (refusal-listed number place)

@@ -39,7 +39,8 @@ put-behind xs l ys v w at e el ey =
     let lent : take (length l - at) (drop at l) ≡ drop at xs = take-all (length l - at) (drop at l) (simp length-drop (omega arith)) ∙ behind v xs l at e el in
     let none : drop (length l - at) (drop at l) ≡ [] = drop-of-length-le (drop at l) {i = length l - at} (simp length-drop (omega arith)) in
     let front : take at l ≡ v = ap (take at) el ∙ take-at v (drop (length v) xs) at (sym e) in
-    let mid : ys ≡ w ++ drop (at + length w) xs = ey ∙ ap (λ (p : List ℕ). w ++ drop (length w) p) lent ∙ ap (λ (p : List ℕ). w ++ p) (drop-drop (length w) at xs) in
+    let mid : ys ≡ w ++ drop (at + length w) xs = ey ∙ ap (λ (p : List ℕ). w ++ drop (length w) p) lent
+    ∙ ap (λ (p : List ℕ). w ++ p) (drop-drop (length w) at xs) in
     ap₂ (λ (f p : List ℕ). f ++ p) front (ap₂ (λ (y z : List ℕ). y ++ z) mid none ∙ append-nil (w ++ drop (at + length w) xs)) ∙ joined v w xs at e
 
 set-behind : (xs l v : List ℕ) (at b : ℕ) → at ≡ length v → l ≡ over v xs → length v < length xs → set l at b ≡ over (v ++ (b ∷ [])) xs
@@ -74,7 +75,11 @@ room {xs} {l} {v} {at} w s h = rw (take-all (length l - at) (drop at l) (simp le
 pub onward : {xs l v : List ℕ} {at n : ℕ} (w ys : List ℕ) → Stands xs l v at → at + length w ≤ length xs → n ≡ length w
     → ys ≡ over w (part at l) → Stands xs (back at l ys) (v ++ w) (at + n)
 onward {xs} {l} {v} {at} {n} w ys s h en ey =
-    record { ended = ap₂ _+_ (s .ended) en ∙ sym (length-append v w); bytes = put-behind xs l ys v w at (s .ended) (s .bytes) ey; fitted = omega (arith, length-append v w, s .ended) }
+    record {
+      ended = ap₂ _+_ (s .ended) en ∙ sym (length-append v w);
+      bytes = put-behind xs l ys v w at (s .ended) (s .bytes) ey;
+      fitted = omega (arith, length-append v w, s .ended);
+    }
 
 -- One byte more.
 pub byte-onward : {xs l v : List ℕ} {at : ℕ} (b : ℕ) → Stands xs l v at → at < length xs → Stands xs (set l at b) (v ++ (b ∷ [])) (at + 1)
@@ -103,7 +108,8 @@ unfolding overFrom
 put-at xs w ys at n h en ey = (ap (λ (k : ℕ). at + k) en, onward {n = n} w ys (itself xs at (omega arith)) h en ey .bytes)
 
 -- What was written from `at` on stands behind v.
-pub next : {xs l v : List ℕ} {at r : ℕ} (w l′ : List ℕ) → Stands xs l v at → at + length w ≤ length xs → r ≡ at + length w → l′ ≡ overFrom at w l → Stands xs l′ (v ++ w) r
+pub next : {xs l v : List ℕ} {at r : ℕ} (w l′ : List ℕ) → Stands xs l v at → at + length w ≤ length xs → r ≡ at + length w → l′ ≡ overFrom at w l
+    → Stands xs l′ (v ++ w) r
 unfolding overFrom over
 next {xs} {l} {v} {at} {r} w l′ s h er el =
     let front : take at l ≡ v = ap (take at) (s .bytes) ∙ take-at v (drop (length v) xs) at (sym (s .ended)) in
@@ -132,7 +138,8 @@ digit-written xs rest i h e l =
     let one-more : suc (i - 1) ≡ i = omega (arith, length-more rest h) in
     let from : drop (i - 1) (set xs (i - 1) d) ≡ d ∷ drop i xs =
     drop-cons (set xs (i - 1) d) (i - 1) 0 (simp length-set room)
-    ∙ ap₂ (λ (b : ℕ) (p : List ℕ). b ∷ p) (getD-set-same xs (i - 1) d 0 room) (drop-set-lt (suc (i - 1)) xs (i - 1) d (omega arith) ∙ ap (λ (n : ℕ). drop n xs) one-more) in
+    ∙ ap₂ (λ (b : ℕ) (p : List ℕ). b ∷ p) (getD-set-same xs (i - 1) d 0 room)
+    (drop-set-lt (suc (i - 1)) xs (i - 1) d (omega arith) ∙ ap (λ (n : ℕ). drop n xs) one-more) in
     ap (λ (p : List ℕ). decimal (rest / 10) ++ p) from
     ∙ sym (append-assoc (decimal (rest / 10)) (d ∷ []) (drop i xs))
     ∙ ap (λ (ds : List ℕ). ds ++ drop i xs) (sym (decimal-more rest h))

@@ -59,7 +59,8 @@ module _ (f : ℕ → Line) where
   unfolding linesFrom bytesOf
   none-written at from xs h = rw (append-nil (take at xs)) (itself xs at h)
 
-  written-size : (at from j : ℕ) (xs : List ℕ) {l : List ℕ} {end : ℕ} → at ≤ length xs → Written at from j xs l end → end ≡ at + length (bytesOf (linesFrom f from j))
+  written-size : (at from j : ℕ) (xs : List ℕ) {l : List ℕ} {end : ℕ} → at ≤ length xs → Written at from j xs l end
+      → end ≡ at + length (bytesOf (linesFrom f from j))
   written-size at from j xs h s =
       s .ended ∙ length-append (take at xs) (bytesOf (linesFrom f from j)) ∙ ap (λ (k : ℕ). k + length (bytesOf (linesFrom f from j))) (length-take-le at xs h)
 
@@ -68,7 +69,8 @@ module _ (f : ℕ → Line) where
   unfolding overFrom
   all-written at from j n xs h e s = rw (← e) (written-size at from j xs h s, s .bytes)
 
-  module _ (at from j n : ℕ) (xs : List ℕ) (room : at + length (bytesOf (linesFrom f from n)) ≤ length xs) (h : j < n) {l : List ℕ} {end : ℕ} (s : Written at from j xs l end) where
+  module _ (at from j n : ℕ) (xs : List ℕ) (room : at + length (bytesOf (linesFrom f from n)) ≤ length xs) (h : j < n) {l : List ℕ} {end : ℕ}
+      (s : Written at from j xs l end) where
     ended : end ≡ at + length (bytesOf (linesFrom f from j))
     ended = written-size at from j xs (omega arith) s
 

@@ -16,6 +16,7 @@ module _ (answer told : Answer) (e : told ≡ answer) where
   unfolding ranIn outcomeIn whyIn
   refusal-told why ws q w = let same : Refused why ≡ answer = sym q ∙ e in (ap ranIn same, (ap outcomeIn same, w ∙ ap whyIn same))
 
-  pub run-told : (o : Outcome) (ws : List ℕ) → told ≡ Ran o → ws ≡ outcomeWords o → (true ≡ ranIn answer) × ((ws ≡ outcomeIn answer) × (0 ∷ 0 ∷ [] ≡ whyIn answer))
+  pub run-told : (o : Outcome) (ws : List ℕ) → told ≡ Ran o → ws ≡ outcomeWords o
+      → (true ≡ ranIn answer) × ((ws ≡ outcomeIn answer) × (0 ∷ 0 ∷ [] ≡ whyIn answer))
   unfolding ranIn outcomeIn whyIn
   run-told o ws q w = let same : Ran o ≡ answer = sym q ∙ e in (ap ranIn same, (w ∙ ap outcomeIn same, ap whyIn same))

@@ -13,19 +13,36 @@ within-requires : tie.Need-within-requires
 within-requires c κs = search needs
 
 returns-3 : tie.Need-returns-3
-returns-3 c = bad-threads _ _ _ _ (c .before .before .before .if1 .left) (c .before .before .if2 .left) _ (c .before .within .ensures) (c .if3 .taken)
+returns-3 c =
+    let test = c .before .before .before .if1 in
+    bad-threads _ _ _ _ (test .left) (c .before .before .if2 .left) _ (c .before .within .ensures) (c .if3 .taken)
 
 within-requires-2 : tie.Need-within-requires-2
 within-requires-2 c κs = search needs
 
 returns-4 : tie.Need-returns-4
-returns-4 c = bad-cells _ _ _ _ (c .before .before .before .before .before .if1 .left) (c .before .before .before .before .if2 .left) _ (c .before .before .before .within .ensures) (c .before .before .if3 .left) _ (c .before .within2 .ensures) (c .if4 .taken)
+returns-4 c =
+    let within = c .before .before .before .within in
+    let test2 = c .before .before .before .before .if2 in
+    let test = c .before .before .before .before .before .if1 in
+    bad-cells _ _ _ _ (test .left) (test2 .left) _ (within .ensures) (c .before .before .if3 .left) _ (c .before .within2 .ensures) (c .if4 .taken)
 
 returns-5 : tie.Need-returns-5
-returns-5 c = bad-limit _ _ _ _ (c .before .before .before .before .before .before .if1 .left) (c .before .before .before .before .before .if2 .left) _ (c .before .before .before .before .within .ensures) (c .before .before .before .if3 .left) _ (c .before .before .within2 .ensures) (c .before .if4 .left) (c .if5 .taken)
+returns-5 c =
+    let test3 = c .before .before .before .if3 in
+    let within = c .before .before .before .before .within in
+    let test2 = c .before .before .before .before .before .if2 in
+    let test = c .before .before .before .before .before .before .if1 in
+    bad-limit _ _ _ _ (test .left) (test2 .left) _ (within .ensures) (test3 .left) _ (c .before .before .within2 .ensures) (c .before .if4 .left)
+    (c .if5 .taken)
 
 returns-6 : tie.Need-returns-6
-returns-6 c = all-fine _ _ _ _ (c .before .before .before .before .before .before .if1 .left) (c .before .before .before .before .before .if2 .left) _ (c .before .before .before .before .within .ensures) (c .before .before .before .if3 .left) _ (c .before .before .within2 .ensures) (c .before .if4 .left) (c .if5 .left)
+returns-6 c =
+    let test3 = c .before .before .before .if3 in
+    let within = c .before .before .before .before .within in
+    let test2 = c .before .before .before .before .before .if2 in
+    let test = c .before .before .before .before .before .before .if1 in
+    all-fine _ _ _ _ (test .left) (test2 .left) _ (within .ensures) (test3 .left) _ (c .before .before .within2 .ensures) (c .before .if4 .left) (c .if5 .left)
 
 pub numbers-spec : {M : Type 1} → statement M
 numbers-spec =

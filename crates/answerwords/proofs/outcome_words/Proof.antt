@@ -48,7 +48,8 @@ loop-again c =
 returns : tie.Need-returns Inv-loop μ-loop
 returns c =
     let turn = c .before .loop in
-    all-coded (c .before .before .before .args .outcome) _ (turn .i) (turn .words) (turn .inv .1) (omega arith) (c .before .before .run-values .ensures)
+    let args = c .before .before .before .args .outcome in
+    all-coded args _ (turn .i) (turn .words) (turn .inv .1) (omega arith) (c .before .before .run-values .ensures)
 
 pub outcome-words-spec : {M : Type 1} → statement M
 outcome-words-spec =

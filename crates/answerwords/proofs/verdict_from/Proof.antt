@@ -22,11 +22,15 @@ returns-3 c = rw (ne-eqb _ 1 (c .before .before .if1 .left), ne-eqb _ 2 (c .befo
 
 returns-4 : tie.Need-returns-4
 unfolding verdictFrom
-returns-4 c = rw (ne-eqb _ 1 (c .before .before .before .if1 .left), ne-eqb _ 2 (c .before .before .if2 .left), ne-eqb _ 3 (c .before .if3 .left), eq-eqb _ 4 (c .if4 .taken))
+returns-4 c =
+    let test = c .before .before .before .if1 in
+    rw (ne-eqb _ 1 (test .left), ne-eqb _ 2 (c .before .before .if2 .left), ne-eqb _ 3 (c .before .if3 .left), eq-eqb _ 4 (c .if4 .taken))
 
 returns-5 : tie.Need-returns-5
 unfolding verdictFrom
-returns-5 c = rw (ne-eqb _ 1 (c .before .before .before .if1 .left), ne-eqb _ 2 (c .before .before .if2 .left), ne-eqb _ 3 (c .before .if3 .left), ne-eqb _ 4 (c .if4 .left))
+returns-5 c =
+    let test = c .before .before .before .if1 in
+    rw (ne-eqb _ 1 (test .left), ne-eqb _ 2 (c .before .before .if2 .left), ne-eqb _ 3 (c .before .if3 .left), ne-eqb _ 4 (c .if4 .left))
 
 pub verdict-from-spec : {M : Type 1} → statement M
 verdict-from-spec =

@@ -41,19 +41,26 @@ loop-less c = search needs
 
 loop-again : tie.Need-loop-again Inv-loop μ-loop
 loop-again c =
-    let a = c .before .before .before .args in
-    let l = c .before .before .loop in
-    (search needs, simp length-set (l .inv .1), ap (λ (d : List ℕ). set d (l .i) (getD (a .words .now) (l .i) 0)) (l .inv .2) ∙ copied (a .words .now) (a .cells .now) (l .i) (c .before .loop-test .taken) (c .before .before .before .pre))
+    let turn = c .before .before .loop in
+    let start = c .before .before .before in
+    let args = start .args in
+    let words = args .words .now in (
+      search needs,
+      simp length-set (turn .inv .1),
+      ap (λ (d : List ℕ). set d (turn .i) (getD words (turn .i) 0)) (turn .inv .2)
+          ∙ copied words (args .cells .now) (turn .i) (c .before .loop-test .taken) (start .pre),
+    )
 
 same-length : tie.Need-same-length Inv-loop μ-loop
 same-length c = c .before .loop .inv .1
 
 returns : tie.Need-returns Inv-loop μ-loop
 returns c =
-    let a = c .before .before .args in
-    let l = c .before .loop in
-    let e : l .i ≡ length (a .words .now) = omega arith in
-    l .inv .2 ∙ ap (λ (s : List ℕ). over s (a .cells .now)) (ap (λ (n : ℕ). take n (a .words .now)) e ∙ take-length (a .words .now))
+    let turn = c .before .loop in
+    let args = c .before .before .args in
+    let words = args .words .now in
+    let e : turn .i ≡ length words = omega arith in
+    turn .inv .2 ∙ ap (λ (s : List ℕ). over s (args .cells .now)) (ap (λ (n : ℕ). take n words) e ∙ take-length words)
 
 pub place-spec : {M : Type 1} → statement M
 place-spec =

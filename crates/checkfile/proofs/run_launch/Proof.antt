@@ -19,31 +19,43 @@ slice-relend-prefix-run c = search needs
 
 slice-aggregate-run : tie.Need-slice-aggregate-run
 slice-aggregate-run c =
-    let s = c .before .before .before .before .before .before .before .before .before .before in
-    front-length (length (s .args .words .now)) _ (omega (arith, placed-length _ _ _ _ _ _ _ _ (s .pre) _ (c .before .before .before .place .ensures), s .pre .fewCells, s .pre .cellsLent))
+    let place = c .before .before .before .place in
+    let start = c .before .before .before .before .before .before .before .before .before .before in
+    let pre = start .pre in
+    front-length (length (start .args .words .now)) _ (omega (arith, placed-length _ _ _ _ _ _ _ _ pre _ (place .ensures), pre .fewCells, pre .cellsLent))
 
 slice-relend-prefix-run-2 : tie.Need-slice-relend-prefix-run-2
 slice-relend-prefix-run-2 c = search needs
 
 slice-aggregate-run-2 : tie.Need-slice-aggregate-run-2
 slice-aggregate-run-2 c =
-    let s = c .before .before .before .before .before .before .before .before .before .before .before in
-    front-length (2 * length (s .args .words .now)) _ (omega (arith, s .pre .fewCells, s .pre .logLent))
+    let start = c .before .before .before .before .before .before .before .before .before .before .before in
+    let pre = start .pre in
+    front-length (2 * length (start .args .words .now)) _ (omega (arith, pre .fewCells, pre .logLent))
 
 run-requires : tie.Need-run-requires
 run-requires c κs =
-    let s = c .before .before .before .before .before .before .before .before .before .before .before in
-    let cells-front = front-length (length (s .args .words .now)) (c .before .before .before .before .place .last .1 .0) (omega (arith, placed-length _ _ _ _ _ _ _ _ (s .pre) _ (c .before .before .before .before .place .ensures), s .pre .fewCells, s .pre .cellsLent)) in
-    let log-front = front-length (2 * length (s .args .words .now)) (s .args .log .now) (omega (arith, s .pre .fewCells, s .pre .logLent)) in
-    (s .pre .checked, s .pre .someThread, s .pre .fewThreads, s .pre .fewRuns, omega (arith, cells-front, log-front), omega (arith, cells-front, s .pre .fewCells))
+    let place = c .before .before .before .before .place in
+    let start = c .before .before .before .before .before .before .before .before .before .before .before in
+    let args = start .args in
+    let words = args .words .now in
+    let pre = start .pre in
+    let cells-front = front-length (length words) (place .last .1 .0)
+    (omega (arith, placed-length _ _ _ _ _ _ _ _ pre _ (place .ensures), pre .fewCells, pre .cellsLent)) in
+    let log-front = front-length (2 * length words) (args .log .now) (omega (arith, pre .fewCells, pre .logLent)) in
+    (pre .checked, pre .someThread, pre .fewThreads, pre .fewRuns, omega (arith, cells-front, log-front), omega (arith, cells-front, pre .fewCells))
 
 slice-reshare-prefix-write-report : tie.Need-slice-reshare-prefix-write-report
 slice-reshare-prefix-write-report c = search needs
 
 slice-aggregate-write-report : tie.Need-slice-aggregate-write-report
 slice-aggregate-write-report c =
-    let s = c .before .before .before .before .before .before .before .before .before .before .before .before .before .before .before .before .before in
-    front-length (length (s .args .words .now)) _ (omega (arith, c .before .before .before .before .cells2 .given .1, placed-length _ _ _ _ _ _ _ _ (s .pre) _ (c .before .before .before .before .before .before .before .before .before .before .place .ensures), s .pre .fewCells, s .pre .cellsLent))
+    let at-cells2 = c .before .before .before .before in
+    let place = c .before .before .before .before .before .before .before .before .before .before .place in
+    let start = at-cells2 .before .before .before .before .before .before .before .before .before .before .before .before .before in
+    let pre = start .pre in
+    front-length (length (start .args .words .now)) _
+    (omega (arith, at-cells2 .cells2 .given .1, placed-length _ _ _ _ _ _ _ _ pre _ (place .ensures), pre .fewCells, pre .cellsLent))
 
 write-report-requires : tie.Need-write-report-requires
 write-report-requires c κs = search needs
@@ -59,16 +71,21 @@ same-length-3 c = search needs
 
 returns : tie.Need-returns
 returns c =
-    let s = c .before .before .before .before .before .before .before .before .before .before .before .before .before .before .before .before .before .before .before .before .before in
-    let a = s .args in
-    let p = c .before .before .before .before .before .before .before .before .before .before .before .before .before .before .place .ensures in
-    let placed = c .before .before .before .before .before .before .before .before .before .before .before .before .before .before .place .last .1 .0 in
-    let ran = c .before .before .before .before .before .before .before .before .before .run in
-    let long = placed-length _ _ _ _ _ _ _ _ (s .pre) placed p in
-    reported (a .table .now) (a .ends .now) (a .threads) (a .limit) (a .words .now) (a .cells .now) (a .log .now) (a .output .now) (s .pre) placed (ran .last .1 .1 .1 .1 .0) (ran .last .1 .1 .1 .1 .1 .0) _ _ _ p
-    (as-long (length (a .words .now)) (ran .last .1 .1 .1 .1 .0) placed (c .before .before .before .before .before .before .before .before .cells2 .given .0) (omega (arith, long, s .pre .fewCells, s .pre .cellsLent)))
-    (as-long (2 * length (a .words .now)) (ran .last .1 .1 .1 .1 .1 .0) (a .log .now) (c .before .before .before .before .before .before .log .given .0) (omega (arith, s .pre .fewCells, s .pre .logLent)))
-    (ran .ensures)
+    let at-log = c .before .before .before .before .before .before in
+    let cells2 = at-log .before .before .cells2 in
+    let run = c .before .before .before .before .before .before .before .before .before .run in
+    let place = at-log .before .before .before .before .before .before .before .before .place in
+    let start = at-log .before .before .before .before .before .before .before .before .before .before .before .before .before .before .before in
+    let pre = start .pre in
+    let args = start .args in
+    let words = args .words .now in
+    let log = args .log .now in
+    let long = placed-length _ _ _ _ _ _ _ _ pre (place .last .1 .0) (place .ensures) in
+    reported (args .table .now) (args .ends .now) (args .threads) (args .limit) words (args .cells .now) log (args .output .now) pre
+    (place .last .1 .0) (run .last .1 .1 .1 .1 .0) (run .last .1 .1 .1 .1 .1 .0) _ _ _ (place .ensures)
+    (as-long (length words) (run .last .1 .1 .1 .1 .0) (place .last .1 .0) (cells2 .given .0) (omega (arith, long, pre .fewCells, pre .cellsLent)))
+    (as-long (2 * length words) (run .last .1 .1 .1 .1 .1 .0) log (at-log .log .given .0) (omega (arith, pre .fewCells, pre .logLent)))
+    (run .ensures)
     (c .before .before .write-report .ensures)
 
 pub run-launch-spec : {M : Type 1} → statement M

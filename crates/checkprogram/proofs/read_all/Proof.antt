@@ -36,13 +36,23 @@ same-length-2 : tie.Need-same-length-2 Inv-loop μ-loop
 same-length-2 c = search needs
 
 returns-2 : tie.Need-returns-2 Inv-loop μ-loop
-returns-2 c = (search needs, omega (arith, c .before .before .before .before .before .before .before .before .before .loop .inv .0, c .before .before .before .before .before .before .before .before .before .loop .inv .1))
+returns-2 c =
+    let turn = c .before .before .before .before .before .before .before .before .before .loop in
+    (search needs, omega (arith, turn .inv .0, turn .inv .1))
 
 loop-less : tie.Need-loop-less Inv-loop μ-loop
-loop-less c = let b = bounds _ _ _ _ (c .before .before .before .before .before .before .read-more .ensures) (c .before .before .to .given .1) in omega (arith, b .0, b .1, c .before .before .before .before .before .before .before .before .before .loop .inv .1, c .if1 .left)
+loop-less c =
+    let read-more = c .before .before .before .before .before .before .read-more in
+    let turn = c .before .before .before .before .before .before .before .before .before .loop in
+    let b = bounds _ _ _ _ (read-more .ensures) (c .before .before .to .given .1) in omega (arith, b .0, b .1, turn .inv .1, c .if1 .left)
 
 loop-again : tie.Need-loop-again Inv-loop μ-loop
-loop-again c = let b = bounds _ _ _ _ (c .before .before .before .before .before .before .read-more .ensures) (c .before .before .to .given .1) in (omega (arith, b .1, c .before .before .before .before .before .buffer .given), omega (arith, c .before .before .before .before .before .before .before .before .before .loop .inv .1, c .before .before .before .before .before .buffer .given))
+loop-again c =
+    let buffer = c .before .before .before .before .before .buffer in
+    let read-more = c .before .before .before .before .before .before .read-more in
+    let turn = c .before .before .before .before .before .before .before .before .before .loop in
+    let b = bounds _ _ _ _ (read-more .ensures) (c .before .before .to .given .1) in
+    (omega (arith, b .1, buffer .given), omega (arith, turn .inv .1, buffer .given))
 
 same-length-3 : tie.Need-same-length-3 Inv-loop μ-loop
 same-length-3 c = search needs

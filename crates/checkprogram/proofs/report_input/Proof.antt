@@ -25,7 +25,9 @@ array-share-prefix-input : tie.Need-array-share-prefix-input
 array-share-prefix-input c = bounds _ _ _ _ (c .before .before .before .before .read-all .ensures) (c .before .size .given .1) .1
 
 slice-aggregate-report-file : tie.Need-slice-aggregate-report-file
-slice-aggregate-report-file c = sym (length-take-le _ _ (bounds _ _ _ _ (c .before .before .before .before .before .read-all .ensures) (c .before .before .size .given .1) .1))
+slice-aggregate-report-file c =
+    let read-all = c .before .before .before .before .before .read-all in
+    sym (length-take-le _ _ (bounds _ _ _ _ (read-all .ensures) (c .before .before .size .given .1) .1))
 
 report-file-requires : tie.Need-report-file-requires
 report-file-requires c κs = search needs

@@ -36,10 +36,13 @@ same-length c = search needs
 returns : tie.Need-returns
 unfolding refusalWords
 returns c =
+    let write-report = c .before .before .before .before .before .write-report in
+    let words = c .before .before .before .before .before .before .before .before .words in
     let start = c .before .before .before .before .before .before .before .before .before .before in
-    let told = c .before .before .before .before .before .before .before .before .words .ensures in
-    refusal-written (start .args .why) _ _ (ap (λ (w : List ℕ). getD w 0 0) told) (ap (λ (w : List ℕ). getD w 1 0) told) _ (start .args .output .now) _ _ (start .pre) _
-    (c .before .before .before .before .before .write-report .ensures) (c .before .size .given .1)
+    let args = start .args in
+    refusal-written (args .why) _ _ (ap (λ (w : List ℕ). getD w 0 0) (words .ensures)) (ap (λ (w : List ℕ). getD w 1 0) (words .ensures)) _
+    (args .output .now) _ _ (start .pre) _
+    (write-report .ensures) (c .before .size .given .1)
 
 same-length-2 : tie.Need-same-length-2
 same-length-2 c = search needs
@@ -47,10 +50,13 @@ same-length-2 c = search needs
 returns-2 : tie.Need-returns-2
 unfolding refusalWords
 returns-2 c =
+    let write-report = c .before .before .before .before .before .write-report in
+    let words = c .before .before .before .before .before .before .before .before .words in
     let start = c .before .before .before .before .before .before .before .before .before .before in
-    let told = c .before .before .before .before .before .before .before .before .words .ensures in
-    never-refused (start .args .why) _ _ (ap (λ (w : List ℕ). getD w 0 0) told) (ap (λ (w : List ℕ). getD w 1 0) told) _ (start .args .output .now) _ _ (start .pre) _
-    (c .before .before .before .before .before .write-report .ensures) (c .before .short .given .1)
+    let args = start .args in
+    never-refused (args .why) _ _ (ap (λ (w : List ℕ). getD w 0 0) (words .ensures)) (ap (λ (w : List ℕ). getD w 1 0) (words .ensures)) _
+    (args .output .now) _ _ (start .pre) _
+    (write-report .ensures) (c .before .short .given .1)
 
 pub report-refusal-spec : {M : Type 1} → statement M
 report-refusal-spec =

@@ -18,24 +18,30 @@ enum-known-why c = search needs
 
 returns : tie.Need-returns
 returns c =
-    let g = c .before .before .before .before .before .before .before .args in
-    numbers-refuse (g .table .now) (g .threads) (g .count) (g .limit) (g .cells .now) (g .log .now) _ (sym (c .before .before .before .numbers .ensures) ∙ ap refusalOf (c .before .why .given .1))
+    let numbers = c .before .before .before .numbers in
+    let args = c .before .before .before .before .before .before .before .args in
+    numbers-refuse (args .table .now) (args .threads) (args .count) (args .limit) (args .cells .now) (args .log .now) _
+    (sym (numbers .ensures) ∙ ap refusalOf (c .before .why .given .1))
 
 enum-told : tie.Need-enum-told
 enum-told c = search needs
 
 read-table-requires : tie.Need-read-table-requires
 read-table-requires c κs =
-    let g = c .before .before .before .before .before .before .args in
-    readable (g .table .now) (g .threads) (g .count) (g .limit) (sym (c .before .before .numbers .ensures) ∙ ap refusalOf (c .enum-told .given .1))
+    let args = c .before .before .before .before .before .before .args in
+    readable (args .table .now) (args .threads) (args .count) (args .limit) (sym (c .before .before .numbers .ensures) ∙ ap refusalOf (c .enum-told .given .1))
 
 enum-known-answer : tie.Need-enum-known-answer
 enum-known-answer c = search needs
 
 returns-2 : tie.Need-returns-2
 returns-2 c =
-    let g = c .before .before .before .before .before .before .before .before .before .before .before .args in
-    table-refuses (g .table .now) (g .threads) (g .count) (g .limit) (g .cells .now) (g .log .now) _ (sym (c .before .before .before .before .before .before .before .numbers .ensures) ∙ ap refusalOf (c .before .before .before .before .before .enum-told .given .1)) (sym (c .before .before .before .before .read-table .ensures .0) ∙ ap refusalOf (c .before .answer .given .1))
+    let read-table = c .before .before .before .before .read-table in
+    let accepted = c .before .before .before .before .before .enum-told in
+    let numbers = c .before .before .before .before .before .before .before .numbers in
+    let args = c .before .before .before .before .before .before .before .before .before .before .before .args in
+    table-refuses (args .table .now) (args .threads) (args .count) (args .limit) (args .cells .now) (args .log .now) _
+    (sym (numbers .ensures) ∙ ap refusalOf (accepted .given .1)) (sym (read-table .ensures .0) ∙ ap refusalOf (c .before .answer .given .1))
 
 enum-told-2 : tie.Need-enum-told-2
 enum-told-2 c = search needs
@@ -48,19 +54,40 @@ enum-known-why-2 c = search needs
 
 returns-3 : tie.Need-returns-3
 returns-3 c =
-    let g = c .before .before .before .before .before .before .before .before .before .before .before .before .before .before .args in
-    state-refuses (g .table .now) (g .threads) (g .count) (g .limit) (g .cells .now) (g .log .now) _ (sym (c .before .before .before .before .before .before .before .before .before .before .numbers .ensures) ∙ ap refusalOf (c .before .before .before .before .before .before .before .before .enum-told .given .1)) (sym (c .before .before .before .before .before .before .before .read-table .ensures .0) ∙ ap refusalOf (c .before .before .before .before .enum-told2 .given .1)) (sym (c .before .before .before .lent .ensures) ∙ ap refusalOf (c .before .why2 .given .1))
+    let lent = c .before .before .before .lent in
+    let checked = c .before .before .before .before .enum-told2 in
+    let read-table = c .before .before .before .before .before .before .before .read-table in
+    let accepted = c .before .before .before .before .before .before .before .before .enum-told in
+    let numbers = c .before .before .before .before .before .before .before .before .before .before .numbers in
+    let args = c .before .before .before .before .before .before .before .before .before .before .before .before .before .before .args in
+    state-refuses (args .table .now) (args .threads) (args .count) (args .limit) (args .cells .now) (args .log .now) _
+    (sym (numbers .ensures) ∙ ap refusalOf (accepted .given .1)) (sym (read-table .ensures .0) ∙ ap refusalOf (checked .given .1))
+    (sym (lent .ensures) ∙ ap refusalOf (c .before .why2 .given .1))
 
 enum-told-3 : tie.Need-enum-told-3
 enum-told-3 c = search needs
 
 run-requires : tie.Need-run-requires
 run-requires c κs =
-    let g = c .before .before .before .before .before .before .before .before .before .before .before .before .before .before .before .before .args in
-    let n : bareNumbers (length (g .table .now)) (g .threads) (g .count) (g .limit) ≡ none = sym (c .before .before .before .before .before .before .before .before .before .before .before .before .numbers .ensures) ∙ ap refusalOf (c .before .before .before .before .before .before .before .before .before .before .enum-told .given .1) in
-    let f = fine _ (g .threads) (g .count) (g .limit) n in
-    let l = lent-is (g .count) _ _ (sym (c .before .before .before .before .before .lent .ensures) ∙ ap refusalOf (c .before .before .before .enum-told3 .given .1)) in
-    (runnable (g .table .now) _ (readable (g .table .now) (g .threads) (g .count) (g .limit) n .1) (sym (c .before .before .before .before .before .before .before .before .before .read-table .ensures .0) ∙ ap refusalOf (c .before .before .before .before .before .before .enum-told2 .given .1)) (c .before .before .before .before .before .before .before .before .before .read-table .ensures .1), f .someThreads, f .fewThreads, f .fewRows, omega (arith, l .0, l .1), omega (arith, l .0, f .fewCells))
+    let suited = c .before .before .before .enum-told3 in
+    let lent = c .before .before .before .before .before .lent in
+    let checked = c .before .before .before .before .before .before .enum-told2 in
+    let read-table = c .before .before .before .before .before .before .before .before .before .read-table in
+    let accepted = c .before .before .before .before .before .before .before .before .before .before .enum-told in
+    let numbers = c .before .before .before .before .before .before .before .before .before .before .before .before .numbers in
+    let args = c .before .before .before .before .before .before .before .before .before .before .before .before .before .before .before .before .args in
+    let table = args .table .now in
+    let n : bareNumbers (length table) (args .threads) (args .count) (args .limit) ≡ none = sym (numbers .ensures) ∙ ap refusalOf (accepted .given .1) in
+    let f = fine _ (args .threads) (args .count) (args .limit) n in
+    let l = lent-is (args .count) _ _ (sym (lent .ensures) ∙ ap refusalOf (suited .given .1)) in (
+      runnable table _ (readable table (args .threads) (args .count) (args .limit) n .1)
+          (sym (read-table .ensures .0) ∙ ap refusalOf (checked .given .1)) (read-table .ensures .1),
+      f .someThreads,
+      f .fewThreads,
+      f .fewRows,
+      omega (arith, l .0, l .1),
+      omega (arith, l .0, f .fewCells),
+    )
 
 same-length : tie.Need-same-length
 same-length c = search needs
@@ -70,8 +97,17 @@ same-length-2 c = search needs
 
 returns-4 : tie.Need-returns-4
 returns-4 c =
-    let g = c .before .before .before .before .before .before .before .before .before .before .before .before .before .before .before .before .before .before .before .before .before .args in
-    ran (g .table .now) (g .threads) (g .count) (g .limit) (g .cells .now) (g .log .now) _ _ _ (sym (c .before .before .before .before .before .before .before .before .before .before .before .before .before .before .before .before .before .numbers .ensures) ∙ ap refusalOf (c .before .before .before .before .before .before .before .before .before .before .before .before .before .before .before .enum-told .given .1)) (sym (c .before .before .before .before .before .before .before .before .before .before .before .before .before .before .read-table .ensures .0) ∙ ap refusalOf (c .before .before .before .before .before .before .before .before .before .before .before .enum-told2 .given .1)) (sym (c .before .before .before .before .before .before .before .before .before .before .lent .ensures) ∙ ap refusalOf (c .before .before .before .before .before .before .before .before .enum-told3 .given .1)) (c .before .before .before .before .run .ensures)
+    let run = c .before .before .before .before .run in
+    let lent = c .before .before .before .before .before .before .before .before .enum-told3 in
+    let at-lent = c .before .before .before .before .before .before .before .before .before .before in
+    let checked = at-lent .before .enum-told2 in
+    let read-table = at-lent .before .before .before .before .read-table in
+    let accepted = at-lent .before .before .before .before .before .enum-told in
+    let numbers = at-lent .before .before .before .before .before .before .before .numbers in
+    let args = at-lent .before .before .before .before .before .before .before .before .before .before .before .args in
+    ran (args .table .now) (args .threads) (args .count) (args .limit) (args .cells .now) (args .log .now) _ _ _
+    (sym (numbers .ensures) ∙ ap refusalOf (accepted .given .1)) (sym (read-table .ensures .0) ∙ ap refusalOf (checked .given .1))
+    (sym (at-lent .lent .ensures) ∙ ap refusalOf (lent .given .1)) (run .ensures)
 
 pub bare-launch-spec : {M : Type 1} → statement M
 bare-launch-spec =

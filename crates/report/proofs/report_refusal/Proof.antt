@@ -22,11 +22,11 @@ cast-t9 c = search needs
 
 returns : tie.Need-returns
 returns c =
-    let start = c .before .before .before .before in
-    let what = refused (start .args .number) (start .args .place) in
+    let args = c .before .before .before .before .args in
+    let what = refused (args .number) (args .place) in
     let size = c .before .lines-length .ensures in
-    let needed = size .0 ∙ ap length (refusal-part (start .args .number) (start .args .place) _ (c .before .before .refusal-values .ensures)) in
-    turned-back what [] (start .args .out .now) _ (too-long what [] _ _ (no-cells-asked _ _ []) needed (c .if1 .taken))
+    let needed = size .0 ∙ ap length (refusal-part (args .number) (args .place) _ (c .before .before .refusal-values .ensures)) in
+    turned-back what [] (args .out .now) _ (too-long what [] _ _ (no-cells-asked _ _ []) needed (c .if1 .taken))
     (fits what [] _ needed (omega (arith, size .1)))
 
 lines-at-requires : tie.Need-lines-at-requires
@@ -37,14 +37,18 @@ same-length c = search needs
 
 returns-2 : tie.Need-returns-2
 returns-2 c =
-    let start = c .before .before .before .before .before .before .before .before in
-    let what = refused (start .args .number) (start .args .place) in
-    let size = c .before .before .before .before .before .lines-length .ensures in
+    let test = c .before .before .before .before .if1 in
+    let lines-length = c .before .before .before .before .before .lines-length in
+    let refusal-values = c .before .before .before .before .before .before .refusal-values in
+    let args = c .before .before .before .before .before .before .before .before .args in
+    let out = args .out .now in
+    let what = refused (args .number) (args .place) in
+    let size = lines-length .ensures in
     let wrote = c .before .before .lines-at in
-    let part = refusal-part (start .args .number) (start .args .place) _ (c .before .before .before .before .before .before .refusal-values .ensures) in
+    let part = refusal-part (args .number) (args .place) _ (refusal-values .ensures) in
     let needed = size .0 ∙ ap length part in
-    let written = finished _ (next _ _ (nothing (start .args .out .now)) (omega (arith, size .0, c .before .before .before .before .if1 .left)) (wrote .ensures .0) (wrote .ensures .1)) part in
-    taken what [] (start .args .out .now) _ _ (fitting what [] _ _ (no-cells-asked _ _ []) needed (omega (arith, c .before .before .before .before .if1 .left)))
+    let written = finished _ (next _ _ (nothing out) (omega (arith, size .0, test .left)) (wrote .ensures .0) (wrote .ensures .1)) part in
+    taken what [] out _ _ (fitting what [] _ _ (no-cells-asked _ _ []) needed (omega (arith, test .left)))
     (written .0) (written .1) (fits what [] _ needed (omega (arith, size .1)))
 
 pub report-refusal-spec : {M : Type 1} → statement M

@@ -9,13 +9,15 @@ use Rattle.report.proofs.report_run.Tie as tie
 
 returns : tie.Need-returns
 returns c =
-    let a = c .before .before .before .args in
-    cells-refused (ran (a .outcome)) (a .cells .now) (a .out .now) _ (no-cells (a .outcome) (a .cells .now) (omega (arith, c .if1 .taken)))
+    let args = c .before .before .before .args in
+    let cells = args .cells .now in
+    cells-refused (ran (args .outcome)) cells (args .out .now) _ (no-cells (args .outcome) cells (omega (arith, c .if1 .taken)))
 
 returns-2 : tie.Need-returns-2
 returns-2 c =
-    let a = c .before .before .before .before .args in
-    cells-refused (ran (a .outcome)) (a .cells .now) (a .out .now) _ (many-cells (a .outcome) (a .cells .now) (omega (arith, c .if2 .taken)))
+    let args = c .before .before .before .before .args in
+    let cells = args .cells .now in
+    cells-refused (ran (args .outcome)) cells (args .out .now) _ (many-cells (args .outcome) cells (omega (arith, c .if2 .taken)))
 
 run-length-requires : tie.Need-run-length-requires
 run-length-requires c κs = search needs
@@ -26,9 +28,15 @@ cast-t10 c = search needs
 returns-3 : tie.Need-returns-3
 unfolding reportOf
 returns-3 c =
-    let a = c .before .before .before .before .before .before .args in
-    let right = cells-right (a .outcome) (a .cells .now) (omega (arith, c .before .before .before .if1 .left)) (omega (arith, c .before .before .if2 .left)) in
-    turned-back (ran (a .outcome)) (a .cells .now) (a .out .now) _ (too-long (ran (a .outcome)) (a .cells .now) (a .out .now) (c .before .run-length .result) right (c .before .run-length .ensures .0) (omega (arith, c .if3 .taken))) (fits (ran (a .outcome)) (a .cells .now) _ (c .before .run-length .ensures .0) (c .before .run-length .ensures .1))
+    let run-length = c .before .run-length in
+    let test = c .before .before .before .if1 in
+    let args = c .before .before .before .before .before .before .args in
+    let cells = args .cells .now in
+    let out = args .out .now in
+    let right = cells-right (args .outcome) cells (omega (arith, test .left)) (omega (arith, c .before .before .if2 .left)) in
+    turned-back (ran (args .outcome)) cells out _
+    (too-long (ran (args .outcome)) cells out (run-length .result) right (run-length .ensures .0) (omega (arith, c .if3 .taken)))
+    (fits (ran (args .outcome)) cells _ (run-length .ensures .0) (run-length .ensures .1))
 
 write-run-requires : tie.Need-write-run-requires
 write-run-requires c κs = search needs
@@ -39,9 +47,18 @@ same-length c = search needs
 returns-4 : tie.Need-returns-4
 unfolding reportOf
 returns-4 c =
-    let a = c .before .before .before .before .before .before .before .before .before .before .args in
-    let right = cells-right (a .outcome) (a .cells .now) (omega (arith, c .before .before .before .before .before .before .before .if1 .left)) (omega (arith, c .before .before .before .before .before .before .if2 .left)) in
-    taken (ran (a .outcome)) (a .cells .now) (a .out .now) _ _ (fitting (ran (a .outcome)) (a .cells .now) (a .out .now) (c .before .before .before .before .before .run-length .result) right (c .before .before .before .before .before .run-length .ensures .0) (omega (arith, c .before .before .before .before .if3 .left))) (c .before .before .write-run .ensures .0) (c .before .before .write-run .ensures .1) (fits (ran (a .outcome)) (a .cells .now) _ (c .before .before .before .before .before .run-length .ensures .0) (c .before .before .before .before .before .run-length .ensures .1))
+    let test3 = c .before .before .before .before .if3 in
+    let run-length = c .before .before .before .before .before .run-length in
+    let test2 = c .before .before .before .before .before .before .if2 in
+    let test = c .before .before .before .before .before .before .before .if1 in
+    let args = c .before .before .before .before .before .before .before .before .before .before .args in
+    let cells = args .cells .now in
+    let out = args .out .now in
+    let right = cells-right (args .outcome) cells (omega (arith, test .left)) (omega (arith, test2 .left)) in
+    taken (ran (args .outcome)) cells out _ _
+    (fitting (ran (args .outcome)) cells out (run-length .result) right (run-length .ensures .0) (omega (arith, test3 .left)))
+    (c .before .before .write-run .ensures .0) (c .before .before .write-run .ensures .1)
+    (fits (ran (args .outcome)) cells _ (run-length .ensures .0) (run-length .ensures .1))
 
 pub report-run-spec : {M : Type 1} → statement M
 report-run-spec =

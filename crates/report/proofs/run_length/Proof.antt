@@ -32,12 +32,14 @@ add-result-2 c = search needs
 returns : tie.Need-returns
 unfolding text
 returns c =
+    let each-length = c .before .each-length in
+    let lines-length = c .before .before .before .lines-length in
+    let run-values = c .before .before .before .before .run-values in
     let start = c .before .before .before .before .before .before in
-    let head = c .before .before .before .lines-length .ensures in
-    let cells = c .before .each-length .ensures in
+    let args = start .args in
     let last = c .lines-length2 .ensures in (
-      ap₂ _+_ (ap₂ _+_ (head .0) (cells .0)) (last .0) ∙ run-size (start .args .outcome) (start .args .cells .now) _ (c .before .before .before .before .run-values .ensures),
-      omega (arith, start .pre, head .1, cells .1, last .1),
+      ap₂ _+_ (ap₂ _+_ (lines-length .ensures .0) (each-length .ensures .0)) (last .0) ∙ run-size (args .outcome) (args .cells .now) _ (run-values .ensures),
+      omega (arith, start .pre, lines-length .ensures .1, each-length .ensures .1, last .1),
     )
 
 pub run-length-spec : {M : Type 1} → statement M

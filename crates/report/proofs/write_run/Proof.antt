@@ -13,37 +13,52 @@ use Rattle.report.proofs.write_run.Tie as tie
 
 -- There is room for the three parts.
 room : (c : tie.After-run-values)
-    → let values = c .run-values .result in
-    let a = c .before .before .before .args in
-    length (head values) + length (cellsPart (a .cells .now)) + length (last values) ≤ length (a .out .now)
+    → let start = c .before .before .before in
+    let values = c .run-values .result in
+    let args = start .args in
+    length (head values) + length (cellsPart (args .cells .now)) + length (last values) ≤ length (args .out .now)
 room c =
     let start = c .before .before .before in
-    omega (arith, start .pre, run-size (start .args .outcome) (start .args .cells .now) _ (c .run-values .ensures))
+    let args = start .args in
+    omega (arith, start .pre, run-size (args .outcome) (args .cells .now) _ (c .run-values .ensures))
 
 -- The head has been written.
 headed : (c : tie.After-slice-known2)
-    → let wrote = c .before .before .lines-at in
-    Stands (c .before .before .before .before .before .before .before .args .out .now) (wrote .last .1 .1 .1 .0) (head (c .before .before .before .before .run-values .result)) (wrote .result)
+    → let lines-at = c .before .before .lines-at in
+    let run-values = c .before .before .before .before .run-values in
+    let start = c .before .before .before .before .before .before .before in
+    Stands (start .args .out .now) (lines-at .last .1 .1 .1 .0) (head (run-values .result)) (lines-at .result)
 headed c =
-    let wrote = c .before .before .lines-at in
-    next (head (c .before .before .before .before .run-values .result)) _ (nothing (c .before .before .before .before .before .before .before .args .out .now)) (omega (arith, room (c .before .before .before .before))) (wrote .ensures .0) (wrote .ensures .1)
+    let lines-at = c .before .before .lines-at in
+    let at-room = c .before .before .before .before in
+    let out = c .before .before .before .before .before .before .before .args .out .now in
+    next (head (at-room .run-values .result)) _ (nothing out) (omega (arith, room at-room)) (lines-at .ensures .0) (lines-at .ensures .1)
 
 -- The cells stand behind it.
 celled : (c : tie.After-slice-known3)
-    → let wrote = c .before .before .each-at in
-    let a = c .before .before .before .before .before .before .before .before .before .before .before .before .args in
-    Stands (a .out .now) (wrote .last .1 .1 .0) (head (c .before .before .before .before .before .before .before .before .before .run-values .result) ++ cellsPart (a .cells .now)) (wrote .result)
+    → let each-at = c .before .before .each-at in
+    let run-values = c .before .before .before .before .before .before .before .before .before .run-values in
+    let args = c .before .before .before .before .before .before .before .before .before .before .before .before .args in
+    Stands (args .out .now) (each-at .last .1 .1 .0) (head (run-values .result) ++ cellsPart (args .cells .now)) (each-at .result)
 unfolding text
 celled c =
-    let wrote = c .before .before .each-at in
-    let before = headed (c .before .before .before .before .before) in
-    next (cellsPart (c .before .before .before .before .before .before .before .before .before .before .before .before .args .cells .now)) _ before (omega (arith, room (c .before .before .before .before .before .before .before .before .before), before .ended)) (wrote .ensures .0) (wrote .ensures .1)
+    let each-at = c .before .before .each-at in
+    let at-headed = c .before .before .before .before .before in
+    let at-room = c .before .before .before .before .before .before .before .before .before in
+    let cells = at-room .before .before .before .args .cells .now in
+    let front = headed at-headed in
+    next (cellsPart cells) _ front (omega (arith, room at-room, front .ended)) (each-at .ensures .0) (each-at .ensures .1)
 
 both : (c : tie.After-slice-known3)
-    → let front = head (c .before .before .before .before .before .before .before .before .before .run-values .result) in
-    let cells = cellsPart (c .before .before .before .before .before .before .before .before .before .before .before .before .args .cells .now) in
+    → let run-values = c .before .before .before .before .before .before .before .before .before .run-values in
+    let start = c .before .before .before .before .before .before .before .before .before .before .before .before in
+    let front = head (run-values .result) in
+    let cells = cellsPart (start .args .cells .now) in
     length (front ++ cells) ≡ length front + length cells
-both c = length-append (head (c .before .before .before .before .before .before .before .before .before .run-values .result)) (cellsPart (c .before .before .before .before .before .before .before .before .before .before .before .before .args .cells .now))
+both c =
+    let run-values = c .before .before .before .before .before .before .before .before .before .run-values in
+    let start = c .before .before .before .before .before .before .before .before .before .before .before .before in
+    length-append (head (run-values .result)) (cellsPart (start .args .cells .now))
 
 run-values-requires : tie.Need-run-values-requires
 run-values-requires c κs = search needs
@@ -56,10 +71,15 @@ slice-aggregate-each-at c = search needs
 
 each-at-requires : tie.Need-each-at-requires
 unfolding text
-each-at-requires c κs = omega (arith, room (c .before .before .before .before .before .before), same-size (headed (c .before .before)), headed (c .before .before) .ended)
+each-at-requires c κs =
+    let at-room = c .before .before .before .before .before .before in
+    omega (arith, room at-room, same-size (headed (c .before .before)), headed (c .before .before) .ended)
 
 lines-at-requires-2 : tie.Need-lines-at-requires-2
-lines-at-requires-2 c κs = (search needs, omega (arith, room (c .before .before .before .before .before .before .before .before .before .before), same-size (celled (c .before)), celled (c .before) .ended, both (c .before)))
+lines-at-requires-2 c κs =
+    let at-celled = c .before in
+    let at-room = c .before .before .before .before .before .before .before .before .before .before in
+    (search needs, omega (arith, room at-room, same-size (celled at-celled), celled at-celled .ended, both at-celled))
 
 same-length : tie.Need-same-length
 same-length c = search needs
@@ -67,11 +87,14 @@ same-length c = search needs
 returns : tie.Need-returns
 unfolding text
 returns c =
-    let start = c .before .before .before .before .before .before .before .before .before .before .before .before .before .before .before .before in
-    let values = c .before .before .before .before .before .before .before .before .before .before .before .before .before .run-values in
-    let wrote = c .before .before .lines-at2 in
-    let written = next (last (values .result)) _ (celled (c .before .before .before .before)) (omega (arith, room (c .before .before .before .before .before .before .before .before .before .before .before .before .before), celled (c .before .before .before .before) .ended, both (c .before .before .before .before))) (wrote .ensures .0) (wrote .ensures .1) in
-    finished _ written (run-parts (start .args .outcome) (start .args .cells .now) (values .result) (values .ensures))
+    let lines-at2 = c .before .before .lines-at2 in
+    let at-celled = c .before .before .before .before in
+    let at-room = at-celled .before .before .before .before .before .before .before .before .before in
+    let run-values = at-room .run-values in
+    let args = at-room .before .before .before .args in
+    let written = next (last (run-values .result)) _ (celled at-celled) (omega (arith, room at-room, celled at-celled .ended, both at-celled))
+    (lines-at2 .ensures .0) (lines-at2 .ensures .1) in
+    finished _ written (run-parts (args .outcome) (args .cells .now) (run-values .result) (run-values .ensures))
 
 pub write-run-spec : {M : Type 1} → statement M
 write-run-spec =

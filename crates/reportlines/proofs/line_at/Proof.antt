@@ -23,7 +23,8 @@ same-length : tie.Need-same-length
 same-length c = search needs
 
 returns : tie.Need-returns
-returns c = let start = c .before .before .before .before .before .before in
+returns c =
+    let start = c .before .before .before .before .before .before in
     put-at _ _ _ (start .args .at) _ (start .pre) (c .before .before .write-line .ensures .0) (c .before .before .write-line .ensures .1)
 
 pub line-at-spec : {M : Type 1} → statement M

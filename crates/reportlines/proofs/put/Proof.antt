@@ -35,19 +35,26 @@ loop-less c = search needs
 
 loop-again : tie.Need-loop-again Inv-loop μ-loop
 loop-again c =
-    let a = c .before .before .before .args in
-    let l = c .before .before .loop in
-    (search needs, simp length-set (l .inv .1), ap (λ (d : List ℕ). set d (l .i) (getD (a .src .now) (l .i) 0)) (l .inv .2) ∙ copied (a .src .now) (a .out .now) (l .i) (c .before .loop-test .taken) (c .before .before .before .pre))
+    let turn = c .before .before .loop in
+    let start = c .before .before .before in
+    let args = start .args in
+    let src = args .src .now in (
+      search needs,
+      simp length-set (turn .inv .1),
+      ap (λ (d : List ℕ). set d (turn .i) (getD src (turn .i) 0)) (turn .inv .2)
+          ∙ copied src (args .out .now) (turn .i) (c .before .loop-test .taken) (start .pre),
+    )
 
 same-length : tie.Need-same-length Inv-loop μ-loop
 same-length c = c .before .loop .inv .1
 
 returns : tie.Need-returns Inv-loop μ-loop
 returns c =
-    let a = c .before .before .args in
-    let l = c .before .loop in
-    let e : l .i ≡ length (a .src .now) = omega arith in
-    (e, l .inv .2 ∙ ap (λ (s : List ℕ). over s (a .out .now)) (ap (λ (n : ℕ). take n (a .src .now)) e ∙ take-length (a .src .now)))
+    let turn = c .before .loop in
+    let args = c .before .before .args in
+    let src = args .src .now in
+    let e : turn .i ≡ length src = omega arith in
+    (e, turn .inv .2 ∙ ap (λ (s : List ℕ). over s (args .out .now)) (ap (λ (n : ℕ). take n src) e ∙ take-length src))
 
 pub put-spec : {M : Type 1} → statement M
 put-spec =

@@ -51,7 +51,9 @@ unfolding starts
 returns c = (part-size (word-at (word c)), omega (arith, part-size (word-at (word c)), word-short (word c)))
 
 returns-2 : tie.Need-returns-2
-returns-2 c = let text = as-digits (c .before .before .n .given .1) (c .before .before .before .before .spelled .ensures) in
+returns-2 c =
+    let spelled = c .before .before .before .before .spelled in
+    let text = as-digits (c .before .before .n .given .1) (spelled .ensures) in
     (c .digits .ensures .0 ∙ ap length text, c .digits .ensures .1)
 
 pub value-length-spec : {M : Type 1} → statement M

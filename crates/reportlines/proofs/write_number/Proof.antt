@@ -1,4 +1,5 @@
--- `reportlines::write_number` meets its contract. The invariant: the digits of the rest, with the bytes behind them, are the number over the buffer. Assumes nothing.
+-- `reportlines::write_number` meets its contract. The invariant: the digits of the rest, with the bytes behind them, are the number over the buffer.
+-- Assumes nothing.
 use mathlib.Core.Path.{_≡_, refl, _∙_}
 use mathlib.Core.List.{_++_}
 use Prim.Native.Nat.{_≤_}
@@ -13,7 +14,8 @@ use Rattle.reportlines.proofs.write_number.Statement.{statement}
 use Rattle.reportlines.proofs.write_number.Tie as tie
 
 abbrev Inv-loop : tie.InvT-loop
-Inv-loop n out₀ count i₀ rest₀ out i rest = (i ≡ length (decimal rest)) × (i ≤ length out₀) × (length out ≡ length out₀) × (decimal rest ++ drop i out ≡ over (decimal n) out₀)
+Inv-loop n out₀ count i₀ rest₀ out i rest =
+    (i ≡ length (decimal rest)) × (i ≤ length out₀) × (length out ≡ length out₀) × (decimal rest ++ drop i out ≡ over (decimal n) out₀)
 
 abbrev μ-loop : tie.MeasureT-loop
 μ-loop n out₀ count i₀ rest₀ out i rest = rest
@@ -42,8 +44,12 @@ loop-less c = omega arith
 
 loop-again : tie.Need-loop-again Inv-loop μ-loop
 loop-again c =
-    let l = c .before .loop in
-    (omega (arith, length-more (l .rest) (c .loop-test .taken)), omega arith, simp length-set (l .inv .2), digit-written (l .out) (l .rest) (l .i) (c .loop-test .taken) (l .inv .0) (omega arith) ∙ l .inv .3)
+    let turn = c .before .loop in (
+      omega (arith, length-more (turn .rest) (c .loop-test .taken)),
+      omega arith,
+      simp length-set (turn .inv .2),
+      digit-written (turn .out) (turn .rest) (turn .i) (c .loop-test .taken) (turn .inv .0) (omega arith) ∙ turn .inv .3,
+    )
 
 cast-out-2 : tie.Need-cast-out-2 Inv-loop μ-loop
 cast-out-2 c = omega arith
@@ -59,8 +65,11 @@ same-length c = simp length-set (c .before .loop .inv .2)
 
 returns : tie.Need-returns Inv-loop μ-loop
 returns c =
-    let l = c .before .loop in
-    (c .before .before .digits .ensures .0, first-written (l .out) (l .rest) (l .i) (c .loop-test .left) (l .inv .0) (omega (arith, some-digit (l .rest))) ∙ l .inv .3)
+    let turn = c .before .loop in (
+      c .before .before .digits .ensures .0,
+      first-written (turn .out) (turn .rest) (turn .i) (c .loop-test .left) (turn .inv .0)
+          (omega (arith, some-digit (turn .rest))) ∙ turn .inv .3,
+    )
 
 pub write-number-spec : {M : Type 1} → statement M
 write-number-spec =

@@ -50,26 +50,37 @@ part-put-end c = word-at (word (c .before)) .inside
 
 put-requires : tie.Need-put-requires
 unfolding wordBytes starts
-put-requires c κs = room-for (word-at (word (c .before .before .before)) .part) (c .before .before .before .before .before .before .before .before .pre)
+put-requires c κs =
+    let at-word = c .before .before .before in
+    let start = c .before .before .before .before .before .before .before .before in
+    room-for (word-at (word at-word) .part) (start .pre)
 
 enum-known-n : tie.Need-enum-known-n
 enum-known-n c = search needs
 
 write-number-requires : tie.Need-write-number-requires
-write-number-requires c κs = room-for (as-digits (c .before .before .n .given .1) (c .before .before .before .before .spelled .ensures)) (c .before .before .before .before .before .before .pre)
+write-number-requires c κs =
+    let spelled = c .before .before .before .before .spelled in
+    let start = c .before .before .before .before .before .before in
+    room-for (as-digits (c .before .before .n .given .1) (spelled .ensures)) (start .pre)
 
 same-length : tie.Need-same-length
 same-length c = search needs
 
 returns : tie.Need-returns
 unfolding wordBytes starts
-returns c = wrote _ (word-at (word (c .before .before .before .before .before .before)) .part) (c .before .before .put .ensures)
+returns c =
+    let at-word = c .before .before .before .before .before .before in
+    wrote _ (word-at (word at-word) .part) (c .before .before .put .ensures)
 
 same-length-2 : tie.Need-same-length-2
 same-length-2 c = search needs
 
 returns-2 : tie.Need-returns-2
-returns-2 c = wrote _ (as-digits (c .before .before .before .before .before .n .given .1) (c .before .before .before .before .before .before .before .spelled .ensures)) (c .before .before .write-number .ensures)
+returns-2 c =
+    let n = c .before .before .before .before .before .n in
+    let spelled = c .before .before .before .before .before .before .before .spelled in
+    wrote _ (as-digits (n .given .1) (spelled .ensures)) (c .before .before .write-number .ensures)
 
 pub write-value-spec : {M : Type 1} → statement M
 write-value-spec =

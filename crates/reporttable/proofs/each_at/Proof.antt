@@ -20,7 +20,8 @@ abbrev μ-loop : tie.MeasureT-loop
 
 -- There is room for all of them.
 room : (c : tie.Start Inv-loop μ-loop)
-    → c .args .at + length (bytesOf (linesFrom (numberLine (c .args .key .now) (c .args .numbers .now)) 0 (length (c .args .numbers .now)))) ≤ length (c .args .out .now)
+    → c .args .at + length (bytesOf (linesFrom (numberLine (c .args .key .now) (c .args .numbers .now)) 0 (length (c .args .numbers .now)))) ≤ length
+    (c .args .out .now)
 room c = omega (arith, c .pre, ap (λ (ls : List Line). length (bytesOf ls)) (each-numbered (c .args .key .now) (c .args .numbers .now)))
 
 loop-holds : tie.Need-loop-holds Inv-loop μ-loop
@@ -35,11 +36,14 @@ shared-slice-read-t10 c = search needs
 line-at-requires : tie.Need-line-at-requires Inv-loop μ-loop
 unfolding valueText
 line-at-requires c κs =
-    let start = c .before .before .before .before .before .before .before in
-    let a = start .args in
     let turn = c .before .before .before .loop in
-    line-room (numberLine (a .key .now) (a .numbers .now)) (a .at) 0 (turn .i) (length (a .numbers .now)) (a .out .now) (room start) (c .before .before .loop-test .taken) (turn .inv .1) _
-    (line-by-number (a .key .now) (a .numbers .now) (turn .i))
+    let start = c .before .before .before .before .before .before .before in
+    let args = start .args in
+    let key = args .key .now in
+    let numbers = args .numbers .now in
+    line-room (numberLine key numbers) (args .at) 0 (turn .i) (length numbers) (args .out .now) (room start) (c .before .before .loop-test .taken)
+    (turn .inv .1) _
+    (line-by-number key numbers (turn .i))
 
 add-i : tie.Need-add-i Inv-loop μ-loop
 add-i c = omega arith
@@ -50,13 +54,16 @@ loop-less c = omega arith
 loop-again : tie.Need-loop-again Inv-loop μ-loop
 unfolding valueText
 loop-again c =
-    let start = c .before .before .before .before .before .before .before .before .before .before in
-    let a = start .args in
+    let line-at = c .before .before .line-at in
+    let test = c .before .before .before .before .before .loop-test in
     let turn = c .before .before .before .before .before .before .loop in
-    let wrote = c .before .before .line-at in (
+    let start = c .before .before .before .before .before .before .before .before .before .before in
+    let args = start .args in
+    let key = args .key .now in
+    let numbers = args .numbers .now in (
       omega arith,
-      line-more (numberLine (a .key .now) (a .numbers .now)) (a .at) 0 (turn .i) (length (a .numbers .now)) (a .out .now) (room start) (c .before .before .before .before .before .loop-test .taken) (turn .inv .1) _ _
-          (line-by-number (a .key .now) (a .numbers .now) (turn .i)) (wrote .ensures .0) (wrote .ensures .1),
+      line-more (numberLine key numbers) (args .at) 0 (turn .i) (length numbers) (args .out .now) (room start) (test .taken) (turn .inv .1) _ _
+          (line-by-number key numbers (turn .i)) (line-at .ensures .0) (line-at .ensures .1),
     )
 
 same-length : tie.Need-same-length Inv-loop μ-loop
@@ -65,9 +72,12 @@ same-length c = same-size (c .before .loop .inv .1)
 returns : tie.Need-returns Inv-loop μ-loop
 returns c =
     let start = c .before .before .before .before .before in
-    let a = start .args in
-    rw (each-numbered (a .key .now) (a .numbers .now))
-    (all-written (numberLine (a .key .now) (a .numbers .now)) (a .at) 0 (c .before .loop .i) (length (a .numbers .now)) (a .out .now) (omega (arith, start .pre)) (omega arith) (c .before .loop .inv .1))
+    let args = start .args in
+    let key = args .key .now in
+    let numbers = args .numbers .now in
+    rw (each-numbered key numbers)
+    (all-written (numberLine key numbers) (args .at) 0 (c .before .loop .i) (length numbers) (args .out .now) (omega (arith, start .pre))
+    (omega arith) (c .before .loop .inv .1))
 
 pub each-at-spec : {M : Type 1} → statement M
 each-at-spec =

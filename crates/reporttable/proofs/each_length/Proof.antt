@@ -12,7 +12,8 @@ use Rattle.reporttable.proofs.each_length.Statement.{statement}
 use Rattle.reporttable.proofs.each_length.Tie as tie
 
 abbrev Inv-loop : tie.InvT-loop
-Inv-loop key numbers total₀ i₀ total i = (i ≤ length numbers) × (total ≡ length (bytesOf (linesFrom (numberLine key numbers) 0 i))) × (total ≤ (length key + 12) * i)
+Inv-loop key numbers total₀ i₀ total i =
+    (i ≤ length numbers) × (total ≡ length (bytesOf (linesFrom (numberLine key numbers) 0 i))) × (total ≤ (length key + 12) * i)
 
 abbrev μ-loop : tie.MeasureT-loop
 μ-loop key numbers total₀ i₀ total i = length numbers - i
@@ -32,9 +33,10 @@ line-length-requires c κs = c .before .before .before .before .before .pre .0
 
 add-total : tie.Need-add-total Inv-loop μ-loop
 add-total c =
-    let start = c .before .before .before .before .before .before in
     let turn = c .before .before .before .loop in
-    omega (arith, bounded (length (start .args .key .now)) (turn .i) (start .pre .0), start .pre, turn .inv .2, c .line-length .ensures .1)
+    let start = c .before .before .before .before .before .before in
+    let pre = start .pre in
+    omega (arith, bounded (length (start .args .key .now)) (turn .i) (pre .0), pre, turn .inv .2, c .line-length .ensures .1)
 
 add-i : tie.Need-add-i Inv-loop μ-loop
 add-i c = omega arith
@@ -45,19 +47,23 @@ loop-less c = omega arith
 loop-again : tie.Need-loop-again Inv-loop μ-loop
 unfolding valueText
 loop-again c =
-    let a = c .before .before .before .before .before .before .args in
     let turn = c .before .before .before .loop in
-    let size = c .line-length .ensures .0 ∙ size-by-number (a .key .now) (a .numbers .now) (turn .i) in (
+    let args = c .before .before .before .before .before .before .args in
+    let key = args .key .now in
+    let numbers = args .numbers .now in
+    let size = c .line-length .ensures .0 ∙ size-by-number key numbers (turn .i) in (
       omega arith,
-      omega (arith, size-more (numberLine (a .key .now) (a .numbers .now)) 0 (turn .i), size, turn .inv .1),
-      one-more (length (a .key .now)) (turn .i) (turn .inv .2) (c .line-length .ensures .1),
+      omega (arith, size-more (numberLine key numbers) 0 (turn .i), size, turn .inv .1),
+      one-more (length key) (turn .i) (turn .inv .2) (c .line-length .ensures .1),
     )
 
 returns : tie.Need-returns Inv-loop μ-loop
 returns c =
-    let a = c .before .before .before .before .args in
-    let all : c .before .loop .i ≡ length (a .numbers .now) = omega arith in
-    rw (each-numbered (a .key .now) (a .numbers .now), ← all) (c .before .loop .inv .1, c .before .loop .inv .2)
+    let turn = c .before .loop in
+    let args = c .before .before .before .before .args in
+    let numbers = args .numbers .now in
+    let all : turn .i ≡ length numbers = omega arith in
+    rw (each-numbered (args .key .now) numbers, ← all) (turn .inv .1, turn .inv .2)
 
 pub each-length-spec : {M : Type 1} → statement M
 each-length-spec =

@@ -20,7 +20,10 @@ below : (c : tie.In-loop Inv-loop μ-loop) → c .before .before .before .args .
 below c = omega (arith, c .before .before .before .pre .0, c .loop-test .taken)
 
 loop-holds : tie.Need-loop-holds Inv-loop μ-loop
-loop-holds c = (search needs, none-written (tableLine (c .before .args .t1)) (c .before .args .at) (c .before .args .from) (c .before .args .out .now) (omega (arith, c .before .pre .1)))
+loop-holds c =
+    let start = c .before in
+    let args = start .args in
+    (search needs, none-written (tableLine (args .t1)) (args .at) (args .from) (args .out .now) (omega (arith, start .pre .1)))
 
 add-i : tie.Need-add-i Inv-loop μ-loop
 add-i c = omega (arith, below c)
@@ -61,12 +64,12 @@ array-copy-out-line-at c = omega (arith, below (c .before .before))
 line-at-requires : tie.Need-line-at-requires Inv-loop μ-loop
 unfolding keyBytes starts
 line-at-requires c κs =
+    let at-below = c .before .before .before .before in
+    let turn = at-below .before .loop in
     let start = c .before .before .before .before .before .before .before in
-    let a = start .args in
-    let turn = c .before .before .before .before .before .loop in
-    let tested = c .before .before .before .before in
-    line-room (tableLine (a .t1)) (a .at) (a .from) (turn .j) (a .n) (a .out .now) (start .pre .1) (tested .loop-test .taken) (turn .inv .1) _
-    (line-by-key (a .t1) (a .from + turn .j) (below tested))
+    let args = start .args in
+    line-room (tableLine (args .t1)) (args .at) (args .from) (turn .j) (args .n) (args .out .now) (start .pre .1) (at-below .loop-test .taken) (turn .inv .1) _
+    (line-by-key (args .t1) (args .from + turn .j) (below at-below))
 
 add-j : tie.Need-add-j Inv-loop μ-loop
 add-j c = omega arith
@@ -77,14 +80,15 @@ loop-less c = omega arith
 loop-again : tie.Need-loop-again Inv-loop μ-loop
 unfolding keyBytes starts
 loop-again c =
+    let line-at = c .before .before .line-at in
+    let at-below = c .before .before .before .before .before .before .before in
+    let turn = at-below .before .loop in
     let start = c .before .before .before .before .before .before .before .before .before .before in
-    let a = start .args in
-    let turn = c .before .before .before .before .before .before .before .before .loop in
-    let tested = c .before .before .before .before .before .before .before in
-    let wrote = c .before .before .line-at in (
+    let args = start .args in (
       omega arith,
-      line-more (tableLine (a .t1)) (a .at) (a .from) (turn .j) (a .n) (a .out .now) (start .pre .1) (tested .loop-test .taken) (turn .inv .1) _ _
-          (line-by-key (a .t1) (a .from + turn .j) (below tested)) (wrote .ensures .0) (wrote .ensures .1),
+      line-more (tableLine (args .t1)) (args .at) (args .from) (turn .j) (args .n) (args .out .now) (start .pre .1) (at-below .loop-test .taken)
+          (turn .inv .1) _ _
+          (line-by-key (args .t1) (args .from + turn .j) (below at-below)) (line-at .ensures .0) (line-at .ensures .1),
     )
 
 same-length : tie.Need-same-length Inv-loop μ-loop
@@ -93,8 +97,9 @@ same-length c = same-size (c .before .loop .inv .1)
 returns : tie.Need-returns Inv-loop μ-loop
 returns c =
     let start = c .before .before .before in
-    let a = start .args in
-    all-written (tableLine (a .t1)) (a .at) (a .from) (c .before .loop .j) (a .n) (a .out .now) (omega (arith, start .pre .1)) (omega arith) (c .before .loop .inv .1)
+    let args = start .args in
+    all-written (tableLine (args .t1)) (args .at) (args .from) (c .before .loop .j) (args .n) (args .out .now) (omega (arith, start .pre .1))
+    (omega arith) (c .before .loop .inv .1)
 
 pub lines-at-spec : {M : Type 1} → statement M
 lines-at-spec =

@@ -59,7 +59,9 @@ line-length-requires c κs = key-short _ (below (c .before))
 
 add-total : tie.Need-add-total Inv-loop μ-loop
 unfolding starts
-add-total c = omega (arith, c .before .before .before .before .pre, c .line-length .ensures .1, key-short _ (below (c .before .before)))
+add-total c =
+    let pre = c .before .before .before .before .pre in
+    omega (arith, pre, c .line-length .ensures .1, key-short _ (below (c .before .before)))
 
 add-j : tie.Need-add-j Inv-loop μ-loop
 add-j c = omega arith
@@ -70,17 +72,20 @@ loop-less c = omega arith
 loop-again : tie.Need-loop-again Inv-loop μ-loop
 unfolding starts
 loop-again c =
-    let a = c .before .before .before .before .args in
     let turn = c .before .before .before .loop in
+    let args = c .before .before .before .before .args in
     let due = below (c .before .before) in
-    let size = c .line-length .ensures .0 ∙ size-by-key (a .t1) (a .from + turn .j) due in
-    (omega arith, omega (arith, size-more (tableLine (a .t1)) (a .from) (turn .j), size, turn .inv .1), omega (arith, c .line-length .ensures .1, key-short _ due))
+    let size = c .line-length .ensures .0 ∙ size-by-key (args .t1) (args .from + turn .j) due in (
+      omega arith,
+      omega (arith, size-more (tableLine (args .t1)) (args .from) (turn .j), size, turn .inv .1),
+      omega (arith, c .line-length .ensures .1, key-short _ due),
+    )
 
 returns : tie.Need-returns Inv-loop μ-loop
 returns c =
-    let a = c .before .before .args in
-    let all : c .before .loop .j ≡ a .n = omega arith in
-    (c .before .loop .inv .1 ∙ ap (λ (k : ℕ). length (bytesOf (tableLines (a .t1) (a .from) k))) all, omega arith)
+    let args = c .before .before .args in
+    let all : c .before .loop .j ≡ args .n = omega arith in
+    (c .before .loop .inv .1 ∙ ap (λ (k : ℕ). length (bytesOf (tableLines (args .t1) (args .from) k))) all, omega arith)
 
 pub lines-length-spec : {M : Type 1} → statement M
 lines-length-spec =

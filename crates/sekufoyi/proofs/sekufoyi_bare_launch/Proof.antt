@@ -27,8 +27,10 @@ same-length-2 c = search needs
 
 returns : tie.Need-returns
 returns c =
-    let t = refusal-told _ _ (c .before .before .before .before .before .before .before .before .before .bare-launch .ensures .0) _ _ (c .before .before .before .why .given .1) (c .words .ensures) in
-    (t .0, (t .1 .0, (t .1 .1, c .before .before .before .before .before .before .before .before .before .bare-launch .ensures .1)))
+    let why = c .before .before .before .why in
+    let bare-launch = c .before .before .before .before .before .before .before .before .before .bare-launch in
+    let t = refusal-told _ _ (bare-launch .ensures .0) _ _ (why .given .1) (c .words .ensures) in
+    (t .0, (t .1 .0, (t .1 .1, bare-launch .ensures .1)))
 
 same-length-3 : tie.Need-same-length-3
 same-length-3 c = search needs
@@ -38,8 +40,10 @@ same-length-4 c = search needs
 
 returns-2 : tie.Need-returns-2
 returns-2 c =
-    let t = run-told _ _ (c .before .before .before .before .before .before .before .before .before .bare-launch .ensures .0) _ _ (c .before .before .before .ended .given .1) (c .before .outcome-words .ensures) in
-    (t .0, (t .1 .0, (t .1 .1, c .before .before .before .before .before .before .before .before .before .bare-launch .ensures .1)))
+    let ended = c .before .before .before .ended in
+    let bare-launch = c .before .before .before .before .before .before .before .before .before .bare-launch in
+    let t = run-told _ _ (bare-launch .ensures .0) _ _ (ended .given .1) (c .before .outcome-words .ensures) in
+    (t .0, (t .1 .0, (t .1 .1, bare-launch .ensures .1)))
 
 pub sekufoyi-bare-launch-spec : {M : Type 1} → statement M
 sekufoyi-bare-launch-spec =

@@ -21,7 +21,11 @@ same-length-3 : tie.Need-same-length-3
 same-length-3 c = search needs
 
 returns : tie.Need-returns
-returns c = (c .tell-written .ensures .0 ∙ ap lengthIn (c .before .before .before .before .before .before .before .before .check-file .ensures .0), (c .tell-written .ensures .1 ∙ ap refusalIn (c .before .before .before .before .before .before .before .before .check-file .ensures .0), c .before .before .before .before .before .before .before .before .check-file .ensures .1))
+returns c =
+    let check-file = c .before .before .before .before .before .before .before .before .check-file in (
+      c .tell-written .ensures .0 ∙ ap lengthIn (check-file .ensures .0),
+      (c .tell-written .ensures .1 ∙ ap refusalIn (check-file .ensures .0), check-file .ensures .1),
+    )
 
 pub sekufoyi-check-file-spec : {M : Type 1} → statement M
 sekufoyi-check-file-spec =
