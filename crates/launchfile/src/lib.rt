@@ -42,7 +42,7 @@ fn refused(why: Refusal) -> Parsed
 }
 
 // The rows, the cells and the end, behind these numbers.
-fn read_contents(rest: &[u8], numbers: &[u32; 4]) -> Parsed
+fn read_contents(rest: &[u8], numbers: &[u32; numberlines::COUNT]) -> Parsed
     requires { ⌜ Within (threadsIn (now numbers)) (limitIn (now numbers)) (rowsIn (now numbers)) (cellsIn (now numbers)) ⌝ }
     ensures { λ r. ⌜ ReadAs (contentLines (now (numbers .entry)) (2 + lineCount) (now (rest .entry))) r ⌝ }
 {
@@ -96,7 +96,7 @@ pub fn read_launch(file: &[u8]) -> Parsed
         return refused(Refusal::LineNotDue(1));
     }
     let lines = filelines::next(file);
-    let mut numbers = [0u32; 4];
+    let mut numbers = [0u32; numberlines::COUNT];
     if let Admission::Refused(why) = numberlines::read_numbers(lines, &mut numbers) {
         return refused(why);
     }

@@ -20,13 +20,13 @@ pub const ROWS: usize = 3;
 // The keys, one behind the other: key i starts at STARTS[i] and ends where the next one starts.
 const KEYS: [u8; 21] = *b"threadscellslimitrows";
 
-const STARTS: [usize; 5] = [0, 7, 12, 17, 21];
+const STARTS: [usize; COUNT + 1] = [0, 7, 12, 17, 21];
 
-const LEAST: [u32; 4] = [1, 1, 0, 0];
+const LEAST: [u32; COUNT] = [1, 1, 0, 0];
 
-const GREATEST: [u32; 4] = [32, 1024, 1000000, 256];
+const GREATEST: [u32; COUNT] = [32, 1024, 1000000, 256];
 
-const REFUSALS: [Refusal; 4] = [
+const REFUSALS: [Refusal; COUNT] = [
     Refusal::ThreadsOutOfRange(2),
     Refusal::CellsOutOfRange(3),
     Refusal::LimitOutOfRange(4),
@@ -34,7 +34,7 @@ const REFUSALS: [Refusal; 4] = [
 ];
 
 // Reads the number lines, from line 2 on, up to the first that is refused.
-pub fn read_numbers(file: &[u8], numbers: &mut [u32; 4]) -> Admission
+pub fn read_numbers(file: &[u8], numbers: &mut [u32; COUNT]) -> Admission
     requires { ⌜ length (now numbers) ≡ lineCount ⌝ }
     ensures { λ r. ⌜ NumbersRead (now (file .entry)) (now (numbers .exit)) r ⌝ }
 {

@@ -115,7 +115,7 @@ pub record NumberLine : Type 0 where
   pub greatest : ℕ
   pub refusal : Refusal
 
--- The lines with one number, in their order: lines 2 to 5.
+-- The lines with one number, in their order, from line 2 on.
 unfoldable pub numberLines : List NumberLine
 numberLines =
     record { key = "threads"; least = 1; greatest = maxThreads; refusal = ThreadsOutOfRange 2 }
