@@ -1,7 +1,7 @@
 -- The laws of the access table: what the rest of the proof knows of kinds. Assumes nothing.
 use mathlib.Core.Path.{_≡_, refl, sym, _∙_, ap, ap₂}
 use mathlib.Core.List.{List, [], _∷_, _++_}
-use mathlib.Core.Bool.{Bool, true, false, not, _&&_, _||_, false≢true}
+use mathlib.Core.Bool.{Bool, true, false, not, _&&_, _||_, false≢true, or-assoc}
 use Prim.Native.Nat.{ℕ}
 use native.Mathlib.Decide.{ℕ-discrete}
 use lib.Dec.{eqb, ltb}
@@ -110,11 +110,7 @@ some-same p q (x ∷ xs) h = ap₂ _||_ (h x) (some-same p q xs h)
 pub some-append : {A : Type 0} (p : A → Bool) (xs ys : List A) → anyOf p (xs ++ ys) ≡ (anyOf p xs || anyOf p ys)
 unfolding anyOf
 some-append p [] ys = refl
-some-append p (x ∷ xs) ys = ap (λ b. p x || b) (some-append p xs ys) ∙ assoc (p x) (anyOf p xs) (anyOf p ys)
-  where
-    assoc : (a b c : Bool) → (a || (b || c)) ≡ (a || b || c)
-    assoc true b c = refl
-    assoc false b c = refl
+some-append p (x ∷ xs) ys = ap (λ b. p x || b) (some-append p xs ys) ∙ sym (or-assoc (p x) (anyOf p xs) (anyOf p ys))
 
 pub some-or : {A : Type 0} (p q : A → Bool) (xs : List A) → anyOf (λ x. p x || q x) xs ≡ (anyOf p xs || anyOf q xs)
 unfolding anyOf

@@ -13,8 +13,9 @@ use Rattle.spec.specs.Mask.{Mask, has}
 use Rattle.spec.specs.Op.{BARRIER, CALC, ELSE, ENDIF, ENDWHILE, IF, MEM, Op, UNKNOWN, WHILE}
 use Rattle.spec.specs.Table.{Role, Table, WellFormed, closing, dividing, elseOf, endOf, openBefore, opening, plain, role, rowAt, scan}
 use Rattle.spec.specs.Threads.{Thread}
+use Rattle.spec.proofs.Laws.{lt-or-le}
 use Rattle.allruns.proofs.Nesting.{isWhile, Opened, AllOpened, scan-ge, scan-deeper, scan-strict, leave}
-use Rattle.allruns.proofs.Progress.{Later, isLoop, mark, phase-loop, tri-in, tri-past, either, on-later, pastElse-ge}
+use Rattle.allruns.proofs.Progress.{Later, isLoop, mark, phase-loop, tri-in, tri-past, on-later, pastElse-ge}
 use Rattle.allruns.proofs.Simulation.{Pos, Frame, loopsOf, exit, place, Nested, place-in, place-out, body}
 use Rattle.allruns.proofs.Rows.{openersOf, exit-if, exit-else, exit-while, loops-plain, loops-while, loop-if, loop-else}
 
@@ -24,7 +25,7 @@ scan-up half T r k = scan-ge half (drop (suc r) T) k (suc r)
 scan-more : (T : Table) (r j k : ℕ) → j ≤ k → scan false (drop (suc r) T) j (suc r) ≤ scan false (drop (suc r) T) k (suc r)
 scan-more T r j zero l =
     subst (λ i. scan false (drop (suc r) T) i (suc r) ≤ scan false (drop (suc r) T) 0 (suc r)) (let z : 0 ≡ j = omega arith in z) (omega arith)
-scan-more T r j (suc k) l = by (either j (suc k)) (scan-more T r j k)
+scan-more T r j (suc k) l = by (lt-or-le j (suc k)) (scan-more T r j k)
   where
     by : (j < suc k) ⊎ (suc k ≤ j) → (j ≤ k → scan false (drop (suc r) T) j (suc r) ≤ scan false (drop (suc r) T) k (suc r))
         → scan false (drop (suc r) T) j (suc r) ≤ scan false (drop (suc r) T) (suc k) (suc r)
@@ -82,7 +83,7 @@ module _ (T : Table) (w : WellFormed T) (n r u : ℕ) (rin : r < length T) (nolo
   in-loop : (l : List ℕ) (o c k : ℕ) (p : Pos) → o ≤ r → rowAt T o .op ≡ WHILE → endOf T o ≡ scan false (drop (suc r) T) k (suc r) → Past l (suc k) p
       → Past (set l o c) k p
   in-loop l o c k p oi q e h =
-      record { far = λ j i. h .far j (omega arith); beyond = h .beyond; past = by (either (h .past .at) o) }
+      record { far = λ j i. h .far j (omega arith); beyond = h .beyond; past = by (lt-or-le (h .past .at) o) }
     where
       loop : isLoop T o ≡ true
       loop = unfold isLoop isWhile in (ap isWhile q)
@@ -166,7 +167,7 @@ module _ (T : Table) (w : WellFormed T) (n r u : ℕ) (rin : r < length T) (nolo
       len = length-append ks (f .opener ∷ []) ∙ add-one (length ks)
 
       inner : (j : ℕ) → j < length (ks ++ (f .opener ∷ [])) → scan false (drop (suc r) T) j (suc r) < length T
-      inner j l = at (either j (length ks))
+      inner j l = at (lt-or-le j (length ks))
         where
           at : (j < length ks) ⊎ (length ks ≤ j) → scan false (drop (suc r) T) j (suc r) < length T
           at (inl h) = i j h

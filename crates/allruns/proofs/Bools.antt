@@ -1,6 +1,6 @@
 -- Facts on Booleans and on `anyBelow`. Assumes nothing.
 use mathlib.Core.Path.{_≡_, refl, sym, _∙_, ap, ap₂}
-use mathlib.Core.Bool.{Bool, true, false, not, _&&_, _||_, or-comm, false≢true}
+use mathlib.Core.Bool.{Bool, true, false, not, _&&_, _||_, or-comm, false≢true, or-false}
 use Prim.Native.Nat.{ℕ, zero, suc, _<_}
 use native.Mathlib.Omega.{arith}
 use native.Mathlib.Decide.{ℕ-discrete}
@@ -23,10 +23,6 @@ pub not-is : (a : Bool) → not a ≡ true → a ≡ false
 not-is true h = sym h
 not-is false h = refl
 
-pub or-swap : (a b c : Bool) → (a || b || c) ≡ (a || c || b)
-or-swap true b c = refl
-or-swap false b c = or-comm b c
-
 pub below-same : (n : ℕ) (p q : ℕ → Bool) → ((v : ℕ) → v < n → p v ≡ q v) → anyBelow n p ≡ anyBelow n q
 unfolding anyBelow
 below-same zero p q h = refl
@@ -46,12 +42,8 @@ below-more (suc n) p t w h = at (ℕ-discrete n t) (below-more n p t w)
         → (p n || (eqb n t && w) || anyBelow n (λ v. p v || (eqb v t && w))) ≡ (p n || anyBelow n p || w)
     at (yes e) ih =
         ap₂ (λ x y. p n || (x && w) || y) (eq-eqb n t e)
-        (below-same n (λ v. p v || (eqb v t && w)) p (λ v l. ap (λ x. p v || (x && w)) (ne-eqb v t (λ q. omega arith)) ∙ zero-or (p v)))
+        (below-same n (λ v. p v || (eqb v t && w)) p (λ v l. ap (λ x. p v || (x && w)) (ne-eqb v t (λ q. omega arith)) ∙ or-false (p v)))
         ∙ swap (p n) (anyBelow n p) w
-      where
-        zero-or : (a : Bool) → (a || false) ≡ a
-        zero-or true = refl
-        zero-or false = refl
     at (no e) ih =
         ap₂ (λ x y. p n || (x && w) || y) (ne-eqb n t e) (ih (omega arith)) ∙ fin (p n) (anyBelow n p) w
       where

@@ -2,7 +2,7 @@
 -- is possible only where no thread's move is. Assumes nothing.
 use mathlib.Core.Path.{_≡_, refl, sym, _∙_, ap, ap₂, subst, fun-ext}
 use mathlib.Core.List.{List, [], _∷_, _++_}
-use mathlib.Core.Bool.{Bool, true, false, cond, not, _&&_, _||_, or-comm, true≢false, false≢true}
+use mathlib.Core.Bool.{Bool, true, false, cond, not, _&&_, _||_, or-comm, true≢false, false≢true, or-assoc}
 use Prim.Native.Nat.{ℕ, zero, suc, _<_, _≤_}
 use native.Mathlib.Omega.{arith}
 use native.Mathlib.Decide.{ℕ-discrete}
@@ -58,11 +58,8 @@ hurts-after s t u x y ne lt =
     ap (λ n. isOutside y || anyOf (races n (recorded (s .made) t (accessesOf x)) u) (accessesOf y)) (length-set (s .threads) t _)
     ∙ ap (λ b. isOutside y || b) (some-same _ _ (accessesOf y) (λ a. races-more (length (s .threads)) (s .made) t u (accessesOf x) a ne lt)
     ∙ some-or _ _ (accessesOf y))
-    ∙ or-in (isOutside y) (anyOf (races (length (s .threads)) (s .made) u) (accessesOf y)) (anyOf (λ b. anyOf (conflict b) (accessesOf x)) (accessesOf y))
-  where
-    or-in : (a b c : Bool) → (a || (b || c)) ≡ (a || b || c)
-    or-in true b c = refl
-    or-in false b c = refl
+    ∙ sym (or-assoc (isOutside y) (anyOf (races (length (s .threads)) (s .made) u) (accessesOf y))
+    (anyOf (λ b. anyOf (conflict b) (accessesOf x)) (accessesOf y)))
 
 or-zero : (a : Bool) → (a || false || false) ≡ false → a ≡ false
 or-zero true q = q

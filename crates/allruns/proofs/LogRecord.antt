@@ -1,7 +1,7 @@
 -- The lock-step log stands for the machine's access record. Assumes nothing.
 use mathlib.Core.Path.{_≡_, refl, sym, _∙_, ap, ap₂}
 use mathlib.Core.List.{List, [], _∷_, map}
-use mathlib.Core.Bool.{Bool, true, false, cond, not, _&&_, _||_, or-comm}
+use mathlib.Core.Bool.{Bool, true, false, cond, not, _&&_, _||_, or-comm, and-true, and-false, or-false}
 use Prim.Native.Nat.{ℕ, zero, suc, _<_}
 use native.Mathlib.Omega.{arith}
 use native.Mathlib.Decide.{ℕ-discrete}
@@ -14,6 +14,7 @@ use Rattle.spec.specs.Lists.{anyOf}
 use Rattle.spec.specs.Log.{Log, cleared, conflictMask, emptyLog, logged, testedMask, withThread}
 use Rattle.spec.specs.Mask.{Mask, any, has, union}
 use Rattle.spec.specs.Threads.{AccessRecord, anyBelow, emptyRecord, races, recorded}
+use Rattle.spec.proofs.Laws.{union-size, wiped-size}
 use Rattle.allruns.proofs.Bools.{below-same}
 use Rattle.allruns.proofs.Accesses.{some-same, some-or}
 
@@ -44,19 +45,8 @@ pub has-union : (m k : Mask) (u : ℕ) → has (union m k) u ≡ (has m u || has
 unfolding has union
 has-union [] k u = refl
 has-union (b ∷ m) [] u = sym (or-false (getD (b ∷ m) u false))
-  where
-    or-false : (a : Bool) → (a || false) ≡ a
-    or-false true = refl
-    or-false false = refl
 has-union (b ∷ m) (c ∷ k) zero = refl
 has-union (b ∷ m) (c ∷ k) (suc u) = has-union m k u
-
-length-union : (m k : Mask) → length m ≡ length k → length (union m k) ≡ length m
-unfolding union
-length-union [] [] q = refl
-length-union [] (c ∷ k) q = sym q
-length-union (b ∷ m) [] q = refl
-length-union (b ∷ m) (c ∷ k) q = ap suc (length-union m k (omega arith))
 
 -- An entered mask: the new record, and the old ones.
 pub enter-has : (masks : List Mask) (c t e u : ℕ) → c < length masks → t < length (getD masks c [])
@@ -132,7 +122,7 @@ module _ (n k : ℕ) (R : AccessRecord) (G : Log) (h : LogMatches n k R G) (t c 
   against-size : (x : Kind) → length (testedMask G c x) ≡ n
   unfolding testedMask
   against-size load = h .writerSize c i
-  against-size (store v) = length-union _ _ (h .writerSize c i ∙ sym (h .readerSize c i)) ∙ h .writerSize c i
+  against-size (store v) = union-size _ _ (h .writerSize c i ∙ sym (h .readerSize c i)) ∙ h .writerSize c i
 
   against-has : (x : Kind) (u : ℕ) → u < n → anyOf (conflict (record { cell = c; kind = x })) (R u) ≡ has (testedMask G c x) u
   unfolding testedMask conflict holds
@@ -166,18 +156,10 @@ module _ (n k : ℕ) (R : AccessRecord) (G : Log) (h : LogMatches n k R G) (t c 
       (ap (λ y. eqb e c && y) q ∙ and-true (eqb e c))
       ∙ sym (enter-has masks c t e u (omega arith) (omega arith))
     where
-      and-true : (a : Bool) → (a && true) ≡ a
-      and-true true = refl
-      and-true false = refl
-
-      or-false : (a : Bool) → a ≡ (a || false)
-      or-false true = refl
-      or-false false = refl
-
       by : (d : Bool) → anyOf (λ a. eqb e (a .cell) && p (a .kind)) (cond d (record { cell = c; kind = x } ∷ R u) (R u))
           ≡ (anyOf (λ a. eqb e (a .cell) && p (a .kind)) (R u) || (d && (eqb e c && p x)))
       by true = or-comm (eqb e c && p x) _
-      by false = or-false _
+      by false = sym (or-false _)
 
   off-mask : (p : Kind → Bool) (masks : List Mask) (x : Kind) → p x ≡ false
       → ((u e : ℕ) → u < n → e < k → holds p e (R u) ≡ has (getD masks e []) u)
@@ -185,10 +167,6 @@ module _ (n k : ℕ) (R : AccessRecord) (G : Log) (h : LogMatches n k R G) (t c 
   unfolding holds recorded anyOf
   off-mask p masks x q m u e a b = by (eqb u t) ∙ m u e a b
     where
-      and-false : (a : Bool) → (a && false) ≡ false
-      and-false true = refl
-      and-false false = refl
-
       by : (d : Bool)
           → anyOf (λ a. eqb e (a .cell) && p (a .kind)) (cond d (record { cell = c; kind = x } ∷ R u) (R u)) ≡ anyOf (λ a. eqb e (a .cell) && p (a .kind)) (R u)
       by true = ap (λ y. y || anyOf (λ a. eqb e (a .cell) && p (a .kind)) (R u)) (ap (λ y. eqb e c && y) q ∙ and-false (eqb e c))
@@ -226,11 +204,6 @@ wiped (m ∷ masks) zero t = off m t
     off (b ∷ m) zero = refl
     off (b ∷ m) (suc t) = off m t
 wiped (m ∷ masks) (suc c) t = wiped masks c t
-
-wiped-size : (masks : List Mask) (c : ℕ) → length (getD (map (map (λ b. false)) masks) c []) ≡ length (getD masks c [])
-wiped-size [] c = refl
-wiped-size (m ∷ masks) zero = length-map m (λ b. false)
-wiped-size (m ∷ masks) (suc c) = wiped-size masks c
 
 pub log-empty : (n k : ℕ) → LogMatches n k emptyRecord (emptyLog n k)
 unfolding emptyLog emptyRecord holds anyOf

@@ -1,7 +1,7 @@
 -- In every run a thread's loop counts are 0 but at the loops around its row. Assumes nothing.
 use mathlib.Core.Path.{_≡_, refl, sym, _∙_, ap, subst}
 use mathlib.Core.Logic.{_⊎_, inl, inr, ⊎-elim}
-use mathlib.Core.List.{List, [], _∷_, _++_, tail, cons≢nil, List·Memᴰ, List·Memᴰ·head, List·Memᴰ·tail, List·Memᴰ·cases-cons, List·Memᴰ·not-nil}
+use mathlib.Core.List.{List, [], _∷_, _++_, tail, List·Memᴰ, List·Memᴰ·head, List·Memᴰ·tail, List·Memᴰ·cases-cons, List·Memᴰ·not-nil}
 use mathlib.Core.Bool.{Bool, true, false, true≢false}
 use Prim.Native.Nat.{ℕ, zero, suc, _+_, _-_, _<_}
 use native.Mathlib.Omega.{arith}
@@ -14,7 +14,7 @@ use Rattle.spec.specs.Shape.{Shape, shapeOf}
 use Rattle.spec.specs.Table.{Fits, Role, Table, WellFormed, closing, dividing, elseOf, endOf, innermost, openBefore, openedBy, opening, pastElse}
 use Rattle.spec.specs.Table.{plain, role, rowAt, scan, scanRow, startOf}
 use Rattle.spec.specs.Threads.{Move, Thread, effectOf, goto, noThread, onIf, onWhile, pastBarrier, put, reg, threadAfter}
-use Rattle.allruns.proofs.Nesting.{isWhile, innermost-at, outer, scan-step}
+use Rattle.allruns.proofs.Nesting.{isWhile, innermost-at, outer, scan-step, none-between}
 use Rattle.allruns.proofs.Progress.{back, isLoop}
 use Rattle.allruns.proofs.Invariants.{Keeps, in-every-run, reach-cases, replicate-keeps}
 
@@ -41,11 +41,7 @@ Still T e os = (i : ℕ) → List·Memᴰ i os → List·Memᴰ i (openBefore T 
 still : (T : Table) → WellFormed T → (half : Bool) (m r : ℕ) (ks : List ℕ) (o : ℕ) (os : List ℕ) → r + m ≡ length T → openBefore T r ≡ ks ++ (o ∷ os)
     → Still T (scan half (drop r T) (length ks) r) os
 unfolding scanRow openBefore openedBy
-still T w half zero r ks o os f q = absurd (none ks (sym (w .closed) ∙ ap (openBefore T) (let z : length T ≡ r = omega arith in z) ∙ q))
-  where
-    none : (ks : List ℕ) → [] ≡ ks ++ (o ∷ os) → ⊥
-    none [] p = cons≢nil (sym p)
-    none (k ∷ ks) p = cons≢nil (sym p)
+still T w half zero r ks o os f q = absurd (none-between ks o os (sym (w .closed) ∙ ap (openBefore T) (let z : length T ≡ r = omega arith in z) ∙ q))
 still T w half (suc m) r ks o os f q =
     rw (scan-step T half r (length ks) (omega arith))
     (by (role (rowAt T r .op)) ks half (ap (openedBy (role (rowAt T r .op)) r) q) (λ half ks o z. still T w half m (suc r) ks o os (omega arith) z))

@@ -192,14 +192,14 @@ pub record Left (T : Table) (e : ℕ) (os : List ℕ) : Type 0 where
   pub within : e < length T
   pub leaves : openBefore T (suc e) ≡ os
 
+pub none-between : (ks : List ℕ) (o : ℕ) (os : List ℕ) → [] ≡ ks ++ (o ∷ os) → ⊥
+none-between [] o os p = cons≢nil (sym p)
+none-between (k ∷ ks) o os p = cons≢nil (sym p)
+
 pub leave : (T : Table) → WellFormed T → (m r : ℕ) (ks : List ℕ) (o : ℕ) (os : List ℕ) → r + m ≡ length T → openBefore T r ≡ ks ++ (o ∷ os)
     → Left T (scan false (drop r T) (length ks) r) os
 unfolding scanRow openBefore openedBy
-leave T w zero r ks o os f q = absurd (none ks (sym (w .closed) ∙ ap (openBefore T) (let z : length T ≡ r = omega arith in z) ∙ q))
-  where
-    none : (ks : List ℕ) → [] ≡ ks ++ (o ∷ os) → ⊥
-    none [] p = cons≢nil (sym p)
-    none (k ∷ ks) p = cons≢nil (sym p)
+leave T w zero r ks o os f q = absurd (none-between ks o os (sym (w .closed) ∙ ap (openBefore T) (let z : length T ≡ r = omega arith in z) ∙ q))
 leave T w (suc m) r ks o os f q =
     subst (λ e. Left T e os) (sym (scan-step T false r (length ks) l))
     (by (role (rowAt T r .op)) ks q refl (λ ks o z. leave T w m (suc r) ks o os (omega arith) z))

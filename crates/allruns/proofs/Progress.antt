@@ -6,7 +6,7 @@ use mathlib.Core.Bool.{Bool, true, false, cond, true≢false}
 use Prim.Native.Nat.{ℕ, zero, suc, _+_, _*_, _<_, _≤_}
 use native.Mathlib.Omega.{arith}
 use lib.Dec.{eqb, leb, ltb}
-use borrow.Author.Tests.{eq-eqb, ne-eqb, ltb-true, ltb-false, lt-ltb, le-ltb, le-leb, lt-leb}
+use borrow.Author.Tests.{eq-eqb, ne-eqb, ltb-true, lt-ltb, le-ltb, le-leb, lt-leb}
 use lib.ListN.{length, getD, drop, set, length-set, List·getD-eq-default}
 use lib.Seq.{getD-set-other, getD-set-same}
 use Rattle.spec.specs.Access.{Kind}
@@ -16,6 +16,7 @@ use Rattle.spec.specs.Table.{Fits, Table, WellFormed, cellByte, closing, elseOf
 use Rattle.spec.specs.Table.{rowAt, scan, startOf}
 use Rattle.spec.specs.Threads.{Effect, Thread, accesses, effect, effectOf, goto, isOutside, isWaiting, onIf, onWhile, put, reach, reg, strays}
 use Rattle.spec.specs.Threads.{threadAfter, waits}
+use Rattle.spec.proofs.Laws.{lt-or-le, role-while}
 use Rattle.allruns.proofs.Nesting.{isWhile, scan-ge, innermost-at, end-here, end-nested}
 
 unfoldable pub isLoop : Table → ℕ → Bool
@@ -41,9 +42,6 @@ pub record Later (T : Table) (x y : Thread) : Type 0 where
   pub before : (i : ℕ) → i < at → (phase T i (x .row) ≤ phase T i (y .row)) × (mark T i x ≤ mark T i y)
   pub there : Ahead T at x y
 
-pub later-self : (T : Table) (x : Thread) → Later T x x → ⊥
-later-self T x l = ⊎-elim (λ h. omega arith) (λ h. omega arith) (l .there)
-
 pub later-not : (T : Table) (x y : Thread) → x .row ≡ y .row → x .loops ≡ y .loops → Later T x y → ⊥
 unfolding mark
 later-not T x y p q l =
@@ -51,15 +49,8 @@ later-not T x y p q l =
     let b : mark T (l .at) x ≡ mark T (l .at) y = ap₂ (λ r z. cond (isLoop T (l .at)) (2 * getD z (l .at) 0 + cond (eqb r (l .at)) 1 0) 0) p q in
     ⊎-elim (λ h. omega arith) (λ h. omega arith) (l .there)
 
-pub either : (a b : ℕ) → (a < b) ⊎ (b ≤ a)
-either a b = by (ltb a b) refl
-  where
-    by : (z : Bool) → ltb a b ≡ z → (a < b) ⊎ (b ≤ a)
-    by true q = inl (ltb-true a b q)
-    by false q = inr (ltb-false a b q)
-
 pub later-trans : (T : Table) (x y z : Thread) → Later T x y → Later T y z → Later T x z
-later-trans T x y z l m = by (either (l .at) (m .at)) (either (m .at) (l .at))
+later-trans T x y z l m = by (lt-or-le (l .at) (m .at)) (lt-or-le (m .at) (l .at))
   where
     both : Ahead T (l .at) x y → Ahead T (l .at) y z → Ahead T (l .at) x z
     both (inl h) (inl k) = inl (omega arith)
@@ -100,7 +91,7 @@ unfolding tri
 tri-past i e r h k = rw (le-ltb r i h, lt-leb r e k)
 
 tri-mono : (i e r s : ℕ) → r ≤ s → tri i e r ≤ tri i e s
-tri-mono i e r s l = by (either r i) (either e r) (either e s)
+tri-mono i e r s l = by (lt-or-le r i) (lt-or-le e r) (lt-or-le e s)
   where
     by : (r < i) ⊎ (i ≤ r) → (e < r) ⊎ (r ≤ e) → (e < s) ⊎ (s ≤ e) → tri i e r ≤ tri i e s
     by (inl h) q p = omega (arith, tri-before i e r h)
@@ -221,7 +212,7 @@ while-again T x y w o l k e q n =
     }
   where
     same : (i : ℕ) → i < y .row → (b : Bool) → isLoop T i ≡ b → phase T i (x .row) ≤ phase T i (y .row)
-    same i h true p = rw (phase-loop T i (x .row) p, phase-loop T i (y .row) p) (by (either (endOf T i) (y .row)))
+    same i h true p = rw (phase-loop T i (x .row) p, phase-loop T i (y .row) p) (by (lt-or-le (endOf T i) (y .row)))
       where
         by : (endOf T i < y .row) ⊎ (y .row ≤ endOf T i) → tri i (endOf T i) (x .row) ≤ tri i (endOf T i) (y .row)
         by (inl g) = omega (arith, tri-past i (endOf T i) (x .row) (omega arith) (omega arith), tri-past i (endOf T i) (y .row) (omega arith) g)
@@ -229,10 +220,6 @@ while-again T x y w o l k e q n =
             let z = end-nested T i (y .row) h (omega arith) g o in
             omega (arith, tri-in i (endOf T i) (x .row) (omega arith) (omega arith), tri-in i (endOf T i) (y .row) (omega arith) g)
     same i h false p = unfold phase in (rw (p, lt-ltb i (length T) (omega arith)) (omega arith))
-
-role-while : (o : Op) → o ≡ WHILE → role o ≡ opening
-unfolding role
-role-while o q = ap role q
 
 pub pastElse-ge : (o : Op) (h : ℕ) → h ≤ pastElse o h
 unfolding pastElse

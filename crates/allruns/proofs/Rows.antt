@@ -2,12 +2,12 @@
 use mathlib.Core.Path.{_≡_, refl, sym, _∙_, ap, ap₂, subst, subst₃}
 use mathlib.Core.Logic.{_⊎_, inl, ⊎-elim}
 use mathlib.Core.List.{List, [], _∷_, map}
-use mathlib.Core.Bool.{Bool, true, false, cond, not, _&&_, true≢false}
+use mathlib.Core.Bool.{Bool, true, false, cond, not, _&&_, true≢false, and-false}
 use Prim.Native.Nat.{ℕ, zero, suc, _+_, _<_, _≤_}
 use native.Mathlib.Omega.{arith}
 use lib.Dec.{leb}
 use borrow.Author.Tests.{eq-eqb, ne-eqb}
-use lib.ListN.{length, getD, set, replicate, length-set, length-replicate}
+use lib.ListN.{length, getD, set, length-set, length-replicate}
 use lib.Seq.{getD-set-other, getD-set-same, set-set, set-getD}
 use Rattle.spec.specs.Access.{Kind}
 use Rattle.spec.specs.AllRuns.{isRelease}
@@ -24,6 +24,7 @@ use Rattle.spec.specs.Threads.{Group, Move, effect, effectOf, isOutside, machin
 use Rattle.spec.specs.declared.Verdict.{Verdict}
 use Rattle.spec.specs.declared.Verdict.the-variants.{Diverged, Outside, Passed, Race, Spent}
 use Rattle.spec.specs.Threads as own
+use Rattle.spec.proofs.Laws.{zeros, minus-size, holding-size}
 use Rattle.allruns.proofs.Bools.{and-left}
 use Rattle.allruns.proofs.Turns.{One, Turned, turn-all, quiet-all, act-is}
 use Rattle.allruns.proofs.Blocked.{Blocked}
@@ -188,20 +189,10 @@ control T L s g m P new here q on fs h len at acts to nest size sized framed wit
 holding-has : (a : ℕ) (m : Mask) (regs : List (List ℕ)) (t : ℕ) → has (holding a m regs) t ≡ (has m t && nonzero (getD (getD regs t []) a 0))
 unfolding has holding nonzero
 holding-has a [] regs t = refl
-holding-has a (b ∷ m) [] zero = sym (and-no b)
-  where
-    and-no : (b : Bool) → (b && false) ≡ false
-    and-no true = refl
-    and-no false = refl
+holding-has a (b ∷ m) [] zero = sym (and-false b)
 holding-has a (b ∷ m) [] (suc t) = holding-has a m [] t
 holding-has a (b ∷ m) (r ∷ regs) zero = refl
 holding-has a (b ∷ m) (r ∷ regs) (suc t) = holding-has a m regs t
-
-holding-size : (a : ℕ) (m : Mask) (regs : List (List ℕ)) → length (holding a m regs) ≡ length m
-unfolding holding
-holding-size a [] regs = refl
-holding-size a (b ∷ m) [] = ap suc (holding-size a m [])
-holding-size a (b ∷ m) (r ∷ regs) = ap suc (holding-size a m regs)
 
 minus-has : (m k : Mask) (t : ℕ) → has (minus m k) t ≡ (has m t && not (has k t))
 unfolding has minus
@@ -213,12 +204,6 @@ minus-has (b ∷ m) [] t = yes-and (getD (b ∷ m) t false)
     yes-and false = refl
 minus-has (b ∷ m) (c ∷ k) zero = refl
 minus-has (b ∷ m) (c ∷ k) (suc t) = minus-has m k t
-
-minus-size : (m k : Mask) → length (minus m k) ≡ length m
-unfolding minus
-minus-size [] k = refl
-minus-size (b ∷ m) [] = refl
-minus-size (b ∷ m) (c ∷ k) = ap suc (minus-size m k)
 
 pub framed-fresh : (T : Table) (r : ℕ) (fs : List Frame) → isWhile (rowAt T r .op) ≡ false → Framed T r fs → openersOf fs ≡ openBefore T r
 framed-fresh T r fs n (fresh q) = q
@@ -252,10 +237,6 @@ loop-if o q = ap isWhile q
 pub loop-else : (o : Op) → o ≡ ELSE → isWhile o ≡ false
 unfolding isWhile
 loop-else o q = ap isWhile q
-
-pub loop-endif : (o : Op) → o ≡ ENDIF → isWhile o ≡ false
-unfolding isWhile
-loop-endif o q = ap isWhile q
 
 pub data Top (T : Table) (r : ℕ) : List Frame → Type 0 where
   top : (f : Frame) (fs : List Frame) → openBefore T r ≡ f .opener ∷ openersOf fs → Top T r (f ∷ fs)
@@ -492,11 +473,6 @@ not-in T r k (o ∷ os) a = ((λ e. omega (arith, a .0 .above)), not-in T r (suc
 loops-zero : (T : Table) (r : ℕ) (fs : List Frame) → NotIn r (openersOf fs) → getD (loopsOf T fs) r 0 ≡ 0
 unfolding loopsOf
 loops-zero T r [] a = zeros (length T) r
-  where
-    zeros : (k i : ℕ) → _≡_ {A = ℕ} (getD (replicate k 0) i 0) 0
-    zeros zero i = refl
-    zeros (suc k) zero = refl
-    zeros (suc k) (suc i) = zeros k i
 loops-zero T r (f ∷ fs) a = by (isWhile (rowAt T (f .opener) .op)) (loops-zero T r fs (a .1))
   where
     by : (b : Bool) → getD (loopsOf T fs) r 0 ≡ 0 → getD (cond b (set (loopsOf T fs) (f .opener) (f .rounds)) (loopsOf T fs)) r 0 ≡ 0

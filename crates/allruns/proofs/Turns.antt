@@ -1,7 +1,7 @@
 -- A row of the lock-step run is a row of each enabled thread, lowest first. Assumes nothing.
 use mathlib.Core.Path.{_≡_, refl, sym, _∙_, ap, ap₂, subst, fun-ext}
 use mathlib.Core.List.{List, [], _∷_, map}
-use mathlib.Core.Bool.{Bool, true, false, cond, not, _||_}
+use mathlib.Core.Bool.{Bool, true, false, cond, not, or-false}
 use Prim.Native.Nat.{ℕ, suc, _+_, _<_, _≤_}
 use native.Mathlib.Omega.{arith}
 use native.Mathlib.Decide.{ℕ-discrete}
@@ -190,12 +190,8 @@ module _ (T : Table) (L : Shape) (t : ℕ) (P : ℕ → Pos) (s : LockState) (g 
 
       hurt : b < bound L m → endsBadly g t (accesses c k (x .d)) ≡ any f
       hurt y =
-          unfold endsBadly isOutside accessesOf anyOf threadCount in (zero-or _ ∙ ap (λ n. races n (g .made) t (record { cell = c; kind = k })) (h .size)
+          unfold endsBadly isOutside accessesOf anyOf threadCount in (or-false _ ∙ ap (λ n. races n (g .made) t (record { cell = c; kind = k })) (h .size)
           ∙ log-tested (L .threads) (length (s .cells)) (g .made) (s .log) (h .logs) t c l (within y) k)
-        where
-          zero-or : (a : Bool) → (a || false) ≡ a
-          zero-or true = refl
-          zero-or false = refl
 
       touch-match : b < bound L m → any f ≡ false → Match T L (moved P t pos) (madeAccess s t (x .d) c k) (performed g t (accesses c k (x .d)))
       touch-match y o =

@@ -28,7 +28,7 @@ use Rattle.spec.specs.Table.{Table, Row, rowAt, cellByte, endOf, kindOf}
 use Rattle.spec.specs.Threads as own
 use Rattle.spec.specs.Threads.{Group, Move, Thread, cellsAfter, effectOf, goto, noThread, onIf, onWhile, pastBarrier, put, threadAfter}
 use Rattle.spec.specs.Word.{signed, top, truth, unsigned}
-use Rattle.allruns.proofs.Progress.{either}
+use Rattle.spec.proofs.Laws.{lt-or-le}
 use Rattle.allruns.proofs.Invariants.{Holds, Keeps, in-every-run, reach-cases, replicate-keeps, set-keeps}
 
 abbrev pub Word : ℕ → Type 0
@@ -247,7 +247,7 @@ module _ (T : Table) (L : Shape) (bytes : Bytes T) (few : Word (L .threads)) whe
 
 pub runs-words : (T : Table) (n : ℕ) (cells : List ℕ) → Word n → Bytes T → Words cells → (ms : List Move) → RunOf T n cells ms → WordGroup (leaves T n cells ms)
 unfolding shapeOf noThread
-runs-words T n cells few bytes words ms r = record { ofThreads = λ t. by t (either t n); ofCells = h .shared }
+runs-words T n cells few bytes words ms r = record { ofThreads = λ t. by t (lt-or-le t n); ofCells = h .shared }
   where
     h : Holds n (λ x. Words (x .regs)) Words (leaves T n cells ms)
     h = in-every-run T n cells (λ x. Words (x .regs)) Words (keeps-words T (shapeOf n cells) bytes few) words ms r

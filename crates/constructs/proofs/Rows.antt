@@ -1,6 +1,6 @@
 -- The rows of constructs. Assumes nothing.
-use mathlib.Core.Path.{_≡_, refl, sym, _∙_, ap, ap₂, subst}
-use mathlib.Core.List.{List, [], _∷_}
+use mathlib.Core.Path.{_≡_, sym, _∙_, ap, ap₂, subst}
+use mathlib.Core.List.{List, _∷_}
 use mathlib.Core.Bool.{Bool, true, false, cond}
 use Prim.Native.Nat.{ℕ, suc, _+_, _-_, _<_, _≤_}
 use native.Mathlib.Omega.{arith}
@@ -10,7 +10,8 @@ use lib.ListN.{length, getD, set, length-set}
 use Rattle.spec.specs.Table.{Table, endOf}
 use Rattle.spec.specs.Mask.{Mask, maskWord, any, holding, minus, members}
 use Rattle.spec.specs.LockStep.{Saved, LockState, topMask, pop, topOpener, savedAtWhile, leaveOrStay, advance, countSteps, elseRow, endifRow, endwhileRow}
-use Rattle.masks.proofs.Words.{ones-are, any-none, any-some, word-minus, minus-size}
+use Rattle.spec.proofs.Laws.{minus-size, holding-size}
+use Rattle.masks.proofs.Words.{ones-are, any-none, any-some, word-minus}
 use Rattle.layout.specs.Memory.{Memory}
 use Rattle.layout.specs.declared.State.{State}
 use Rattle.layout.specs.Represents.{Saves, Represents, EnteredWhile, ifOn}
@@ -21,12 +22,6 @@ memory-stepped : (n : ℕ) (m : Mask) (z : LockState) (regs cells log : List ℕ
 unfolding countSteps
 memory-stepped n m z regs cells log M =
     record { few = M .few; regs-are = M .regs-are; cells-are = M .cells-are; log-is = M .log-is }
-
-holding-size : (a : ℕ) (m : Mask) (regs : List (List ℕ)) → length (holding a m regs) ≡ length m
-unfolding holding
-holding-size a [] regs = refl
-holding-size a (b ∷ m) [] = ap suc (holding-size a m [])
-holding-size a (b ∷ m) (r ∷ regs) = ap suc (holding-size a m regs)
 
 -- how many step
 stepping : (m : Mask) (k : ℕ) (w : ℕ) → k ≡ ones w → w ≡ maskWord m → k ≡ length (members m)

@@ -8,12 +8,11 @@ fn if_row(
     regs: &[u32; 512],
     saved: &mut [u32; 8],
     openers: &mut [usize; 8],
-    n: u32,
     a: usize,
     s: layout::State,
 ) -> layout::State
-    requires { ⌜ Room s × (n ≤ 32) × (a < 16) × (s .depth < 8) ⌝ }
-    ensures { λ r. ⌜ Becomes (ifOn a) n (now (regs .entry)) s (now (saved .entry)) (now (openers .entry)) r (now (saved .exit)) (now (openers .exit)) ⌝ }
+    requires { ⌜ Room s × (a < 16) × (s .depth < 8) ⌝ }
+    ensures { λ r. ⌜ Becomes (ifOn a) (now (regs .entry)) s (now (saved .entry)) (now (openers .entry)) r (now (saved .exit)) (now (openers .exit)) ⌝ }
 {
     let depth = s.depth;
     let row = s.row;
@@ -87,13 +86,12 @@ fn while_row(
     regs: &[u32; 512],
     saved: &mut [u32; 8],
     openers: &mut [usize; 8],
-    n: u32,
     a: usize,
     end: usize,
     s: layout::State,
 ) -> layout::State
-    requires { ⌜ Room s × (n ≤ 32) × (a < 16) × (end < 256) × RoomForWhile s (now openers) ⌝ }
-    ensures { λ r. ⌜ WhileBecomes n a end (now (regs .entry)) s (now (saved .entry)) (now (openers .entry)) r (now (saved .exit)) (now (openers .exit)) ⌝ }
+    requires { ⌜ Room s × (a < 16) × (end < 256) × RoomForWhile s (now openers) ⌝ }
+    ensures { λ r. ⌜ WhileBecomes a end (now (regs .entry)) s (now (saved .entry)) (now (openers .entry)) r (now (saved .exit)) (now (openers .exit)) ⌝ }
 {
     let row = s.row;
     let mask = s.mask;
@@ -140,20 +138,19 @@ pub fn construct_row(
     regs: &[u32; 512],
     saved: &mut [u32; 8],
     openers: &mut [usize; 8],
-    n: u32,
     op: u8,
     a: usize,
     end: usize,
     s: layout::State,
 ) -> layout::State
-    requires { ⌜ Room s × (n ≤ 32) × (end < 256) × (32 ≤ op) × (op ≤ 36) × ((op ≡ 32 → a < 16) × (op ≡ 35 → a < 16)) × DepthAsks op s (now openers) ⌝ }
-    ensures { λ r. ⌜ ConstructDone op n a end (now (regs .entry)) s (now (saved .entry)) (now (openers .entry)) r (now (saved .exit)) (now (openers .exit)) ⌝ }
+    requires { ⌜ Room s × (end < 256) × (32 ≤ op) × (op ≤ 36) × ((op ≡ 32 → a < 16) × (op ≡ 35 → a < 16)) × DepthAsks op s (now openers) ⌝ }
+    ensures { λ r. ⌜ ConstructDone op a end (now (regs .entry)) s (now (saved .entry)) (now (openers .entry)) r (now (saved .exit)) (now (openers .exit)) ⌝ }
 {
     match op {
-        32 => if_row(regs, saved, openers, n, a, s),
+        32 => if_row(regs, saved, openers, a, s),
         33 => else_row(saved, openers, s),
         34 => endif_row(saved, s),
-        35 => while_row(regs, saved, openers, n, a, end, s),
+        35 => while_row(regs, saved, openers, a, end, s),
         _ => endwhile_row(openers, s),
     }
 }

@@ -7,8 +7,8 @@ use native.Mathlib.Omega.{arith}
 use lib.ListN.{length, getD}
 use Rattle.spec.specs.Table.{rowsOf, endOf}
 use Rattle.spec.specs.TableCheck.{tableRefusal}
+use Rattle.spec.proofs.Laws.{rows-length}
 use Rattle.layout.specs.Running.{Runnable}
-use Rattle.step.proofs.Tables.{rows-length}
 use Rattle.reader.specs.Answer.{ifLoop, ifAccepted, endAt}
 
 pub runnable : (table loopEnds : List ℕ) → length table ≤ 4 * 256 → tableRefusal (rowsOf table) ≡ none

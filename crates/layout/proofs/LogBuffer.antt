@@ -9,14 +9,12 @@ use lib.Bits.{bitAnd, bitOr}
 use lib.Pow.{pow-pos}
 use lib.ListN.{length, getD, set, replicate, length-set, length-map, length-replicate, getD-replicate, length-append, replicate-append-replicate}
 use lib.Seq.{ext-getD, getD-set-same, getD-set-other}
-use Rattle.spec.specs.declared.AccessKind.{AccessKind}
 use Rattle.spec.specs.declared.AccessKind.the-variants.{ReadWrite, WriteWrite}
 use Rattle.spec.specs.Access.{Kind, load, store}
-use Rattle.spec.specs.Op.{Mem, MEM, opOf}
-use Rattle.spec.specs.Table.{kindOf}
 use Rattle.spec.specs.Mask.{Mask, maskWord, has}
 use Rattle.spec.specs.Log.{Log, logWords, emptyLog, cleared, withThread, logged, testedMask, conflictMask, raceKind}
-use Rattle.masks.proofs.Words.{word-or, word-set, word-has, word-except, union-size}
+use Rattle.spec.proofs.Laws.{union-size, wiped-size}
+use Rattle.masks.proofs.Words.{word-or, word-set, word-has, word-except}
 use Rattle.layout.specs.Memory.{Masks, LogIs}
 use Rattle.layout.proofs.Buffers.{masks-set, reader-at, writer-at, reader-set, writer-set}
 
@@ -142,12 +140,7 @@ empty-mask (suc n) = ap (λ l. false ∷ l) (empty-mask n)
 
 cleared-masks : (n k : ℕ) (ms : List Mask) → Masks n k ms → Masks n k (map (map (λ b. false)) ms)
 cleared-masks n k ms M =
-    record { count = length-map ms (map (λ b. false)) ∙ M .count; each = λ c h. size ms c ∙ M .each c h }
-  where
-    size : (ms : List Mask) (c : ℕ) → length (getD (map (map (λ b. false)) ms) c []) ≡ length (getD ms c [])
-    size [] c = refl
-    size (m ∷ ms) zero = length-map m (λ b. false)
-    size (m ∷ ms) (suc c) = size ms c
+    record { count = length-map ms (map (λ b. false)) ∙ M .count; each = λ c h. wiped-size ms c ∙ M .each c h }
 
 -- A log put to 0 is the cleared one, whatever it was.
 pub cleared-is : (n k : ℕ) (G : Log) (log log′ : List ℕ) → LogIs n k G log → log′ ≡ replicate (length log) 0 → LogIs n k (cleared G) log′

@@ -72,7 +72,3 @@ module _ (n : ℕ) (z : LockState) (s : State) (regs cells log saved openers : L
           → After n (andThen x (λ y. continues (advance (suc (y .row)) (y .enabled) (y .saved) y))) r regs′ cells′ log′ saved openers
       by (continues y) D = unfold andThen in (movedOn s k, e ∙ ap (λ b. accessed s b k) (D .answer), moves-on k y regs′ cells′ log′ (D .kept) (D .memory))
       by (stops v y) D = unfold andThen in (heldBack s k, e ∙ ap (λ b. accessed s b k) (D .answer), stands k y regs′ cells′ log′ (D .kept) (D .memory))
-
-  pub after-is : (o o′ : Step) (r : Next) (regs′ cells′ log′ saved′ openers′ : List ℕ) → o ≡ o′ → After n o′ r regs′ cells′ log′ saved′ openers′
-      → After n o r regs′ cells′ log′ saved′ openers′
-  after-is o o′ r regs′ cells′ log′ saved′ openers′ e A = subst (λ x. After n x r regs′ cells′ log′ saved′ openers′) (sym e) A

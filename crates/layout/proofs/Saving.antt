@@ -9,6 +9,7 @@ use lib.ListN.{length, getD, set, length-set}
 use lib.Seq.{getD-set-same, getD-set-other}
 use Rattle.spec.specs.Mask.{Mask, maskWord}
 use Rattle.spec.specs.LockStep.{Saved, LockState, topMask, pop, topOpener, savedAtWhile}
+use Rattle.spec.proofs.Laws.{top-cons}
 use Rattle.layout.specs.declared.State.{State}
 use Rattle.layout.specs.Represents.{Saves, EnteredWhile, RoomForWhile}
 
@@ -96,10 +97,6 @@ unfolding savedAtWhile topOpener
 saved-old r m [] h e = absurd (omega arith)
 saved-old r m (f ∷ v) h e = rw (eq-eqb (f .opener) r e)
 
-back-cons : (f : Saved) (w : List Saved) → topOpener (f ∷ w) ≡ f .opener
-unfolding topOpener
-back-cons f w = refl
-
 module _ (s : State) (saved openers : List ℕ) where
   -- the top row is this one
   pub enter-old : 0 < s .depth → s .depth ≤ 8 → getD openers (s .depth - 1) 0 ≡ s .row → EnteredWhile (s .depth) s saved openers saved openers
@@ -134,7 +131,7 @@ module _ (s : State) (saved openers : List ℕ) where
           → (f : Saved) (w : List Saved) → z .saved ≡ f ∷ w → f .opener ≡ z .row → ⊥
       apart n z er ed S f w p o =
           let h : 0 < s .depth = omega (arith, ap length p) in
-          ne h (saves-back n (z .saved) saved openers (s .depth) ed h S ∙ ap topOpener p ∙ back-cons f w ∙ o ∙ sym er)
+          ne h (saves-back n (z .saved) saved openers (s .depth) ed h S ∙ ap topOpener p ∙ top-cons f w ∙ o ∙ sym er)
 
 pub atmost : (s : State) (openers : List ℕ) → RoomForWhile s openers → s .depth ≤ 8
 atmost s openers (inl h) = omega arith

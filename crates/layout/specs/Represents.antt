@@ -69,9 +69,10 @@ After n (continues z) r regs cells log saved openers = (s : State) × (r ≡ nex
 After n (stops v z) r regs cells log saved openers = (s : State) × (r ≡ next.Stop v s) × Represents n z s regs cells log saved openers
 
 -- The rows of constructs leave the registers, the cells and the log as they are: f is the definition's row.
-abbrev pub Becomes : (LockState → LockState) → ℕ → (regs : List ℕ) → (s : State) → (saved openers : List ℕ) → (r : State) → (saved′ openers′ : List ℕ) → Type 0
-Becomes f n regs s saved openers r saved′ openers′ =
-    Counted s r × ((cells log : List ℕ) (z : LockState) → Represents n z s regs cells log saved openers → Represents n (f z) r regs cells log saved′ openers′)
+abbrev pub Becomes : (LockState → LockState) → (regs : List ℕ) → (s : State) → (saved openers : List ℕ) → (r : State) → (saved′ openers′ : List ℕ) → Type 0
+Becomes f regs s saved openers r saved′ openers′ =
+    Counted s r × ((n : ℕ) (cells log : List ℕ) (z : LockState) → Represents n z s regs cells log saved openers
+    → Represents n (f z) r regs cells log saved′ openers′)
 
 -- The saved masks at a WHILE; k is how many there are then.
 pub record EnteredWhile (k : ℕ) (s : State) (saved openers saved′ openers′ : List ℕ) : Type 0 where
@@ -93,9 +94,9 @@ pub record DepthAsks (op : ℕ) (s : State) (openers : List ℕ) : Type 0 where
   pub opens-while : op ≡ 35 → RoomForWhile s openers
 
 -- A row of a construct, by its op; e is the row of a WHILE's ENDWHILE.
-abbrev pub ConstructDone : (op n a e : ℕ) → (regs : List ℕ) → (s : State) → (saved openers : List ℕ) → (r : State) → (saved′ openers′ : List ℕ) → Type 0
-ConstructDone op n a e regs s saved openers r saved′ openers′ =
-    Counted s r × ((cells log : List ℕ) (T : Table) (L : Shape) (x : Row) (z : LockState) → x .op ≡ opOf op → x .a ≡ a
+abbrev pub ConstructDone : (op a e : ℕ) → (regs : List ℕ) → (s : State) → (saved openers : List ℕ) → (r : State) → (saved′ openers′ : List ℕ) → Type 0
+ConstructDone op a e regs s saved openers r saved′ openers′ =
+    Counted s r × ((n : ℕ) (cells log : List ℕ) (T : Table) (L : Shape) (x : Row) (z : LockState) → x .op ≡ opOf op → x .a ≡ a
     → (x .op ≡ WHILE → e ≡ endOf T (z .row)) → Represents n z s regs cells log saved openers
     → After n (runRow T L x z (x .op)) (next.Go r) regs cells log saved′ openers′)
 
@@ -108,18 +109,18 @@ whileOn a T s = leaveOrStay T (countSteps (s .enabled) s) (savedAtWhile (s .row)
 
 -- Rows that do not look at all buffers.
 abbrev pub ElseBecomes : (s : State) → (saved openers : List ℕ) → (r : State) → (openers′ : List ℕ) → Type 0
-ElseBecomes s saved openers r openers′ = (n : ℕ) (regs : List ℕ) → Becomes elseRow n regs s saved openers r saved openers′
+ElseBecomes s saved openers r openers′ = (regs : List ℕ) → Becomes elseRow regs s saved openers r saved openers′
 
 abbrev pub EndifBecomes : (s : State) → (saved : List ℕ) → (r : State) → Type 0
-EndifBecomes s saved r = (n : ℕ) (regs openers : List ℕ) → Becomes endifRow n regs s saved openers r saved openers
+EndifBecomes s saved r = (regs openers : List ℕ) → Becomes endifRow regs s saved openers r saved openers
 
 abbrev pub EndwhileBecomes : (s : State) → (openers : List ℕ) → (r : State) → Type 0
-EndwhileBecomes s openers r = (n : ℕ) (regs saved : List ℕ) → Becomes endwhileRow n regs s saved openers r saved openers
+EndwhileBecomes s openers r = (regs saved : List ℕ) → Becomes endwhileRow regs s saved openers r saved openers
 
 -- A WHILE whose ENDWHILE is at row e.
-abbrev pub WhileBecomes : (n a e : ℕ) → (regs : List ℕ) → (s : State) → (saved openers : List ℕ) → (r : State) → (saved′ openers′ : List ℕ) → Type 0
-WhileBecomes n a e regs s saved openers r saved′ openers′ =
-    Counted s r × ((T : Table) (cells log : List ℕ) (z : LockState) → e ≡ endOf T (z .row) → Represents n z s regs cells log saved openers
+abbrev pub WhileBecomes : (a e : ℕ) → (regs : List ℕ) → (s : State) → (saved openers : List ℕ) → (r : State) → (saved′ openers′ : List ℕ) → Type 0
+WhileBecomes a e regs s saved openers r saved′ openers′ =
+    Counted s r × ((n : ℕ) (T : Table) (cells log : List ℕ) (z : LockState) → e ≡ endOf T (z .row) → Represents n z s regs cells log saved openers
     → Represents n (whileOn a T z) r regs cells log saved′ openers′)
 
 abbrev pub BarrierDone : (n : ℕ) (s : State) → (log : List ℕ) → (r : Next) → (log′ : List ℕ) → Type 0

@@ -29,12 +29,6 @@ join k true false = omega arith
 join k false true = omega arith
 join k false false = omega arith
 
-meetTwo : (k : ℕ) (b c : Bool) → k * 2 + min (cond b 1 0) (cond c 1 0) ≡ cond (b && c) 1 0 + 2 * k
-meetTwo k true true = omega arith
-meetTwo k true false = omega arith
-meetTwo k false true = omega arith
-meetTwo k false false = omega arith
-
 pub word-or : (m k : Mask) → bitOr (maskWord m) (maskWord k) ≡ maskWord (union m k)
 unfolding union maskWord
 word-or [] k = or-zero-l (maskWord k)
@@ -185,12 +179,6 @@ lowest-is (b ∷ m) zero l h = absurd (omega arith)
 lowest-is (true ∷ m) (suc w) l h = ap₂ under (word-odd true m) (ap (trailingZeros w) (word-half true m))
 lowest-is (false ∷ m) (suc w) l h = ap₂ under (word-odd false m) (ap (trailingZeros w) (word-half false m) ∙ lowest-is m w (omega arith) h)
 
-pub lowest-lt : (m : Mask) → any m ≡ true → lowest m < length m
-unfolding any lowest
-lowest-lt [] h = absurd (false≢true h)
-lowest-lt (true ∷ m) h = omega arith
-lowest-lt (false ∷ m) h = omega (arith, lowest-lt m h)
-
 pub ones-are : (m : Mask) (k : ℕ) → ones (maskWord m) ≡ length (membersFrom k m)
 unfolding membersFrom maskWord ones
 ones-are [] k = refl
@@ -232,16 +220,3 @@ rest-is (b ∷ m) = ap (λ x. not b ∷ x) (rest-is m)
 pub rest-size : (m : Mask) → length (map not m) ≡ length m
 rest-size [] = refl
 rest-size (b ∷ m) = ap suc (rest-size m)
-
-pub minus-size : (m k : Mask) → length (minus m k) ≡ length m
-unfolding minus
-minus-size [] k = refl
-minus-size (b ∷ m) [] = refl
-minus-size (b ∷ m) (c ∷ k) = ap suc (minus-size m k)
-
-pub union-size : (m k : Mask) → length m ≡ length k → length (union m k) ≡ length m
-unfolding union
-union-size [] [] e = refl
-union-size [] (c ∷ k) e = absurd (omega arith)
-union-size (b ∷ m) [] e = refl
-union-size (b ∷ m) (c ∷ k) e = ap suc (union-size m k (omega arith))

@@ -1,4 +1,3 @@
-pub mod RowBytes
 pub mod OpBytes
 pub mod Passing
 pub mod Noting

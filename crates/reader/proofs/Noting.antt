@@ -1,14 +1,15 @@
 -- How the ends of loops are noted, row by row. Assumes nothing.
 use mathlib.Core.Path.{_≡_, refl, sym, _∙_, ap}
-use mathlib.Core.Logic.{_⊎_, inl, inr, ⊎-elim}
+use mathlib.Core.Logic.{_⊎_, inl, inr}
 use mathlib.Core.List.{List}
-use Prim.Native.Nat.{ℕ, zero, suc, _<_, _≤_}
+use Prim.Native.Nat.{ℕ, suc, _<_, _≤_}
 use native.Mathlib.Nat.{eq-or-lt-of-le}
 use native.Mathlib.Omega.{arith}
 use lib.ListN.{length, getD, set, length-set}
 use lib.Seq.{getD-set-same, getD-set-other}
 use Rattle.spec.specs.Op.{Op, CALC, MEM, IF, ELSE, ENDIF, WHILE, ENDWHILE, BARRIER, UNKNOWN}
 use Rattle.spec.specs.Table.{Table, rowAt, plain, role, endOf}
+use Rattle.spec.proofs.Laws.{lt-or-le}
 use Rattle.reader.specs.Answer.{ifLoop}
 use Rattle.reader.specs.Parts.{Notes}
 
@@ -27,11 +28,6 @@ plain-no-loop WHILE e x y = let z : _≡_ {A = ℕ} 0 1 = cc in absurd (omega ar
 plain-no-loop ENDWHILE e x y = refl
 plain-no-loop BARRIER e x y = refl
 plain-no-loop UNKNOWN e x y = refl
-
-pub lt-or-le : (i b : ℕ) → (i < b) ⊎ (b ≤ i)
-lt-or-le i zero = inr (omega arith)
-lt-or-le zero (suc b) = inl (omega arith)
-lt-or-le (suc i) (suc b) = ⊎-elim (λ h. inl (omega arith)) (λ h. inr (omega arith)) (lt-or-le i b)
 
 module _ {T : Table} where
   pub notes-none : (a : ℕ) (x : List ℕ) → Notes T a a x x

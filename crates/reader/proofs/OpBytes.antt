@@ -8,7 +8,7 @@ use lib.Dec.{leb}
 use Rattle.spec.specs.Op.{Form, setForm, dForm, dabForm, daForm, aForm, noForm, unknownForm, opTable, opOf, IF, ELSE, ENDIF, WHILE, ENDWHILE, form, formOf}
 use Rattle.spec.specs.Table.{Role, plain, opening, dividing, closing, role}
 use Rattle.spec.specs.TableCheck.{isKnown}
-use Rattle.optable.proofs.Bytes.{allBelow, below}
+use Rattle.spec.proofs.Laws.{allBelow, below}
 use Rattle.structure.proofs.Ops.{Plain, plain-of-role}
 
 pub byte-if : opOf 32 ≡ IF

@@ -4,7 +4,7 @@ use mathlib.Core.Logic.{_⊎_, inl, inr}
 use mathlib.Core.List.{List, [], _∷_}
 use mathlib.Core.Bool.{false}
 use mathlib.Core.Option.{none, some}
-use Prim.Native.Nat.{ℕ, zero, suc, _*_, _<_, _≤_}
+use Prim.Native.Nat.{ℕ, _*_, _<_, _≤_}
 use native.Mathlib.Omega.{arith}
 use lib.ListN.{length, getD, replicate, List·getD-eq-default}
 use Rattle.spec.specs.declared.Refusal.{Refusal}
@@ -12,6 +12,7 @@ use Rattle.spec.specs.declared.Refusal.the-variants.{Misplaced}
 use Rattle.spec.specs.Op.{WHILE, opOf}
 use Rattle.spec.specs.Table.{Table, noRow, rowsOf, rowAt, endOf}
 use Rattle.spec.specs.TableCheck.{Open, elseFits, endifFits, endwhileFits, fits, tableRefusal}
+use Rattle.spec.proofs.Laws.{lt-or-le, zeros}
 use Rattle.reader.specs.declared.Read.{Read}
 use Rattle.admission.specs.declared.Admission.the-variants.{Refused}
 use Rattle.admission.specs.Refusing.{refusalOf}
@@ -19,13 +20,7 @@ use Rattle.reader.specs.Answer.{ifLoop, ifAccepted, endAt}
 use Rattle.reader.specs.Parts.{IsTable, Ends, Fails, Body}
 use Rattle.reader.proofs.OpBytes.{byte-else, byte-endif, byte-endwhile}
 use Rattle.reader.proofs.Passing.{fail-on, misplaced, pass-all}
-use Rattle.reader.proofs.Noting.{lt-or-le}
 use Rattle.reader.proofs.Constructs.{in-table, at-end, op-is}
-
-zeros : (n i : ℕ) → _≡_ {A = ℕ} (getD (replicate n 0) i 0) 0
-zeros zero i = refl
-zeros (suc n) zero = refl
-zeros (suc n) (suc i) = zeros n i
 
 misfit-none : (b : ℕ) → Ends b → fits (opOf b) [] ≡ false
 unfolding fits elseFits endifFits endwhileFits

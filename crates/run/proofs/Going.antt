@@ -12,11 +12,12 @@ use Rattle.spec.specs.declared.Verdict.{Verdict}
 use Rattle.spec.specs.declared.Verdict.the-variants.{Passed, Spent}
 use Rattle.spec.specs.declared.Outcome.{Outcome}
 use Rattle.spec.specs.Op.{Op, IF, ELSE, ENDIF, WHILE, ENDWHILE, UNKNOWN, opOf, opTable}
-use Rattle.spec.specs.Table.{Table, rowsOf, opening, role, rowAt, openBefore, openedBy, innermost, Fits}
+use Rattle.spec.specs.Table.{Table, rowsOf, opening, role, rowAt, openBefore, openedBy, innermost, Fits, rowOf}
 use Rattle.spec.specs.Shape.{Shape, shapeOf}
-use Rattle.spec.specs.LockStep.{Saved, LockState, Step, continues, stops, topOpener, runRow, LockResult, resultOf, runFrom, initialState, lockstep, outcomeOf}
+use Rattle.spec.specs.LockStep.{LockState, Step, continues, stops, topOpener, runRow, LockResult, resultOf, runFrom, initialState, lockstep, outcomeOf}
 use Rattle.spec.specs.Threads.{Group, machine, initialGroup}
 use Rattle.spec.specs.Runs.{after}
+use Rattle.spec.proofs.Laws.{row-bytes, rows-length, role-while, top-cons}
 use Rattle.structure.proofs.Acceptance.{well-formed, depth-bounded}
 use Rattle.allruns.proofs.Nesting.{isWhile}
 use Rattle.allruns.proofs.Simulation.{Frame}
@@ -32,7 +33,7 @@ use Rattle.layout.proofs.LogBuffer.{empty-is}
 use Rattle.layout.proofs.Saving.{saves-back}
 use Rattle.layout.specs.Represents.{Represents, After, Counted, Counts, RoomForWhile}
 use Rattle.layout.specs.Running.{Ready, Runnable, Steps, RunIs, endedAs, shapeBy}
-use Rattle.step.proofs.Tables.{row-bytes, row-inside, rows-length}
+use Rattle.step.proofs.Tables.{row-inside}
 use Rattle.run.proofs.RowBytes.{row-asks}
 
 -- Between two rows: the code's state stands for some state of the lock-step run, which is simulated by the threads' machine, and from which the rest of the run
@@ -130,10 +131,6 @@ role-if : (o : Op) → o ≡ IF → role o ≡ opening
 unfolding role
 role-if o e = ap role e
 
-role-while : (o : Op) → o ≡ WHILE → role o ≡ opening
-unfolding role
-role-while o e = ap role e
-
 op-if : opOf 32 ≡ IF
 unfolding opOf opTable
 op-if = refl
@@ -162,10 +159,6 @@ clash-else e = let z : _≡_ {A = ℕ} 0 1 = cc in omega arith
 
 clash-while : UNKNOWN ≡ WHILE → ⊥
 clash-while e = let z : _≡_ {A = ℕ} 0 1 = cc in omega arith
-
-back-cons : (f : Saved) (w : List Saved) → topOpener (f ∷ w) ≡ f .opener
-unfolding topOpener
-back-cons f w = refl
 
 which : (k : ℕ) → 33 ≤ k → k ≤ 36 → (k ≡ 35 → ⊥) → (k ≡ 33) ⊎ ((k ≡ 34) ⊎ (k ≡ 36))
 which k h l n = by (ℕ-discrete k 33) (ℕ-discrete k 34)
@@ -234,6 +227,7 @@ module _ (table ends : List ℕ) (n limit : ℕ) (cells₀ : List ℕ) (s : Stat
     inside = omega (arith, rows-length table)
 
     op-here : rowAt T (s .row) .op ≡ opOf (getD table (s .row * 4) 0)
+    unfolding rowOf
     op-here = ap (λ x. x .op) (row-bytes table (s .row) inside)
 
     op-is : (k : ℕ) (o : Op) → opOf k ≡ o → getD table (s .row * 4) 0 ≡ k → rowAt T (G .here .row) .op ≡ o
@@ -286,7 +280,7 @@ module _ (table ends : List ℕ) (n limit : ℕ) (cells₀ : List ℕ) (s : Stat
               (let z : 0 < s .depth = omega arith in z),
               (let z : s .depth ≤ 8 = omega (arith, l8) in z),
               saves-back n (G .here .saved) saved openers (s .depth) (G .rep .depth-is) (omega arith) (G .rep .saves) ∙ ap topOpener sv
-                  ∙ back-cons _ _ ∙ p ∙ sym (G .rep .row-is),
+                  ∙ top-cons _ _ ∙ p ∙ sym (G .rep .row-is),
             )
 
     pub go-ready : 1 ≤ n → n ≤ 32 → limit ≤ 1000000 → length log ≡ 2 * length cells → length cells ≤ 1024 → Ready table n s cells log openers

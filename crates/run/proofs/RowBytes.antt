@@ -3,21 +3,20 @@ use mathlib.Core.Path.{_≡_, refl, sym, _∙_, ap}
 use mathlib.Core.List.{List}
 use mathlib.Core.Bool.{Bool, true, false, cond, _&&_, _||_, false≢true}
 use mathlib.Core.Option.{none}
-use Prim.Native.Nat.{ℕ, zero, suc, _+_, _*_, _<_, _≤_}
+use Prim.Native.Nat.{ℕ, _+_, _*_, _<_, _≤_}
 use native.Mathlib.Omega.{arith}
-use native.Mathlib.Decide.{ℕ-discrete}
 use borrow.Author.Tests.{ltb-true, ltb-false, leb-true, lt-ltb, le-ltb, eq-eqb}
 use lib.Dec.{leb, ltb, eqb}
 use lib.ListN.{length, getD, List·getD-eq-default}
 use Rattle.spec.specs.Op.{Form, setForm, dForm, dabForm, daForm, aForm, noForm, unknownForm, UNKNOWN, opOf, opTable, form, operandsFit, isRegister, isUnused}
-use Rattle.spec.specs.Table.{rowsOf, rowAt}
+use Rattle.spec.specs.Table.{rowsOf, rowAt, rowOf}
 use Rattle.spec.specs.TableCheck.{tableRefusal, isKnown}
+use Rattle.spec.proofs.Laws.{row-bytes, allBelow, below}
 use Rattle.structure.proofs.Ops.{known-of-other}
 use Rattle.structure.proofs.Acceptance.{operands-fit, accepted-if}
 use Rattle.allruns.proofs.Bools.{and-left, and-right}
 use Rattle.layout.specs.Memory.{ComputeAsks}
 use Rattle.layout.specs.Running.{RowAsks}
-use Rattle.step.proofs.Tables.{row-bytes}
 
 -- Which bytes of a form are registers.
 usesD : Form → Bool
@@ -93,22 +92,9 @@ high k f = leb k 37 && (cond (eqb k 32) (usesA f) true && cond (eqb k 35) (usesA
 placed : ℕ → Bool
 placed k = cond (isKnown (opOf k)) (cond (ltb k 16) (low k (form (opOf k))) (cond (ltb k 32) (middle k (form (opOf k))) (high k (form (opOf k))))) true
 
-allBelow : ℕ → (ℕ → Bool) → Bool
-allBelow zero p = true
-allBelow (suc n) p = p n && allBelow n p
-
-below : (n : ℕ) (p : ℕ → Bool) → allBelow n p ≡ true → (k : ℕ) → k < n → p k ≡ true
-unfolding allBelow
-below zero p e k h = absurd (omega arith)
-below (suc n) p e k h = by (ℕ-discrete k n) (below n p (and-right (p n) _ e) k)
-  where
-    by : Dec (k ≡ n) → (k < n → p k ≡ true) → p k ≡ true
-    by (yes q) ih = ap p q ∙ and-left (p n) _ e
-    by (no q) ih = ih (omega arith)
-
 -- All 256 bytes, in one computation.
-all-placed : allBelow 256 placed ≡ true
-unfolding allBelow placed low middle high usesD usesA usesB opOf opTable form isKnown
+all-placed : allBelow placed 256 ≡ true
+unfolding placed low middle high usesD usesA usesB opOf opTable form isKnown
 all-placed = refl
 
 no-op : (k : ℕ) → 256 ≤ k → isKnown (opOf k) ≡ false
@@ -133,7 +119,7 @@ module _ (k d a b : ℕ) (known : isKnown (opOf k) ≡ true) (fit : operandsFit 
   unfolding placed
   place =
       sym (ap (λ z. cond z (cond (ltb k 16) (low k f) (cond (ltb k 32) (middle k f) (high k f))) true) known)
-      ∙ below 256 placed all-placed k (known-small k known)
+      ∙ below placed 256 all-placed k (known-small k known)
 
   in-low : k < 16 → low k f ≡ true
   in-low h = sym (ap (λ z. cond z (low k f) (cond (ltb k 32) (middle k f) (high k f))) (lt-ltb k 16 h)) ∙ place
@@ -192,6 +178,7 @@ module _ (k d a b : ℕ) (known : isKnown (opOf k) ≡ true) (fit : operandsFit 
 
 pub row-asks : (table : List ℕ) → tableRefusal (rowsOf table) ≡ none → (r : ℕ) → r < length (rowsOf table)
     → RowAsks (getD table (r * 4) 0) (getD table (r * 4 + 1) 0) (getD table (r * 4 + 2) 0) (getD table (r * 4 + 3) 0)
+unfolding rowOf
 row-asks table e r h =
     let q = row-bytes table r h in
     asks (getD table (r * 4) 0) (getD table (r * 4 + 1) 0) (getD table (r * 4 + 2) 0) (getD table (r * 4 + 3) 0)

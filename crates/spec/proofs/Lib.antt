@@ -1,3 +1,4 @@
+pub mod Laws
 pub mod Computing
 pub mod OpTable
 pub mod WordTable

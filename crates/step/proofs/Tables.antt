@@ -1,13 +1,14 @@
 -- The table's bytes and their rows. Assumes nothing.
 use mathlib.Core.Path.{_≡_, refl, sym, _∙_, ap}
 use mathlib.Core.List.{List, [], _∷_, _++_, map}
-use Prim.Native.Nat.{ℕ, zero, suc, _+_, _*_, _/_, _<_, _≤_}
+use Prim.Native.Nat.{ℕ, zero, suc, _+_, _*_, _<_, _≤_}
 use native.Mathlib.Omega.{arith}
 use native.Mathlib.Decide.{ℕ-discrete}
 use lib.ListN.{length, getD, drop}
 use Rattle.spec.specs.Op.{Calc, SET, TID, COUNT, ADD, SUB, MUL, AND, OR, XOR, SHR, SAR, EQ, LT, SLT, Op, CALC, Mem, MEM, LOAD, STORE, UNKNOWN, opOf, opTable}
 use Rattle.spec.specs.Table.{Row, rowOf, rowsOf, rowAt}
 use Rattle.spec.specs.LockStep.{LockState}
+use Rattle.spec.proofs.Laws.{rows-length, row-bytes}
 use Rattle.layout.specs.declared.State.{State}
 use Rattle.layout.specs.Memory.{ComputeAsks}
 use Rattle.layout.specs.Represents.{Represents}
@@ -15,36 +16,6 @@ use Rattle.layout.specs.Represents.{Represents}
 -- A row of the table, by its four bytes.
 abbrev pub rowBytes : List ℕ → ℕ → Row
 rowBytes t r = record { op = opOf (getD t (r * 4) 0); d = getD t (r * 4 + 1) 0; a = getD t (r * 4 + 2) 0; b = getD t (r * 4 + 3) 0 }
-
-shift : (o d a b : ℕ) (t : List ℕ) (r k : ℕ) → k < 4 → getD (o ∷ d ∷ a ∷ b ∷ t) (suc r * 4 + k) 0 ≡ getD t (r * 4 + k) 0
-shift o d a b t r k h = ap (λ i. getD (o ∷ d ∷ a ∷ b ∷ t) i 0) (let z : suc r * 4 + k ≡ suc (suc (suc (suc (r * 4 + k)))) = omega arith in z)
-
-shift0 : (o d a b : ℕ) (t : List ℕ) (r : ℕ) → getD (o ∷ d ∷ a ∷ b ∷ t) (suc r * 4) 0 ≡ getD t (r * 4) 0
-shift0 o d a b t r = ap (λ i. getD (o ∷ d ∷ a ∷ b ∷ t) i 0) (let z : suc r * 4 ≡ suc (suc (suc (suc (r * 4)))) = omega arith in z)
-
-pub row-bytes : (t : List ℕ) (r : ℕ) → r < length (rowsOf t) → rowAt (rowsOf t) r ≡ rowBytes t r
-unfolding rowsOf rowOf rowAt
-row-bytes [] r h = absurd (omega arith)
-row-bytes (o ∷ []) r h = absurd (omega arith)
-row-bytes (o ∷ d ∷ []) r h = absurd (omega arith)
-row-bytes (o ∷ d ∷ a ∷ []) r h = absurd (omega arith)
-row-bytes (o ∷ d ∷ a ∷ b ∷ t) zero h = refl
-row-bytes (o ∷ d ∷ a ∷ b ∷ t) (suc r) h =
-    row-bytes t r (omega arith)
-    ∙ (λ i. record {
-      op = opOf (sym (shift0 o d a b t r) i);
-      d = sym (shift o d a b t r 1 (omega arith)) i;
-      a = sym (shift o d a b t r 2 (omega arith)) i;
-      b = sym (shift o d a b t r 3 (omega arith)) i;
-    })
-
-pub rows-length : (t : List ℕ) → length (rowsOf t) ≡ length t / 4
-unfolding rowsOf rowOf
-rows-length [] = refl
-rows-length (o ∷ []) = refl
-rows-length (o ∷ d ∷ []) = refl
-rows-length (o ∷ d ∷ a ∷ []) = refl
-rows-length (o ∷ d ∷ a ∷ b ∷ t) = omega (arith, rows-length t)
 
 pub row-inside : (t : List ℕ) (r : ℕ) → r < length (rowsOf t) → r * 4 + 3 < length t
 row-inside t r h = omega (arith, rows-length t)
@@ -65,6 +36,7 @@ compute-op (suc k) h l = (getD codes k SET, code-at codes (drop 15 opTable) k (o
 
 pub row-here : (t : List ℕ) (n : ℕ) (z : LockState) (s : State) (regs cells log saved openers : List ℕ)
     → Represents n z s regs cells log saved openers → s .row < length (rowsOf t) → rowAt (rowsOf t) (z .row) ≡ rowBytes t (s .row)
+unfolding rowOf
 row-here t n z s regs cells log saved openers R h = ap (rowAt (rowsOf t)) (sym (R .row-is)) ∙ row-bytes t (s .row) h
 
 pub compute-asks : (op d a b d′ a′ b′ : ℕ) → d′ ≡ d → a′ ≡ a → b′ ≡ b → ComputeAsks op d a b → ComputeAsks op d′ a′ b′

@@ -93,7 +93,6 @@ pub fn step(
             regs,
             saved,
             openers,
-            n,
             op,
             a,
             index(ends[row]),

@@ -7,18 +7,6 @@ use Rattle.accesslog.proofs.race_kind.Tie as tie
 returns : tie.Need-returns
 returns c = kind-by-load _ _ _ _ (c .before .before .pre .1 .inside) _ (c .if1 .taken)
 
-add-bit : tie.Need-add-bit
-add-bit c = search needs
-
-mul-bit : tie.Need-mul-bit
-mul-bit c = search needs
-
-shared-slice-read-bit : tie.Need-shared-slice-read-bit
-shared-slice-read-bit c = search needs
-
-bit-requires : tie.Need-bit-requires
-bit-requires c κs = search needs
-
 returns-2 : tie.Need-returns-2
 returns-2 c =
     let pre = c .before .before .before .before .before .pre .1 in
@@ -32,4 +20,8 @@ returns-3 c =
 pub race-kind-spec : {M : Type 1} → statement M
 race-kind-spec =
     tie.close
-    (tie.spec returns add-bit mul-bit shared-slice-read-bit bit-requires returns-2 returns-3)
+    (tie.spec
+    returns
+    (λ c. search needs) (λ c. search needs) (λ c. search needs) (λ c κs. search needs)
+    returns-2
+    returns-3)

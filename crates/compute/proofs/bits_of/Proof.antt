@@ -17,12 +17,5 @@ bits-of-spec =
     (tie.spec
     Inv-loop
     μ-loop
-    (λ c. search filling)
-    (λ c. search filling)
-    (λ c. search filling)
-    (λ c. search filling)
-    (λ c. search filling)
-    (λ c. search filling)
-    (λ c. search filling)
-    (λ c. search filling)
-    (λ c. search filling))
+    (λ c. search filling) (λ c. search filling) (λ c. search filling) (λ c. search filling) (λ c. search filling)
+    (λ c. search filling) (λ c. search filling) (λ c. search filling) (λ c. search filling))

@@ -9,21 +9,6 @@ use Rattle.compute.proofs.Turns.{row-done}
 use Rattle.compute.proofs.compute_row.Statement.{statement}
 use Rattle.compute.proofs.compute_row.Tie as tie
 
-value-lanes-requires : tie.Need-value-lanes-requires
-value-lanes-requires c κs = search needs
-
-all-requires : tie.Need-all-requires
-all-requires c κs = search needs
-
-put-all-requires : tie.Need-put-all-requires
-put-all-requires c κs = search needs
-
-bits-of-requires : tie.Need-bits-of-requires
-bits-of-requires c κs = search needs
-
-put-requires : tie.Need-put-requires
-put-requires c κs = search needs
-
 returns : tie.Need-returns
 returns c =
     let all = c .before .before .before .all in
@@ -46,10 +31,6 @@ pub compute-row-spec : {M : Type 1} → statement M
 compute-row-spec =
     tie.close
     (tie.spec
-    value-lanes-requires
-    all-requires
-    put-all-requires
-    bits-of-requires
-    put-requires
+    (λ c κs. search needs) (λ c κs. search needs) (λ c κs. search needs) (λ c κs. search needs) (λ c κs. search needs)
     returns
     returns-2)

@@ -31,18 +31,8 @@ put-spec =
     (tie.spec
     Inv-loop
     μ-loop
-    (λ c. search putting)
-    (λ c. search putting)
-    (λ c. search putting)
-    (λ c. search putting)
-    (λ c. search putting)
-    (λ c. search putting)
-    (λ c. search putting)
-    (λ c. search putting)
-    (λ c. search putting)
-    (λ c. search putting)
-    (λ c. search putting)
-    (λ c. search putting)
-    (λ c. search putting)
+    (λ c. search putting) (λ c. search putting) (λ c. search putting) (λ c. search putting) (λ c. search putting)
+    (λ c. search putting) (λ c. search putting) (λ c. search putting) (λ c. search putting) (λ c. search putting)
+    (λ c. search putting) (λ c. search putting) (λ c. search putting)
     loop-again
     (λ c. search putting))

@@ -18,14 +18,6 @@ put-all-spec =
     (tie.spec
     Inv-loop
     μ-loop
-    (λ c. search putting)
-    (λ c. search putting)
-    (λ c. search putting)
-    (λ c. search putting)
-    (λ c. search putting)
-    (λ c. search putting)
-    (λ c. search putting)
-    (λ c. search putting)
-    (λ c. search putting)
-    (λ c. search putting)
+    (λ c. search putting) (λ c. search putting) (λ c. search putting) (λ c. search putting) (λ c. search putting)
+    (λ c. search putting) (λ c. search putting) (λ c. search putting) (λ c. search putting) (λ c. search putting)
     (λ c. search putting))

@@ -17,11 +17,5 @@ threads-spec =
     (tie.spec
     Inv-loop
     μ-loop
-    (λ c. search filling)
-    (λ c. search filling)
-    (λ c. search filling)
-    (λ c. search filling)
-    (λ c. search filling)
-    (λ c. search filling)
-    (λ c. search filling)
-    (λ c. search filling))
+    (λ c. search filling) (λ c. search filling) (λ c. search filling) (λ c. search filling) (λ c. search filling)
+    (λ c. search filling) (λ c. search filling) (λ c. search filling))

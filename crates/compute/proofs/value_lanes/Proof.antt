@@ -8,9 +8,6 @@ use Rattle.compute.proofs.value_lanes.Tie as tie
 returns : tie.Need-returns
 returns c = by-set (omega arith)
 
-threads-requires : tie.Need-threads-requires
-threads-requires c κs = search needs
-
 returns-2 : tie.Need-returns-2
 returns-2 c = by-tid (omega arith) (c .threads .ensures)
 
@@ -23,9 +20,6 @@ lanes-of-requires c κs = c .before .pre .left (c .if1 .left)
 lanes-of-requires-2 : tie.Need-lanes-of-requires-2
 lanes-of-requires-2 c κs = c .before .before .pre .right (c .before .if1 .left)
 
-alu-lanes-requires : tie.Need-alu-lanes-requires
-alu-lanes-requires c κs = search needs
-
 returns-4 : tie.Need-returns-4
 returns-4 c =
     let test = c .before .before .before .if1 in
@@ -36,10 +30,10 @@ value-lanes-spec =
     tie.close
     (tie.spec
     returns
-    threads-requires
+    (λ c κs. search needs)
     returns-2
     returns-3
     lanes-of-requires
     lanes-of-requires-2
-    alu-lanes-requires
+    (λ c κs. search needs)
     returns-4)

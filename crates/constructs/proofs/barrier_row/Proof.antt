@@ -6,24 +6,6 @@ use borrow.Author.Needs.{needs}
 use Rattle.constructs.proofs.barrier_row.Statement.{statement}
 use Rattle.constructs.proofs.barrier_row.Tie as tie
 
-all-requires : tie.Need-all-requires
-all-requires c κs = search needs
-
-clear-requires : tie.Need-clear-requires
-clear-requires c κs = search needs
-
-add-t10 : tie.Need-add-t10
-add-t10 c = search needs
-
-add-t11 : tie.Need-add-t11
-add-t11 c = search needs
-
-add-t12 : tie.Need-add-t12
-add-t12 c = search needs
-
-same-length : tie.Need-same-length
-same-length c = search needs
-
 returns : tie.Need-returns
 returns c =
     let clear = c .before .before .before .before .before .clear in
@@ -36,9 +18,6 @@ returns c =
           (args .s .mask) (all .result) (clear .last .0) refl refl (all .ensures) all-here (clear .ensures),
     )
 
-moved-requires : tie.Need-moved-requires
-moved-requires c κs = search needs
-
 returns-2 : tie.Need-returns-2
 returns-2 c =
     let args = c .before .before .before .before .before .args in (
@@ -46,15 +25,6 @@ returns-2 c =
       λ regs cells saved openers z R. barrier-skips (args .n) z (args .s) regs cells (args .log .now) saved openers R (c .moved .result)
           (c .before .if2 .taken) (c .moved .ensures),
     )
-
-lowest-requires : tie.Need-lowest-requires
-lowest-requires c κs = search needs
-
-minus-requires : tie.Need-minus-requires
-minus-requires c κs = search needs
-
-lowest-requires-2 : tie.Need-lowest-requires-2
-lowest-requires-2 c κs = search needs
 
 returns-3 : tie.Need-returns-3
 returns-3 c =
@@ -72,16 +42,10 @@ pub barrier-row-spec : {M : Type 1} → statement M
 barrier-row-spec =
     tie.close
     (tie.spec
-    all-requires
-    clear-requires
-    add-t10
-    add-t11
-    add-t12
-    same-length
+    (λ c κs. search needs) (λ c κs. search needs) (λ c. search needs) (λ c. search needs) (λ c. search needs)
+    (λ c. search needs)
     returns
-    moved-requires
+    (λ c κs. search needs)
     returns-2
-    lowest-requires
-    minus-requires
-    lowest-requires-2
+    (λ c κs. search needs) (λ c κs. search needs) (λ c κs. search needs)
     returns-3)

@@ -1,5 +1,5 @@
 use mathlib.Core.Path.{_≡_}
-use Prim.Native.Nat.{ℕ, _≤_, _-_}
+use Prim.Native.Nat.{ℕ, _≤_}
 use native.Mathlib.Omega.{arith}
 use Rattle.constructs.proofs.Arms.{if-arm, else-arm, endif-arm, while-arm, endwhile-arm, is-while}
 use Rattle.constructs.proofs.construct_row.Statement.{statement}
@@ -13,30 +13,31 @@ up o h n = omega arith
 
 if-row-requires : tie.Need-if-row-requires
 if-row-requires c κs =
+    let arm = c .before .before .match in
     let pre = c .before .before .before .pre in
-    (pre .0, pre .1, pre .5 .0 (c .before .before .match .keys1), pre .6 .opens-if (c .before .before .match .keys1))
+    (pre .0, pre .4 .0 (arm .keys1), pre .5 .opens-if (arm .keys1))
 
 else-row-requires : tie.Need-else-row-requires
 else-row-requires c κs =
     let pre = c .before .before .before .pre in
-    let y = pre .6 .inside (omega arith) (omega arith) (λ q. omega arith) in (pre .0, y .0, y .1)
+    let y = pre .5 .inside (omega arith) (omega arith) (λ q. omega arith) in (pre .0, y .0, y .1)
 
 endif-row-requires : tie.Need-endif-row-requires
 endif-row-requires c κs =
     let pre = c .before .before .pre in
-    let y = pre .6 .inside (omega arith) (omega arith) (λ q. omega arith) in (pre .0, y .0, y .1)
+    let y = pre .5 .inside (omega arith) (omega arith) (λ q. omega arith) in (pre .0, y .0, y .1)
 
 while-row-requires : tie.Need-while-row-requires
 while-row-requires c κs =
     let arm = c .before .before .match in
     let pre = c .before .before .before .pre in
-    (pre .0, pre .1, pre .5 .1 (arm .keys4), pre .2, pre .6 .opens-while (arm .keys4))
+    (pre .0, pre .4 .1 (arm .keys4), pre .1, pre .5 .opens-while (arm .keys4))
 
 endwhile-row-requires : tie.Need-endwhile-row-requires
 endwhile-row-requires c κs =
     let arm = c .before .match in
     let pre = c .before .before .pre in
-    let y = pre .6 .inside (up _ (pre .3) (arm .rest .0 .0 .0 .1)) (pre .4) (arm .rest .1) in (pre .0, y .0, y .1)
+    let y = pre .5 .inside (up _ (pre .2) (arm .rest .0 .0 .0 .1)) (pre .3) (arm .rest .1) in (pre .0, y .0, y .1)
 
 returns : tie.Need-returns
 returns c =
@@ -44,8 +45,8 @@ returns c =
     let args = c .before .before .before .before .args in
     let o = c .if-row in (
       o .ensures .0,
-      λ cells log T L x z q ea ee R. if-arm (args .n) T L x z (args .op) q (args .regs .now) cells log (o .last .1 .0)
-          (o .last .1 .1 .0) (args .a) (o .result) (arm .keys1) ea (o .ensures .1 cells log z R),
+      λ n cells log T L x z q ea ee R. if-arm n T L x z (args .op) q (args .regs .now) cells log (o .last .1 .0)
+          (o .last .1 .1 .0) (args .a) (o .result) (arm .keys1) ea (o .ensures .1 n cells log z R),
     )
 
 returns-2 : tie.Need-returns-2
@@ -54,9 +55,9 @@ returns-2 c =
     let args = c .before .before .before .before .args in
     let regs = args .regs .now in
     let o = c .else-row in (
-      (o .ensures (args .n) regs) .0,
-      λ cells log T L x z q ea ee R. else-arm (args .n) T L x z (args .op) q regs cells log (args .saved .now)
-          (o .last .1 .0) (o .result) (arm .keys2) ((o .ensures (args .n) regs) .1 cells log z R),
+      (o .ensures regs) .0,
+      λ n cells log T L x z q ea ee R. else-arm n T L x z (args .op) q regs cells log (args .saved .now)
+          (o .last .1 .0) (o .result) (arm .keys2) ((o .ensures regs) .1 n cells log z R),
     )
 
 returns-3 : tie.Need-returns-3
@@ -65,9 +66,9 @@ returns-3 c =
     let regs = args .regs .now in
     let openers = args .openers .now in
     let o = c .endif-row in (
-      (o .ensures (args .n) regs openers) .0,
-      λ cells log T L x z q ea ee R. endif-arm (args .n) T L x z (args .op) q regs cells log (args .saved .now)
-          openers (o .result) (c .before .before .match .keys3) ((o .ensures (args .n) regs openers) .1 cells log z R),
+      (o .ensures regs openers) .0,
+      λ n cells log T L x z q ea ee R. endif-arm n T L x z (args .op) q regs cells log (args .saved .now)
+          openers (o .result) (c .before .before .match .keys3) ((o .ensures regs openers) .1 n cells log z R),
     )
 
 returns-4 : tie.Need-returns-4
@@ -76,8 +77,8 @@ returns-4 c =
     let args = c .before .before .before .before .args in
     let o = c .while-row in (
       o .ensures .0,
-      λ cells log T L x z q ea ee R. while-arm (args .n) T L x z (args .op) q (args .regs .now) cells log (o .last .1 .0)
-          (o .last .1 .1 .0) (args .a) (o .result) (arm .keys4) ea (o .ensures .1 T cells log z (ee (is-while (x .op) (args .op) q (arm .keys4))) R),
+      λ n cells log T L x z q ea ee R. while-arm n T L x z (args .op) q (args .regs .now) cells log (o .last .1 .0)
+          (o .last .1 .1 .0) (args .a) (o .result) (arm .keys4) ea (o .ensures .1 n T cells log z (ee (is-while (x .op) (args .op) q (arm .keys4))) R),
     )
 
 returns-5 : tie.Need-returns-5
@@ -89,10 +90,10 @@ returns-5 c =
     let pre = start .pre in
     let o = c .endwhile-row in
     let r = c .before .before .match .rest in
-    let e : args .op ≡ 36 = last (args .op) (pre .3) (pre .4) (r .0 .0 .0 .1) (r .0 .0 .1) (r .0 .1) (r .1) in (
-      (o .ensures (args .n) regs saved) .0,
-      λ cells log T L x z q ea ee R. endwhile-arm (args .n) T L x z (args .op) q regs cells log saved
-          (args .openers .now) (o .result) e ((o .ensures (args .n) regs saved) .1 cells log z R),
+    let e : args .op ≡ 36 = last (args .op) (pre .2) (pre .3) (r .0 .0 .0 .1) (r .0 .0 .1) (r .0 .1) (r .1) in (
+      (o .ensures regs saved) .0,
+      λ n cells log T L x z q ea ee R. endwhile-arm n T L x z (args .op) q regs cells log saved
+          (args .openers .now) (o .result) e ((o .ensures regs saved) .1 n cells log z R),
     )
 
 pub construct-row-spec : {M : Type 1} → statement M

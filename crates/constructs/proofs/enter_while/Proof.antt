@@ -14,9 +14,6 @@ apart c h e = ⊎-elim (λ w. w .2 .left e) (λ w. omega (arith, w .left)) (c .i
 new-room : (c : tie.Joined1) → c .before .args .s .depth < 8
 new-room c = room-new (c .before .args .s) (c .before .args .openers .now) (c .before .pre) (apart c)
 
-sub-if2 : tie.Need-sub-if2
-sub-if2 c = search needs
-
 mul-if2 : tie.Need-mul-if2
 mul-if2 c = let l = atmost (c .before .args .s) (c .before .args .openers .now) (c .before .pre) in omega arith
 
@@ -54,7 +51,7 @@ pub enter-while-spec : {M : Type 1} → statement M
 enter-while-spec =
     tie.close
     (tie.spec
-    sub-if2
+    (λ c. search needs)
     mul-if2
     element-copy-out-if2
     returns

@@ -8,16 +8,8 @@ pub alu-lanes-spec : {M : Type 1} → statement M
 alu-lanes-spec =
     tie.close
     (tie.spec
-    (λ c κs. search needs)
-    (λ c κs. search needs)
-    (λ c κs. search needs)
-    (λ c κs. search needs)
-    (λ c κs. search needs)
-    (λ c κs. search needs)
-    (λ c κs. search needs)
-    (λ c κs. search needs)
-    (λ c κs. search needs)
-    (λ c κs. search needs)
+    (λ c κs. search needs) (λ c κs. search needs) (λ c κs. search needs) (λ c κs. search needs) (λ c κs. search needs)
+    (λ c κs. search needs) (λ c κs. search needs) (λ c κs. search needs) (λ c κs. search needs) (λ c κs. search needs)
     (λ c κs. search needs)
     (λ c. by-op (c .before .match .keys1) (ops-are .0) (c .add-lanes .ensures))
     (λ c. by-op (c .before .match .keys2) (ops-are .1) (c .sub-lanes .ensures))

@@ -5,27 +5,6 @@ use borrow.Author.Needs.{needs}
 use Rattle.memory.proofs.access_one.Statement.{statement}
 use Rattle.memory.proofs.access_one.Tie as tie
 
-index-requires : tie.Need-index-requires
-index-requires c κs = search needs
-
-cell-register-requires : tie.Need-cell-register-requires
-cell-register-requires c κs = search needs
-
-mul-x : tie.Need-mul-x
-mul-x c = search needs
-
-add-x : tie.Need-add-x
-add-x c = search needs
-
-mul-x-2 : tie.Need-mul-x-2
-mul-x-2 c = search needs
-
-element-copy-out-x : tie.Need-element-copy-out-x
-element-copy-out-x c = search needs
-
-index-requires-2 : tie.Need-index-requires-2
-index-requires-2 c κs = search needs
-
 returns : tie.Need-returns
 returns c =
     let cell = c .before .index2 in
@@ -39,21 +18,6 @@ returns c =
     (thread .result) (cell .result) m x o
     (pre .known) (pre .small) (register .ensures) ed ea (pre .target) (pre .source) (thread .ensures) (cell .ensures)
     _ (sym (cell .ensures)) (c .if1 .taken)
-
-conflict-requires : tie.Need-conflict-requires
-conflict-requires c κs = search needs
-
-enter-requires : tie.Need-enter-requires
-enter-requires c κs = search needs
-
-transfer-requires : tie.Need-transfer-requires
-transfer-requires c κs = search needs
-
-same-length : tie.Need-same-length
-same-length c = search needs
-
-same-length-2 : tie.Need-same-length-2
-same-length-2 c = search needs
 
 returns-2 : tie.Need-returns-2
 returns-2 c =
@@ -74,9 +38,6 @@ returns-2 c =
     within (conflict .result) (conflict .ensures (args .t) (pre .0) (pre .2)) _ _ _ no-foe (c .before .before .transfer .ensures)
     (at-enter .enter .ensures (args .t) (pre .0) (pre .2))
 
-lowest-requires : tie.Need-lowest-requires
-lowest-requires c κs = search needs
-
 race-kind-requires : tie.Need-race-kind-requires
 race-kind-requires c κs =
     let within = c .before .before .before .before .before .if1 .left in
@@ -84,9 +45,6 @@ race-kind-requires c κs =
       c .before .lowest .ensures .1 (omega (arith, c .before .before .if2 .left)),
       record { known = pre .known; small = pre .small; twice = pre .twice; inside = within; few = pre .cells-few },
     )
-
-same-length-3 : tie.Need-same-length-3
-same-length-3 c = search needs
 
 returns-3 : tie.Need-returns-3
 returns-3 c =
@@ -110,21 +68,12 @@ pub access-one-spec : {M : Type 1} → statement M
 access-one-spec =
     tie.close
     (tie.spec
-    index-requires
-    cell-register-requires
-    mul-x
-    add-x
-    mul-x-2
-    element-copy-out-x
-    index-requires-2
+    (λ c κs. search needs) (λ c κs. search needs) (λ c. search needs) (λ c. search needs) (λ c. search needs)
+    (λ c. search needs) (λ c κs. search needs)
     returns
-    conflict-requires
-    enter-requires
-    transfer-requires
-    same-length
-    same-length-2
+    (λ c κs. search needs) (λ c κs. search needs) (λ c κs. search needs) (λ c. search needs) (λ c. search needs)
     returns-2
-    lowest-requires
+    (λ c κs. search needs)
     race-kind-requires
-    same-length-3
+    (λ c. search needs)
     returns-3)

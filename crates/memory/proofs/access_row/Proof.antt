@@ -53,12 +53,6 @@ access-one-requires c κs =
       turn .inv .5 (omega (arith, pre .0)),
     )
 
-enum-told : tie.Need-enum-told Inv-loop μ-loop
-enum-told c = search needs
-
-enum-known-v : tie.Need-enum-known-v Inv-loop μ-loop
-enum-known-v c = search needs
-
 same-length : tie.Need-same-length Inv-loop μ-loop
 same-length c =
     let access-one = c .before .before .before .before .before .before .before .access-one in
@@ -89,12 +83,6 @@ returns c =
           (access-one .result) (access-one .last .0) (access-one .last .1 .0) (access-one .last .1 .1 .0)) (turn .inv .2)
           (access-one .ensures (args .n) y x o some-left ed ea)) (c .before .v .given .1),
     )
-
-add-k : tie.Need-add-k Inv-loop μ-loop
-add-k c = search needs
-
-add-t : tie.Need-add-t Inv-loop μ-loop
-add-t c = search needs
 
 loop-less : tie.Need-loop-less Inv-loop μ-loop
 loop-less c = omega (arith, c .before .loop-test .taken)
@@ -131,9 +119,6 @@ loop-again c =
     ))
     (c .if1 .came)
 
-count-requires : tie.Need-count-requires Inv-loop μ-loop
-count-requires c κs = search needs
-
 same-length-3 : tie.Need-same-length-3 Inv-loop μ-loop
 same-length-3 c = c .before .before .loop .inv .2
 
@@ -159,16 +144,14 @@ access-row-spec =
     μ-loop
     loop-holds
     access-one-requires
-    enum-told
-    enum-known-v
+    (λ c. search needs) (λ c. search needs)
     same-length
     same-length-2
     returns
-    add-k
-    add-t
+    (λ c. search needs) (λ c. search needs)
     loop-less
     loop-again
-    count-requires
+    (λ c κs. search needs)
     same-length-3
     same-length-4
     returns-2)

@@ -8,7 +8,7 @@ use borrow.Author.Tests.{eqb-true, ne-eqb}
 use lib.Dec.{eqb}
 use lib.ListN.{getD, replicate}
 use Rattle.spec.specs.Op.{Form, setForm, dForm, dabForm, daForm, aForm, noForm, unknownForm, opTable, opOf, form, formOf}
-use Rattle.optable.proofs.Bytes.{allBelow, below}
+use Rattle.spec.proofs.Laws.{allBelow, below}
 use Rattle.optable.proofs.form_of.Statement.{statement}
 use Rattle.optable.proofs.form_of.Tie as tie
 
@@ -62,9 +62,6 @@ rule op l = ap ofCode (eqb-true (getD forms op 0) (codeOf (formOf op)) (below ri
 named : (op n : ℕ) → op < 256 → getD forms op 0 ≡ n → ofCode n ≡ formOf op
 named op n l e = ap ofCode (sym e) ∙ rule op l
 
-array-read-code : tie.Need-array-read-code
-array-read-code c = search needs
-
 returns : tie.Need-returns
 returns c = named (c .before .args .op) 1 (search needs) (c .match .keys1)
 
@@ -93,4 +90,12 @@ returns-7 c =
 pub form-of-spec : {M : Type 1} → statement M
 form-of-spec =
     tie.close
-    (tie.spec array-read-code returns returns-2 returns-3 returns-4 returns-5 returns-6 returns-7)
+    (tie.spec
+    (λ c. search needs)
+    returns
+    returns-2
+    returns-3
+    returns-4
+    returns-5
+    returns-6
+    returns-7)

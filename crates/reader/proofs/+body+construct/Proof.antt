@@ -70,27 +70,12 @@ module _ (t : ℕ) where
       let pre = start .pre .1 in
       span-none (args .table .now) (pre .0) (args .depth) (args .from) (args .ends .now) (pre .1)
 
-  body-row-fits-requires : body-lts.Need-row-fits-requires (body-calls t) (body-at t) body.Post body-Inv-loop body-μ-loop
-  body-row-fits-requires c κs = search needs
-
-  body-enum-known-why : body-lts.Need-enum-known-why (body-calls t) (body-at t) body.Post body-Inv-loop body-μ-loop
-  body-enum-known-why c = search needs
-
   body-returns : body-lts.Need-returns (body-calls t) (body-at t) body.Post body-Inv-loop body-μ-loop
   body-returns c =
       let row-fits = c .before .before .before .row-fits in
       let turn = c .before .before .before .before .before .loop in
       let start = c .before .before .before .before .before .before .before in
       span-refused (start .args .table .now) (start .pre .1 .0) (turn .inv) (omega arith) (sym (row-fits .ensures) ∙ ap refusalOf (c .before .why .given .1))
-
-  body-enum-told : body-lts.Need-enum-told (body-calls t) (body-at t) body.Post body-Inv-loop body-μ-loop
-  body-enum-told c = search needs
-
-  body-mul-op : body-lts.Need-mul-op (body-calls t) (body-at t) body.Post body-Inv-loop body-μ-loop
-  body-mul-op c = search needs
-
-  body-shared-slice-read-op : body-lts.Need-shared-slice-read-op (body-calls t) (body-at t) body.Post body-Inv-loop body-μ-loop
-  body-shared-slice-read-op c = search needs
 
   -- The loop's row, once it has passed `row_fits`.
   abbrev Fitting : Type 0
@@ -115,9 +100,6 @@ module _ (t : ℕ) where
       let pre = c .before .before .before .before .before .before .before .before .before .pre .1 in
       (omega arith, (pre .0, inside fitting, pre .2, c .before .match2 .keys1, own fitting, turn .inv .notes .size ∙ pre .3))
 
-  body-enum-known-next : body-lts.Need-enum-known-next (body-calls t) (body-at t) body.Post body-Inv-loop body-μ-loop
-  body-enum-known-next c = search needs
-
   -- The construct at the loop's row, up to the row behind it.
   read : (c : body-lts.After-known-told2 (body-calls t) (body-at t) body.Post body-Inv-loop body-μ-loop)
       → let nested = c .before .before .before .construct in
@@ -139,9 +121,6 @@ module _ (t : ℕ) where
       let start = c .before .before .before .before .before .before .before .before .before .before .before .before .before in
       span-on (start .args .table .now) (start .pre .1 .0) (turn .inv) ((read c) .span)
 
-  body-enum-known-why-2 : body-lts.Need-enum-known-why-2 (body-calls t) (body-at t) body.Post body-Inv-loop body-μ-loop
-  body-enum-known-why-2 c = search needs
-
   body-returns-2 : body-lts.Need-returns-2 (body-calls t) (body-at t) body.Post body-Inv-loop body-μ-loop
   body-returns-2 c =
       let nested = c .before .before .before .construct in
@@ -159,12 +138,6 @@ module _ (t : ℕ) where
   body-returns-4 c =
       let turn = c .before .before .before .before .before .before .loop in
       record { span = turn .inv; stops = λ l. record { byte = inr (c .match2 .keys3); own = own (c .before .before) } }
-
-  body-add-row : body-lts.Need-add-row (body-calls t) (body-at t) body.Post body-Inv-loop body-μ-loop
-  body-add-row c = search needs
-
-  body-loop-less-2 : body-lts.Need-loop-less-2 (body-calls t) (body-at t) body.Post body-Inv-loop body-μ-loop
-  body-loop-less-2 c = search needs
 
   body-loop-again-2 : body-lts.Need-loop-again-2 (body-calls t) (body-at t) body.Post body-Inv-loop body-μ-loop
   body-loop-again-2 c =
@@ -184,9 +157,6 @@ module _ (t : ℕ) where
       let pre = c .before .before .before .pre .1 .0 in
       record { span = c .before .loop .inv; stops = λ l. absurd (omega (arith, pre)) }
 
-  construct-cast-t12 : construct-lts.Need-cast-t12 (construct-calls t) (construct-at t) construct.Post
-  construct-cast-t12 c = search needs
-
   construct-returns : construct-lts.Need-returns (construct-calls t) (construct-at t) construct.Post
   construct-returns c =
       let start = c .before .before in
@@ -196,21 +166,6 @@ module _ (t : ℕ) where
       subst (λ d. Fails (rowsOf table) d (args .row) (TooDeep (args .row))) (sym (c .if1 .taken))
       (ninth table (pre .0) 8 (args .row) (pre .1) (pre .4) (pre .3))
 
-  construct-add-body : construct-lts.Need-add-body (construct-calls t) (construct-at t) construct.Post
-  construct-add-body c = search needs
-
-  construct-add-body-2 : construct-lts.Need-add-body-2 (construct-calls t) (construct-at t) construct.Post
-  construct-add-body-2 c = search needs
-
-  construct-body-requires : construct-lts.Need-body-requires (construct-calls t) (construct-at t) construct.Post
-  construct-body-requires c κs = search needs
-
-  construct-enum-known-first : construct-lts.Need-enum-known-first (construct-calls t) (construct-at t) construct.Post
-  construct-enum-known-first c = search needs
-
-  construct-enum-told : construct-lts.Need-enum-told (construct-calls t) (construct-at t) construct.Post
-  construct-enum-told c = search needs
-
   construct-returns-2 : construct-lts.Need-returns-2 (construct-calls t) (construct-at t) construct.Post
   construct-returns-2 c =
       let not-deepest = c .before .before .before .before .if1 .left in
@@ -219,12 +174,6 @@ module _ (t : ℕ) where
       let pre = start .pre .1 in
       first-refused (args .table .now) (pre .0) (args .depth) (args .row) (pre .1) (pre .4) (args .ends .now) (c .before .before .body .last .1 .1 .1 .0)
       (c .enum-told .given .1) (pre .3) (omega (arith, pre, not-deepest)) (c .before .before .body .ensures)
-
-  construct-mul-if2 : construct-lts.Need-mul-if2 (construct-calls t) (construct-at t) construct.Post
-  construct-mul-if2 c = search needs
-
-  construct-shared-slice-read-if2 : construct-lts.Need-shared-slice-read-if2 (construct-calls t) (construct-at t) construct.Post
-  construct-shared-slice-read-if2 c = search needs
 
   -- The body behind the construct's first row.
   abbrev AfterFirst : Type 0
@@ -251,9 +200,6 @@ module _ (t : ℕ) where
       let pre = c .before .before .before .before .before .before .before .before .before .pre .1 .0 in
       (pre, omega (arith, (first (c .before .before)) .span .on), (first (c .before .before)) .span .within)
 
-  construct-enum-known-closed : construct-lts.Need-enum-known-closed (construct-calls t) (construct-at t) construct.Post
-  construct-enum-known-closed c = search needs
-
   -- The loop's ENDWHILE, which stands before the row `next`.
   ended : (c : construct-lts.After-known-told2 (construct-calls t) (construct-at t) construct.Post)
       → let k = c .before .before .before .before .before .before .before .first .given .0 .0 in
@@ -275,9 +221,6 @@ module _ (t : ℕ) where
 
   construct-element-write-ends : construct-lts.Need-element-write-ends (construct-calls t) (construct-at t) construct.Post
   construct-element-write-ends c = omega arith
-
-  construct-enum-told-2 : construct-lts.Need-enum-told-2 (construct-calls t) (construct-at t) construct.Post
-  construct-enum-told-2 c = search needs
 
   construct-returns-3 : construct-lts.Need-returns-3 (construct-calls t) (construct-at t) construct.Post
   construct-returns-3 c =
@@ -337,9 +280,6 @@ module _ (t : ℕ) where
       let pre = bodied .before .before .before .before .before .before .before .pre .1 in
       omega (arith, (first bodied) .span .within, pre)
 
-  construct-add-body-4 : construct-lts.Need-add-body-4 (construct-calls t) (construct-at t) construct.Post
-  construct-add-body-4 c = search needs
-
   -- The ELSE at which that body ends.
   there : (c : construct-lts.Else3 (construct-calls t) (construct-at t) construct.Post)
       → let k = c .before .before .before .before .before .first .given .0 .0 in
@@ -360,12 +300,6 @@ module _ (t : ℕ) where
         omega (arith, (pre .1), b .span .on, e .0, pre .0),
         (pre .1 .0, omega (arith, e .0, (pre .1)), omega (arith, shallow bodied), b .span .notes .size ∙ pre .1 .5),
       )
-
-  construct-enum-known-second : construct-lts.Need-enum-known-second (construct-calls t) (construct-at t) construct.Post
-  construct-enum-known-second c = search needs
-
-  construct-enum-told-3 : construct-lts.Need-enum-told-3 (construct-calls t) (construct-at t) construct.Post
-  construct-enum-told-3 c = search needs
 
   construct-returns-6 : construct-lts.Need-returns-6 (construct-calls t) (construct-at t) construct.Post
   construct-returns-6 c =
@@ -418,51 +352,41 @@ pub +body+construct-spec : {M : Type 1} → statement M
     close μ-body μ-construct
     (λ t. body-lts.spec (body-calls t) (body-at t) body.Post body-Inv-loop body-μ-loop
     (body-loop-holds t)
-    (body-row-fits-requires t)
-    (body-enum-known-why t)
+    (λ c κs. search needs) (λ c. search needs)
     (body-returns t)
-    (body-enum-told t)
-    (body-mul-op t)
-    (body-shared-slice-read-op t)
+    (λ c. search needs) (λ c. search needs) (λ c. search needs)
     (body-construct-requires t)
-    (body-enum-known-next t)
+    (λ c. search needs)
     (body-loop-less t)
     (body-loop-again t)
-    (body-enum-known-why-2 t)
+    (λ c. search needs)
     (body-returns-2 t)
     (body-returns-3 t)
     (body-returns-4 t)
-    (body-add-row t)
-    (body-loop-less-2 t)
+    (λ c. search needs) (λ c. search needs)
     (body-loop-again-2 t)
     (body-returns-5 t))
     (λ t. construct-lts.spec (construct-calls t) (construct-at t) construct.Post
-    (construct-cast-t12 t)
+    (λ c. search needs)
     (construct-returns t)
-    (construct-add-body t)
-    (construct-add-body-2 t)
-    (construct-body-requires t)
-    (construct-enum-known-first t)
-    (construct-enum-told t)
+    (λ c. search needs) (λ c. search needs) (λ c κs. search needs) (λ c. search needs) (λ c. search needs)
     (construct-returns-2 t)
-    (construct-mul-if2 t)
-    (construct-shared-slice-read-if2 t)
+    (λ c. search needs) (λ c. search needs)
     (construct-closes-requires t)
-    (construct-enum-known-closed t)
+    (λ c. search needs)
     (construct-sub-ends t)
     (construct-cast-ends t)
     (construct-element-write-ends t)
-    (construct-enum-told-2 t)
+    (λ c. search needs)
     (construct-returns-3 t)
     (construct-returns-4 t)
     (construct-is-else-requires t)
     (construct-closes-requires-2 t)
     (construct-returns-5 t)
     (construct-add-body-3 t)
-    (construct-add-body-4 t)
+    (λ c. search needs)
     (construct-body-requires-2 t)
-    (construct-enum-known-second t)
-    (construct-enum-told-3 t)
+    (λ c. search needs) (λ c. search needs)
     (construct-returns-6 t)
     (construct-closes-requires-3 t)
     (construct-returns-7 t))

@@ -9,12 +9,6 @@ use borrow.Author.Needs.{needs}
 use Rattle.reader.proofs.read_table.Statement.{statement}
 use Rattle.reader.proofs.read_table.Tie as tie
 
-body-requires : tie.Need-body-requires
-body-requires c κs = search needs
-
-enum-known-row : tie.Need-enum-known-row
-enum-known-row c = search needs
-
 -- The table's body.
 whole : (c : tie.After-known-told)
     → let inner = c .before .before .before .body in
@@ -27,18 +21,6 @@ whole c =
 
 mul-if1 : tie.Need-mul-if1
 mul-if1 c = omega (arith, (whole c) .span .within, c .before .before .before .before .before .before .pre)
-
-cast-t12 : tie.Need-cast-t12
-cast-t12 c = search needs
-
-refused-requires : tie.Need-refused-requires
-refused-requires c κs = search needs
-
-enum-known-why : tie.Need-enum-known-why
-enum-known-why c = search needs
-
-refused-requires-2 : tie.Need-refused-requires-2
-refused-requires-2 c κs = search needs
 
 returns : tie.Need-returns
 returns c =
@@ -75,13 +57,9 @@ pub read-table-spec : {M : Type 1} → statement M
 read-table-spec =
     tie.close
     (tie.spec
-    body-requires
-    enum-known-row
+    (λ c κs. search needs) (λ c. search needs)
     mul-if1
-    cast-t12
-    refused-requires
-    enum-known-why
-    refused-requires-2
+    (λ c. search needs) (λ c κs. search needs) (λ c. search needs) (λ c κs. search needs)
     returns
     returns-2
     returns-3)

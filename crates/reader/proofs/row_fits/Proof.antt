@@ -16,7 +16,7 @@ use Rattle.optable.specs.declared.Form.the-variants.{SetForm, DForm, DabForm, D
 use Rattle.optable.proofs.Form.{the-type}
 use Rattle.optable.specs.Forms.{meaning}
 use Rattle.reader.specs.Parts.{ownRefusal}
-use Rattle.reader.proofs.RowBytes.{rows-length, row-bytes}
+use Rattle.spec.proofs.Laws.{rows-length, row-bytes}
 use Rattle.reader.proofs.OpBytes.{knownForm, known-byte}
 use borrow.Author.Needs.{needs}
 use Rattle.reader.proofs.row_fits.Statement.{statement}
@@ -42,21 +42,6 @@ own-is t r f l m e =
     let b = known-byte (getD t (r * 4) 0) m in
     rw (row-bytes t r (omega (arith, rows-length t)), b, e)
 
-mul-at : tie.Need-mul-at
-mul-at c = search needs
-
-shared-slice-read-form-of : tie.Need-shared-slice-read-form-of
-shared-slice-read-form-of c = search needs
-
-form-of-requires : tie.Need-form-of-requires
-form-of-requires c κs = search needs
-
-enum-told : tie.Need-enum-told
-enum-told c = search needs
-
-cast-t7 : tie.Need-cast-t7
-cast-t7 c = search needs
-
 returns : tie.Need-returns
 unfolding knownForm orElse unless
 returns c =
@@ -65,30 +50,6 @@ returns c =
     sym (own-is (args .table .now) (args .row) (meaning (c .before .before .form-of .result)) (search needs)
     (shared-slice-known .given (args .row * 4) .fits) (c .before .before .form-of .ensures)
     ∙ rw (c .enum-told .given .1))
-
-add-operands-fit : tie.Need-add-operands-fit
-add-operands-fit c = search needs
-
-shared-slice-read-operands-fit : tie.Need-shared-slice-read-operands-fit
-shared-slice-read-operands-fit c = search needs
-
-add-operands-fit-2 : tie.Need-add-operands-fit-2
-add-operands-fit-2 c = search needs
-
-shared-slice-read-operands-fit-2 : tie.Need-shared-slice-read-operands-fit-2
-shared-slice-read-operands-fit-2 c = search needs
-
-add-operands-fit-3 : tie.Need-add-operands-fit-3
-add-operands-fit-3 c = search needs
-
-shared-slice-read-operands-fit-3 : tie.Need-shared-slice-read-operands-fit-3
-shared-slice-read-operands-fit-3 c = search needs
-
-operands-fit-requires : tie.Need-operands-fit-requires
-operands-fit-requires c κs = search needs
-
-cast-t19 : tie.Need-cast-t19
-cast-t19 c = search needs
 
 returns-2 : tie.Need-returns-2
 unfolding orElse unless
@@ -114,19 +75,9 @@ pub row-fits-spec : {M : Type 1} → statement M
 row-fits-spec =
     tie.close
     (tie.spec
-    mul-at
-    shared-slice-read-form-of
-    form-of-requires
-    enum-told
-    cast-t7
+    (λ c. search needs) (λ c. search needs) (λ c κs. search needs) (λ c. search needs) (λ c. search needs)
     returns
-    add-operands-fit
-    shared-slice-read-operands-fit
-    add-operands-fit-2
-    shared-slice-read-operands-fit-2
-    add-operands-fit-3
-    shared-slice-read-operands-fit-3
-    operands-fit-requires
-    cast-t19
+    (λ c. search needs) (λ c. search needs) (λ c. search needs) (λ c. search needs) (λ c. search needs)
+    (λ c. search needs) (λ c κs. search needs) (λ c. search needs)
     returns-2
     returns-3)

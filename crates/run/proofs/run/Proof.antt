@@ -15,9 +15,6 @@ Inv-loop table ends n limit cells₀ log₀ count regs₀ saved₀ openers₀ s�
 abbrev μ-loop : tie.MeasureT-loop
 μ-loop table ends n limit cells₀ log₀ count regs₀ saved₀ openers₀ s₀ cells log regs saved openers s = limit - s .rows
 
-clear-requires : tie.Need-clear-requires Inv-loop μ-loop
-clear-requires c κs = search needs
-
 all-requires : tie.Need-all-requires Inv-loop μ-loop
 all-requires c κs = c .before .before .before .before .before .before .before .pre .2
 
@@ -76,9 +73,6 @@ step-requires c κs =
     (turn .saved) (turn .openers) going (pre .0) inside unspent (pre .1) (pre .2) (pre .3)
     (omega (arith, turn .inv .0, turn .inv .1, clear .kept .0, pre .4)) (omega (arith, turn .inv .0, pre .5))
 
-enum-known-z : tie.Need-enum-known-z Inv-loop μ-loop
-enum-known-z c = search needs
-
 loop-less : tie.Need-loop-less Inv-loop μ-loop
 loop-less c =
     let at-step = c .before .before .before .before .before .before .before in
@@ -104,9 +98,6 @@ loop-again c =
       go-next (args .table .now) (args .ends .now) (args .n) (args .limit) (args .cells .now) (turn .s) (turn .regs) (turn .cells) (turn .log)
           (turn .saved) (turn .openers) going (start .pre .0) inside unspent (turn .inv .0) (step .result) _ _ _ _ _ (step .ensures) _ (c .before .z .given .1),
     )
-
-enum-known-v : tie.Need-enum-known-v Inv-loop μ-loop
-enum-known-v c = search needs
 
 ended-requires-2 : tie.Need-ended-requires-2 Inv-loop μ-loop
 ended-requires-2 c κs =
@@ -183,7 +174,7 @@ run-spec =
     (tie.spec
     Inv-loop
     μ-loop
-    clear-requires
+    (λ c κs. search needs)
     all-requires
     loop-holds
     ended-requires
@@ -191,10 +182,10 @@ run-spec =
     same-length-2
     returns
     step-requires
-    enum-known-z
+    (λ c. search needs)
     loop-less
     loop-again
-    enum-known-v
+    (λ c. search needs)
     ended-requires-2
     same-length-3
     same-length-4

@@ -7,18 +7,6 @@ use borrow.Author.Needs.{needs}
 use Rattle.step.proofs.access_row.Statement.{statement}
 use Rattle.step.proofs.access_row.Tie as tie
 
-access-row-requires : tie.Need-access-row-requires
-access-row-requires c κs = search needs
-
-after-access-requires : tie.Need-after-access-requires
-after-access-requires c κs = search needs
-
-same-length : tie.Need-same-length
-same-length c = search needs
-
-same-length-2 : tie.Need-same-length-2
-same-length-2 c = search needs
-
 returns : tie.Need-returns
 returns c =
     let access-row = c .before .before .before .before .before .access-row in
@@ -39,4 +27,6 @@ returns c =
 pub access-row-spec : {M : Type 1} → statement M
 access-row-spec =
     tie.close
-    (tie.spec access-row-requires after-access-requires same-length same-length-2 returns)
+    (tie.spec
+    (λ c κs. search needs) (λ c κs. search needs) (λ c. search needs) (λ c. search needs)
+    returns)

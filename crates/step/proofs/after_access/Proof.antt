@@ -5,18 +5,6 @@ use borrow.Author.Needs.{needs}
 use Rattle.step.proofs.after_access.Statement.{statement}
 use Rattle.step.proofs.after_access.Tie as tie
 
-enum-told : tie.Need-enum-told
-enum-told c = search needs
-
-moved-requires : tie.Need-moved-requires
-moved-requires c κs = search needs
-
-enum-known-c : tie.Need-enum-known-c
-enum-known-c c = search needs
-
-add-t8 : tie.Need-add-t8
-add-t8 c = search needs
-
 returns : tie.Need-returns
 returns c =
     let args = c .before .before .before .args in
@@ -29,4 +17,8 @@ returns-2 c =
 
 pub after-access-spec : {M : Type 1} → statement M
 after-access-spec =
-    tie.close (tie.spec enum-told moved-requires enum-known-c add-t8 returns returns-2)
+    tie.close
+    (tie.spec
+    (λ c. search needs) (λ c κs. search needs) (λ c. search needs) (λ c. search needs)
+    returns
+    returns-2)

@@ -12,51 +12,6 @@ use borrow.Author.Needs.{needs}
 use Rattle.step.proofs.step.Statement.{statement}
 use Rattle.step.proofs.step.Tie as tie
 
-mul-op : tie.Need-mul-op
-mul-op c = search needs
-
-shared-slice-read-op : tie.Need-shared-slice-read-op
-shared-slice-read-op c = search needs
-
-mul-index : tie.Need-mul-index
-mul-index c = search needs
-
-add-index : tie.Need-add-index
-add-index c = search needs
-
-shared-slice-read-index : tie.Need-shared-slice-read-index
-shared-slice-read-index c = search needs
-
-index-requires : tie.Need-index-requires
-index-requires c κs = search needs
-
-mul-index-2 : tie.Need-mul-index-2
-mul-index-2 c = search needs
-
-add-index-2 : tie.Need-add-index-2
-add-index-2 c = search needs
-
-shared-slice-read-index-2 : tie.Need-shared-slice-read-index-2
-shared-slice-read-index-2 c = search needs
-
-index-requires-2 : tie.Need-index-requires-2
-index-requires-2 c κs = search needs
-
-mul-index-3 : tie.Need-mul-index-3
-mul-index-3 c = search needs
-
-add-index-3 : tie.Need-add-index-3
-add-index-3 c = search needs
-
-shared-slice-read-index-3 : tie.Need-shared-slice-read-index-3
-shared-slice-read-index-3 c = search needs
-
-index-requires-3 : tie.Need-index-requires-3
-index-requires-3 c κs = search needs
-
-constant-requires : tie.Need-constant-requires
-constant-requires c κs = search needs
-
 compute-row-requires : tie.Need-compute-row-requires
 compute-row-requires c κs =
     let second = c .before .before .before .index3 in
@@ -64,12 +19,6 @@ compute-row-requires c κs =
     let target = c .before .before .before .before .before .before .before .index in
     let pre = c .before .before .before .before .before .before .before .before .before .before .before .before .before .pre in
     (pre .few, compute-asks _ _ _ _ _ _ _ (target .ensures .0) (source .ensures .0) (second .ensures .0) (pre .asks .computes (c .before .before .if1 .taken)))
-
-count-requires : tie.Need-count-requires
-count-requires c κs = search needs
-
-moved-requires : tie.Need-moved-requires
-moved-requires c κs = search needs
 
 returns : tie.Need-returns
 returns c =
@@ -121,12 +70,6 @@ access-row-requires c κs =
       },
     )
 
-same-length : tie.Need-same-length
-same-length c = search needs
-
-same-length-2 : tie.Need-same-length-2
-same-length-2 c = search needs
-
 returns-2 : tie.Need-returns-2
 returns-2 c =
     let at-access-row = c .before .before .before .before in
@@ -144,12 +87,6 @@ returns-2 c =
           (ap (λ x. x .d) E ∙ sym (target .ensures .0)) (ap (λ x. x .a) E ∙ sym (source .ensures .0)) R,
     )
 
-element-copy-out-index : tie.Need-element-copy-out-index
-element-copy-out-index c = search needs
-
-index-requires-4 : tie.Need-index-requires-4
-index-requires-4 c κs = search needs
-
 construct-row-requires : tie.Need-construct-row-requires
 construct-row-requires c κs =
     let constructs = c .before .before .before .before .before .if3 .taken in
@@ -158,7 +95,6 @@ construct-row-requires c κs =
     let source = at-index2 .index2 in
     let pre = at-index2 .before .before .before .before .before .before .before .before .pre in (
       pre .room,
-      pre .few,
       c .index4 .ensures .1,
       no-access,
       omega (arith, constructs),
@@ -181,16 +117,10 @@ returns-3 c =
       o .ensures .0,
       λ z h ee R.
           let E = row-here table (args .n) z (args .s) (args .regs .now) cells log (args .saved .now) (args .openers .now) R h in
-          o .ensures .1 cells log (rowsOf table) (shapeBy (args .n) cells) (rowAt (rowsOf table) (z .row)) z (ap (λ x. x .op) E)
+          o .ensures .1 (args .n) cells log (rowsOf table) (shapeBy (args .n) cells) (rowAt (rowsOf table) (z .row)) z (ap (λ x. x .op) E)
           (ap (λ x. x .a) E ∙ sym (source .ensures .0))
           (λ w. c .before .index4 .ensures .0 ∙ ee (ap (λ r. rowAt (rowsOf table) r .op) (R .row-is) ∙ w) ∙ ap (endOf (rowsOf table)) (R .row-is)) R,
     )
-
-barrier-row-requires : tie.Need-barrier-row-requires
-barrier-row-requires c κs = search needs
-
-same-length-3 : tie.Need-same-length-3
-same-length-3 c = search needs
 
 returns-4 : tie.Need-returns-4
 returns-4 c =
@@ -216,33 +146,17 @@ pub step-spec : {M : Type 1} → statement M
 step-spec =
     tie.close
     (tie.spec
-    mul-op
-    shared-slice-read-op
-    mul-index
-    add-index
-    shared-slice-read-index
-    index-requires
-    mul-index-2
-    add-index-2
-    shared-slice-read-index-2
-    index-requires-2
-    mul-index-3
-    add-index-3
-    shared-slice-read-index-3
-    index-requires-3
-    constant-requires
+    (λ c. search needs) (λ c. search needs) (λ c. search needs) (λ c. search needs) (λ c. search needs)
+    (λ c κs. search needs) (λ c. search needs) (λ c. search needs) (λ c. search needs) (λ c κs. search needs)
+    (λ c. search needs) (λ c. search needs) (λ c. search needs) (λ c κs. search needs) (λ c κs. search needs)
     compute-row-requires
-    count-requires
-    moved-requires
+    (λ c κs. search needs) (λ c κs. search needs)
     returns
     access-row-requires
-    same-length
-    same-length-2
+    (λ c. search needs) (λ c. search needs)
     returns-2
-    element-copy-out-index
-    index-requires-4
+    (λ c. search needs) (λ c κs. search needs)
     construct-row-requires
     returns-3
-    barrier-row-requires
-    same-length-3
+    (λ c κs. search needs) (λ c. search needs)
     returns-4)

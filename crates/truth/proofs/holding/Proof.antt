@@ -4,12 +4,6 @@ use Rattle.truth.proofs.Zeros.{held}
 use Rattle.truth.proofs.holding.Statement.{statement}
 use Rattle.truth.proofs.holding.Tie as tie
 
-zero-lanes-requires : tie.Need-zero-lanes-requires
-zero-lanes-requires c κs = search needs
-
-minus-requires : tie.Need-minus-requires
-minus-requires c κs = search needs
-
 returns : tie.Need-returns
 returns c =
     let start = c .before .before in
@@ -18,4 +12,8 @@ returns c =
     (c .minus .ensures)
 
 pub holding-spec : {M : Type 1} → statement M
-holding-spec = tie.close (tie.spec zero-lanes-requires minus-requires returns)
+holding-spec =
+    tie.close
+    (tie.spec
+    (λ c κs. search needs) (λ c κs. search needs)
+    returns)

@@ -7,11 +7,9 @@ use Rattle.words.proofs.mul.Tie as tie
 mul-result : tie.Need-mul-result
 mul-result c = record { fits = product-fits (search needs) (search needs) }
 
-cast-result : tie.Need-cast-result
-cast-result c = search needs
-
-returns : tie.Need-returns
-returns c = search needs
-
 pub mul-spec : {M : Type 1} → statement M
-mul-spec = tie.close (tie.spec mul-result cast-result returns)
+mul-spec =
+    tie.close
+    (tie.spec
+    mul-result
+    (λ c. search needs) (λ c. search needs))

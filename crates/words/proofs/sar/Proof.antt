@@ -9,21 +9,6 @@ use Rattle.words.proofs.Integers.{shifted}
 use Rattle.words.proofs.sar.Statement.{statement}
 use Rattle.words.proofs.sar.Tie as tie
 
-signed-requires : tie.Need-signed-requires
-signed-requires c κs = search needs
-
-cast-unsigned : tie.Need-cast-unsigned
-cast-unsigned c = search needs
-
-shr-unsigned : tie.Need-shr-unsigned
-shr-unsigned c = search needs
-
-unsigned-requires : tie.Need-unsigned-requires
-unsigned-requires c κs = search needs
-
-top-copies-requires : tie.Need-top-copies-requires
-top-copies-requires c κs = search needs
-
 returns : tie.Need-returns
 returns c =
     let signed = c .before .signed in
@@ -39,10 +24,6 @@ pub sar-spec : {M : Type 1} → statement M
 sar-spec =
     tie.close
     (tie.spec
-    signed-requires
-    cast-unsigned
-    shr-unsigned
-    unsigned-requires
-    top-copies-requires
+    (λ c κs. search needs) (λ c. search needs) (λ c. search needs) (λ c κs. search needs) (λ c κs. search needs)
     returns
     returns-2)

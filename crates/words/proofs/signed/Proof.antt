@@ -9,15 +9,6 @@ use Rattle.words.proofs.Integers.{signed-is}
 use Rattle.words.proofs.signed.Statement.{statement}
 use Rattle.words.proofs.signed.Tie as tie
 
-cast-result : tie.Need-cast-result
-cast-result c = search needs
-
-sub-result : tie.Need-sub-result
-sub-result c = search needs
-
-cast-result-2 : tie.Need-cast-result-2
-cast-result-2 c = search needs
-
 returns : tie.Need-returns
 returns c = signed-is (c .before .args .x)
 
@@ -28,4 +19,9 @@ returns-2 c =
     ap (toZ w32) e ∙ signed-is (args .x)
 
 pub signed-spec : {M : Type 1} → statement M
-signed-spec = tie.close (tie.spec cast-result sub-result cast-result-2 returns returns-2)
+signed-spec =
+    tie.close
+    (tie.spec
+    (λ c. search needs) (λ c. search needs) (λ c. search needs)
+    returns
+    returns-2)

@@ -5,12 +5,6 @@ use Rattle.words.proofs.Integers.{compared}
 use Rattle.words.proofs.slt.Statement.{statement}
 use Rattle.words.proofs.slt.Tie as tie
 
-signed-requires : tie.Need-signed-requires
-signed-requires c κs = search needs
-
-signed-requires-2 : tie.Need-signed-requires-2
-signed-requires-2 c κs = search needs
-
 returns : tie.Need-returns
 returns c =
     let right = c .before .signed2 in
@@ -28,4 +22,9 @@ returns-2 c =
     (left .ensures) (right .ensures) (search needs))
 
 pub slt-spec : {M : Type 1} → statement M
-slt-spec = tie.close (tie.spec signed-requires signed-requires-2 returns returns-2)
+slt-spec =
+    tie.close
+    (tie.spec
+    (λ c κs. search needs) (λ c κs. search needs)
+    returns
+    returns-2)

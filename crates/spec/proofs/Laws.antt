@@ -1,0 +1,93 @@
+-- Laws of the definitions that several crates cite: a table's rows and their bytes, the sizes of masks, and a few on numbers. Assumes nothing.
+use mathlib.Core.Path.{_≡_, refl, ap, _∙_}
+use mathlib.Core.Logic.{_⊎_, inl, inr, ⊎-elim}
+use mathlib.Core.List.{List, [], _∷_, map}
+use mathlib.Core.Bool.{Bool, true, false, _&&_, false≢true}
+use Prim.Native.Nat.{ℕ, zero, suc, _+_, _*_, _/_, _<_, _≤_}
+use native.Mathlib.Nat.{eq-or-lt-of-le, le-of-suc-le-suc}
+use native.Mathlib.Omega.{arith}
+use lib.ListN.{length, getD, replicate, length-map}
+use Rattle.spec.specs.Op.{Op, WHILE}
+use Rattle.spec.specs.Table.{rowOf, rowsOf, rowAt, role, opening}
+use Rattle.spec.specs.Mask.{Mask, minus, union, holding}
+use Rattle.spec.specs.LockStep.{Saved, topOpener}
+
+pub lt-or-le : (a b : ℕ) → (a < b) ⊎ (b ≤ a)
+lt-or-le a zero = inr (omega arith)
+lt-or-le zero (suc b) = inl (omega arith)
+lt-or-le (suc a) (suc b) = ⊎-elim (λ h. inl (omega arith)) (λ h. inr (omega arith)) (lt-or-le a b)
+
+pub zeros : (n i : ℕ) → _≡_ {A = ℕ} (getD (replicate n 0) i 0) 0
+zeros zero i = refl
+zeros (suc n) zero = refl
+zeros (suc n) (suc i) = zeros n i
+
+-- A test that computes to true at every number below a bound holds of each of them.
+abbrev pub allBelow : (ℕ → Bool) → ℕ → Bool
+allBelow f zero = true
+allBelow f (suc n) = f n && allBelow f n
+
+both : (a b : Bool) → (a && b) ≡ true → (a ≡ true) × (b ≡ true)
+both true b e = (refl, e)
+both false b e = absurd (false≢true e)
+
+pub below : (f : ℕ → Bool) (n : ℕ) → allBelow f n ≡ true → (k : ℕ) → k < n → f k ≡ true
+below f zero e k l = absurd (omega arith)
+below f (suc n) e k l =
+    let h = both (f n) (allBelow f n) e in
+    ⊎-elim (λ m. ap f m ∙ h .0) (λ m. below f n (h .1) k m) (eq-or-lt-of-le (le-of-suc-le-suc l))
+
+-- A table's rows, by its bytes.
+pub rows-length : (t : List ℕ) → length (rowsOf t) ≡ length t / 4
+unfolding rowsOf
+rows-length [] = refl
+rows-length (op ∷ []) = refl
+rows-length (op ∷ d ∷ []) = refl
+rows-length (op ∷ d ∷ a ∷ []) = refl
+rows-length (op ∷ d ∷ a ∷ b ∷ t) = omega (arith, rows-length t)
+
+pub row-bytes : (t : List ℕ) (r : ℕ) → r < length (rowsOf t)
+    → rowAt (rowsOf t) r ≡ rowOf (getD t (r * 4) 0) (getD t (r * 4 + 1) 0) (getD t (r * 4 + 2) 0) (getD t (r * 4 + 3) 0)
+unfolding rowsOf rowAt
+row-bytes [] r l = absurd (omega arith)
+row-bytes (op ∷ []) r l = absurd (omega arith)
+row-bytes (op ∷ d ∷ []) r l = absurd (omega arith)
+row-bytes (op ∷ d ∷ a ∷ []) r l = absurd (omega arith)
+row-bytes (op ∷ d ∷ a ∷ b ∷ t) zero l = refl
+row-bytes (op ∷ d ∷ a ∷ b ∷ t) (suc r) l =
+    let e : (n : ℕ) → suc r * 4 + n ≡ suc (suc (suc (suc (r * 4 + n)))) = λ n. omega arith in
+    let z : suc r * 4 ≡ suc (suc (suc (suc (r * 4)))) = omega arith in
+    rw (e 1, e 2, e 3, z) (row-bytes t r (omega arith))
+
+pub role-while : (o : Op) → o ≡ WHILE → role o ≡ opening
+unfolding role
+role-while o e = ap role e
+
+-- The sizes of masks.
+pub minus-size : (m k : Mask) → length (minus m k) ≡ length m
+unfolding minus
+minus-size [] k = refl
+minus-size (b ∷ m) [] = refl
+minus-size (b ∷ m) (c ∷ k) = ap suc (minus-size m k)
+
+pub union-size : (m k : Mask) → length m ≡ length k → length (union m k) ≡ length m
+unfolding union
+union-size [] [] e = refl
+union-size [] (c ∷ k) e = absurd (omega arith)
+union-size (b ∷ m) [] e = refl
+union-size (b ∷ m) (c ∷ k) e = ap suc (union-size m k (omega arith))
+
+pub holding-size : (a : ℕ) (m : Mask) (regs : List (List ℕ)) → length (holding a m regs) ≡ length m
+unfolding holding
+holding-size a [] regs = refl
+holding-size a (b ∷ m) [] = ap suc (holding-size a m [])
+holding-size a (b ∷ m) (r ∷ regs) = ap suc (holding-size a m regs)
+
+pub wiped-size : (ms : List Mask) (c : ℕ) → length (getD (map (map (λ b. false)) ms) c []) ≡ length (getD ms c [])
+wiped-size [] c = refl
+wiped-size (m ∷ ms) zero = length-map m (λ b. false)
+wiped-size (m ∷ ms) (suc c) = wiped-size ms c
+
+pub top-cons : (f : Saved) (v : List Saved) → topOpener (f ∷ v) ≡ f .opener
+unfolding topOpener
+top-cons f v = refl
