@@ -10,6 +10,7 @@ use Rattle.spec.specs.Log.{Log, logWords}
 use Rattle.spec.specs.Op.{Calc, CALC, Mem, MEM, opOf, value}
 use Rattle.spec.specs.Table.{Row}
 use Rattle.spec.specs.LockStep.{LockState, Step, continues, stops, inTurn, computeTurn, accessTurn}
+use Rattle.spec.specs.Shape.{Shape}
 use Rattle.layout.specs.declared.Access.{Access}
 use Rattle.layout.specs.declared.Access.the-variants.{Done, Stop}
 use Rattle.layout.specs.declared.Turns.{Turns}
@@ -110,16 +111,20 @@ pub record AccessAsks (op d a : ℕ) (cells log : List ℕ) : Type 0 where
   pub twice : length log ≡ 2 * length cells
   pub cells-few : length cells ≤ 1024
 
+-- The launch's shape, by the code's numbers.
+abbrev pub shapeBy : (n : ℕ) → (cells : List ℕ) → Shape
+shapeBy n cells = record { threads = n; cells = length cells }
+
 -- One thread's access, and a row's accesses, in a launch of n threads.
 abbrev pub AccessOne : (op t d a : ℕ) → (regs cells log : List ℕ) → Access → (regs′ cells′ log′ : List ℕ) → Type 0
 AccessOne op t d a regs cells log r regs′ cells′ log′ =
     (n : ℕ) (m : Mem) (x : Row) → opOf op ≡ MEM m → t < n → x .d ≡ d → x .a ≡ a
-    → OneTurn (accessTurn (record { threads = n; cells = length cells }) m x) n t regs cells log r regs′ cells′ log′
+    → OneTurn (accessTurn (shapeBy n cells) m x) n t regs cells log r regs′ cells′ log′
 
 abbrev pub AccessAll : (op n mask d a : ℕ) → (regs cells log : List ℕ) → Turns → (regs′ cells′ log′ : List ℕ) → Type 0
 AccessAll op n mask d a regs cells log r regs′ cells′ log′ =
     (m : Mem) (x : Row) → opOf op ≡ MEM m → x .d ≡ d → x .a ≡ a
-    → AllTurns (accessTurn (record { threads = n; cells = length cells }) m x) n mask regs cells log (r .access) (r .steps) regs′ cells′ log′
+    → AllTurns (accessTurn (shapeBy n cells) m x) n mask regs cells log (r .access) (r .steps) regs′ cells′ log′
 
 -- A LOAD moves cell i to place `to` of the registers, a STORE place `from` to cell i.
 pub record Transferred (op to from i : ℕ) (regs cells regs′ cells′ : List ℕ) : Type 0 where

@@ -9,12 +9,11 @@ use Rattle.spec.specs.declared.Outcome.{Outcome}
 use Rattle.spec.specs.Op.{WHILE, opOf}
 use Rattle.spec.specs.Table.{Table, Row, rowsOf, rowAt, endOf}
 use Rattle.spec.specs.TableCheck.{tableRefusal}
-use Rattle.spec.specs.Shape.{Shape}
 use Rattle.spec.specs.Log.{logWords}
 use Rattle.spec.specs.LockStep.{LockState, runRow, LockResult, outcomeOf}
 use Rattle.layout.specs.declared.State.{State}
 use Rattle.layout.specs.declared.Next.{Next}
-use Rattle.layout.specs.Memory.{ComputeAsks}
+use Rattle.layout.specs.Memory.{ComputeAsks, shapeBy}
 use Rattle.layout.specs.Represents.{Represents, After, Counts, Room, DepthAsks}
 
 -- What the bytes of a row ask.
@@ -40,10 +39,6 @@ pub record Runnable (table ends : List ℕ) : Type 0 where
   pub few : length (rowsOf table) ≤ 256
   pub accepted : tableRefusal (rowsOf table) ≡ none
   pub ends-are : (r : ℕ) → r < length (rowsOf table) → rowAt (rowsOf table) r .op ≡ WHILE → getD ends r 0 ≡ endOf (rowsOf table) r
-
--- The launch's shape, by the code's numbers.
-abbrev pub shapeBy : (n : ℕ) → (cells : List ℕ) → Shape
-shapeBy n cells = record { threads = n; cells = length cells }
 
 -- What an access row comes to.
 abbrev pub AccessDone : (op n d a : ℕ) (s : State) → (regs cells log : List ℕ) → (r : Next) → (regs′ cells′ log′ : List ℕ) → Type 0

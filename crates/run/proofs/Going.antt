@@ -28,11 +28,11 @@ use Rattle.masks.proofs.Words.{word-all}
 use Rattle.layout.specs.declared.State.{State}
 use Rattle.layout.specs.declared.Next.{Next}
 use Rattle.layout.specs.declared.Next.the-variants as next
-use Rattle.layout.specs.Memory.{Regs}
+use Rattle.layout.specs.Memory.{Regs, shapeBy}
 use Rattle.layout.proofs.LogBuffer.{empty-is}
 use Rattle.layout.proofs.Saving.{saves-back}
 use Rattle.layout.specs.Represents.{Represents, After, Counted, Counts, RoomForWhile}
-use Rattle.layout.specs.Running.{Ready, Runnable, Steps, RunIs, endedAs, shapeBy}
+use Rattle.layout.specs.Running.{Ready, Runnable, Steps, RunIs, endedAs}
 use Rattle.step.proofs.Tables.{row-inside}
 use Rattle.run.proofs.RowBytes.{row-asks}
 

@@ -8,7 +8,9 @@ use borrow.Author.Needs.{needs}
 use Rattle.constructs.proofs.enter_while.Statement.{statement}
 use Rattle.constructs.proofs.enter_while.Tie as tie
 
-apart : (c : tie.Joined1) → 0 < c .before .args .s .depth → getD (c .before .args .openers .now) (c .before .args .s .depth - 1) 0 ≡ c .before .args .s .row → ⊥
+apart : (c : tie.Joined1)
+    → let args = c .before .args in
+    0 < args .s .depth → getD (args .openers .now) (args .s .depth - 1) 0 ≡ args .s .row → ⊥
 apart c h e = ⊎-elim (λ w. w .2 .left e) (λ w. omega (arith, w .left)) (c .if1 .came)
 
 new-room : (c : tie.Joined1) → c .before .args .s .depth < 8

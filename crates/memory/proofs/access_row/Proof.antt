@@ -8,7 +8,7 @@ use lib.ListN.{length}
 use Rattle.spec.specs.Op.{Mem, MEM, opOf}
 use Rattle.spec.specs.Table.{Row}
 use Rattle.spec.specs.LockStep.{accessTurn}
-use Rattle.layout.specs.Memory.{OneTurn}
+use Rattle.layout.specs.Memory.{OneTurn, shapeBy}
 use Rattle.layout.proofs.Turning.{Turns, turn-start, turn-whole, go-in, go-out, go-stop}
 use Rattle.masks.proofs.Bits.{next-bit}
 use Rattle.memory.proofs.access_row.Statement.{statement}
@@ -18,7 +18,7 @@ abbrev Inv-loop : tie.InvT-loop
 Inv-loop regs₀ cells₀ log₀ n mask op d a m₀ t₀ k₀ bit₀ regs cells log m t k bit =
     (t ≤ n) × (k ≤ t) × (length cells ≡ length cells₀) × (length log ≡ length log₀)
     × ((y : Mem) (x : Row) → opOf op ≡ MEM y → x .d ≡ d → x .a ≡ a
-    → Turns (accessTurn (record { threads = n; cells = length cells₀ }) y x) n mask regs₀ cells₀ log₀ k t m regs cells log)
+    → Turns (accessTurn (shapeBy n cells₀) y x) n mask regs₀ cells₀ log₀ k t m regs cells log)
     × (t < 32 → bit ≡ 2 ^ t)
 
 abbrev μ-loop : tie.MeasureT-loop
@@ -33,7 +33,7 @@ loop-holds c =
       refl,
       refl,
       λ y x o ed ea s e l M.
-          turn-start (accessTurn (record { threads = args .n; cells = length memory }) y x) (args .n) s (args .mask) (args .regs .now) memory (args .log .now) e l M,
+          turn-start (accessTurn (shapeBy (args .n) memory) y x) (args .n) s (args .mask) (args .regs .now) memory (args .log .now) e l M,
       λ h. refl,
     )
 
@@ -76,7 +76,7 @@ returns c =
     let memory = args .cells .now in (
       omega (arith, turn .inv .0, turn .inv .1, start .pre .0),
       λ y x o ed ea s e q M.
-          go-stop (accessTurn (record { threads = args .n; cells = length memory }) y x) (args .n) s (turn .k) (turn .t) (turn .m) (turn .regs)
+          go-stop (accessTurn (shapeBy (args .n) memory) y x) (args .n) s (turn .k) (turn .t) (turn .m) (turn .regs)
           (turn .cells) (turn .log) (turn .inv .4 y x o ed ea s e q M) (access-one .result) _ (access-one .last .0) (access-one .last .1 .0)
           (access-one .last .1 .1 .0) some-left enabled
           (subst (λ k. OneTurn (accessTurn (record { threads = args .n; cells = k }) y x) (args .n) (turn .t) (turn .regs) (turn .cells) (turn .log)
@@ -100,7 +100,7 @@ loop-again c =
       ap length (w .12) ∙ w .4 .kept .1 .0 ∙ turn .inv .2,
       ap length (w .13) ∙ w .4 .kept .1 .1 .0 ∙ turn .inv .3,
       λ y x o ed ea s e q M.
-          go-in (accessTurn (record { threads = args .n; cells = length memory }) y x) (args .n) s (turn .k) (turn .t) (turn .m) (turn .regs) (turn .cells)
+          go-in (accessTurn (shapeBy (args .n) memory) y x) (args .n) s (turn .k) (turn .t) (turn .m) (turn .regs) (turn .cells)
           (turn .log) (turn .inv .4 y x o ed ea s e q M) (w .4 .result) (w .4 .last .0) (w .4 .last .1 .0) (w .4 .last .1 .1 .0) _ _ _ _ some-left (w .0 .taken)
           (subst (λ k. OneTurn (accessTurn (record { threads = args .n; cells = k }) y x) (args .n) (turn .t) (turn .regs) (turn .cells) (turn .log)
           (w .4 .result) (w .4 .last .0) (w .4 .last .1 .0) (w .4 .last .1 .1 .0)) (turn .inv .2) (w .4 .ensures (args .n) y x o some-left ed ea))
@@ -113,7 +113,7 @@ loop-again c =
       ap length (w .2) ∙ turn .inv .2,
       ap length (w .3) ∙ turn .inv .3,
       λ y x o ed ea s e q M.
-          go-out (accessTurn (record { threads = args .n; cells = length memory }) y x) (args .n) s (turn .k) (turn .t) (turn .m) (turn .regs) (turn .cells)
+          go-out (accessTurn (shapeBy (args .n) memory) y x) (args .n) s (turn .k) (turn .t) (turn .m) (turn .regs) (turn .cells)
           (turn .log) (turn .inv .4 y x o ed ea s e q M) _ _ _ _ some-left (w .0 .left) (w .1) (w .2) (w .3) (w .4),
       next-bit (turn .t) (turn .bit) (turn .inv .5),
     ))
@@ -132,7 +132,7 @@ returns-2 c =
     let memory = args .cells .now in (
       c .count .ensures .1,
       λ y x o ed ea s e q M.
-          turn-whole (accessTurn (record { threads = args .n; cells = length memory }) y x) (args .n) s (turn .k) (turn .t) (turn .m) (turn .regs)
+          turn-whole (accessTurn (shapeBy (args .n) memory) y x) (args .n) s (turn .k) (turn .t) (turn .m) (turn .regs)
           (turn .cells) (turn .log) (turn .inv .4 y x o ed ea s e q M) (args .mask) (c .count .result) e (c .count .ensures .0) (c .before .loop-test .left),
     )
 

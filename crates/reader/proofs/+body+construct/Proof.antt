@@ -202,14 +202,14 @@ module _ (t : ℕ) where
 
   -- The loop's ENDWHILE, which stands before the row `next`.
   ended : (c : construct-lts.After-known-told2 (construct-calls t) (construct-at t) construct.Post)
-      → let k = c .before .before .before .before .before .before .before .first .given .0 .0 in
+      → let ending = c .before .before .before .before .before .before .before .first .given .0 .0 in
       let args = c .before .before .before .before .before .before .before .before .before .before .before .before .before .args in
-      ClosesIs (args .table .now) (args .row) k 36 (To (c .before .closed .given .0 .0))
+      ClosesIs (args .table .now) (args .row) ending 36 (To (c .before .closed .given .0 .0))
   ended c =
       let closes = c .before .before .before .closes in
-      let k = c .before .before .before .before .before .before .before .first .given .0 .0 in
+      let ending = c .before .before .before .before .before .before .before .first .given .0 .0 in
       let args = c .before .before .before .before .before .before .before .before .before .before .before .before .before .args in
-      subst (ClosesIs (args .table .now) (args .row) k 36) (c .before .closed .given .1) (closes .ensures)
+      subst (ClosesIs (args .table .now) (args .row) ending 36) (c .before .closed .given .1) (closes .ensures)
 
   construct-sub-ends : construct-lts.Need-sub-ends (construct-calls t) (construct-at t) construct.Post
   construct-sub-ends c = omega (arith, (ended c) .0, (first (c .before .before .before .before .before .before)) .span .on)
@@ -265,12 +265,12 @@ module _ (t : ℕ) where
   construct-returns-5 c =
       let otherwise = c .before .before .before in
       let bodied = otherwise .before .before in
-      let k = bodied .before .first .given .0 .0 in
+      let ending = bodied .before .first .given .0 .0 in
       let start = bodied .before .before .before .before .before .before .before in
       let args = start .args in
       let table = args .table .now in
       let pre = start .pre .1 in
-      let n = else-none table k (sym (c .before .before .is-else .ensures) ∙ not-true _ (c .before .if3 .taken)) in
+      let n = else-none table ending (sym (c .before .before .is-else .ensures) ∙ not-true _ (c .before .if3 .taken)) in
       if-closes table (pre .0) (args .depth) (args .row) (pre .1) (pre .4) (is-if otherwise) (shallow bodied) (first bodied) n (c .closes2 .result)
       (c .closes2 .ensures)
 
@@ -282,14 +282,14 @@ module _ (t : ℕ) where
 
   -- The ELSE at which that body ends.
   there : (c : construct-lts.Else3 (construct-calls t) (construct-at t) construct.Post)
-      → let k = c .before .before .before .before .before .first .given .0 .0 in
+      → let ending = c .before .before .before .before .before .first .given .0 .0 in
       let args = c .before .before .before .before .before .before .before .before .before .before .before .args in
       let table = args .table .now in
-      (k * 4 < length table) × (getD table (k * 4) 0 ≡ 33)
+      (ending * 4 < length table) × (getD table (ending * 4) 0 ≡ 33)
   there c =
-      let k = c .before .before .before .before .before .first .given .0 .0 in
+      let ending = c .before .before .before .before .before .first .given .0 .0 in
       let start = c .before .before .before .before .before .before .before .before .before .before .before in
-      else-there (start .args .table .now) k (sym (c .before .is-else .ensures) ∙ not-false _ (c .if3 .left))
+      else-there (start .args .table .now) ending (sym (c .before .is-else .ensures) ∙ not-false _ (c .if3 .left))
 
   construct-body-requires-2 : construct-lts.Need-body-requires-2 (construct-calls t) (construct-at t) construct.Post
   construct-body-requires-2 c κs =
@@ -297,8 +297,8 @@ module _ (t : ℕ) where
       let pre = bodied .before .before .before .before .before .before .before .pre in
       let b = first bodied in
       let e = there (c .before) in (
-        omega (arith, (pre .1), b .span .on, e .0, pre .0),
-        (pre .1 .0, omega (arith, e .0, (pre .1)), omega (arith, shallow bodied), b .span .notes .size ∙ pre .1 .5),
+        omega (arith, pre .1, b .span .on, e .0, pre .0),
+        (pre .1 .0, omega (arith, e .0, pre .1), omega (arith, shallow bodied), b .span .notes .size ∙ pre .1 .5),
       )
 
   construct-returns-6 : construct-lts.Need-returns-6 (construct-calls t) (construct-at t) construct.Post
@@ -317,16 +317,16 @@ module _ (t : ℕ) where
   -- The body behind the ELSE.
   second : (c : construct-lts.After-known-told3 (construct-calls t) (construct-at t) construct.Post)
       → let other = c .before .before .before .body2 in
-      let k = c .before .before .before .before .before .before .before .before .before .before .first .given .0 .0 in
+      let ending = c .before .before .before .before .before .before .before .before .before .before .first .given .0 .0 in
       let inner = c .before .before .before .before .before .before .before .before .before .before .before .before .body in
       let args = c .before .before .before .before .before .before .before .before .before .before .before .before .before .before .before .before .args in
-      Body (args .table .now) (args .depth + 1) (k + 1) (c .before .second .given .0 .0) (inner .last .1 .1 .1 .0) (other .last .1 .1 .1 .0)
+      Body (args .table .now) (args .depth + 1) (ending + 1) (c .before .second .given .0 .0) (inner .last .1 .1 .1 .0) (other .last .1 .1 .1 .0)
   second c =
       let other = c .before .before .before .body2 in
-      let k = c .before .before .before .before .before .before .before .before .before .before .first .given .0 .0 in
+      let ending = c .before .before .before .before .before .before .before .before .before .before .first .given .0 .0 in
       let inner = c .before .before .before .before .before .before .before .before .before .before .before .before .body in
       let args = c .before .before .before .before .before .before .before .before .before .before .before .before .before .before .before .before .args in
-      subst (BodyIs (args .table .now) (args .depth + 1) (k + 1) (inner .last .1 .1 .1 .0) (other .last .1 .1 .1 .0)) (c .before .second .given .1)
+      subst (BodyIs (args .table .now) (args .depth + 1) (ending + 1) (inner .last .1 .1 .1 .0) (other .last .1 .1 .1 .0)) (c .before .second .given .1)
       (other .ensures)
 
   construct-closes-requires-3 : construct-lts.Need-closes-requires-3 (construct-calls t) (construct-at t) construct.Post

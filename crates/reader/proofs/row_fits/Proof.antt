@@ -45,10 +45,10 @@ own-is t r f l m e =
 returns : tie.Need-returns
 unfolding knownForm orElse unless
 returns c =
-    let shared-slice-known = c .before .before .before .before .shared-slice-known in
+    let bytes = c .before .before .before .before .shared-slice-known in
     let args = c .before .before .before .before .before .args in
     sym (own-is (args .table .now) (args .row) (meaning (c .before .before .form-of .result)) (search needs)
-    (shared-slice-known .given (args .row * 4) .fits) (c .before .before .form-of .ensures)
+    (bytes .given (args .row * 4) .fits) (c .before .before .form-of .ensures)
     ∙ rw (c .enum-told .given .1))
 
 returns-2 : tie.Need-returns-2
@@ -56,9 +56,9 @@ unfolding orElse unless
 returns-2 c =
     let arm = c .before .before .before .before .before .match in
     let form-of = c .before .before .before .before .before .before .form-of in
-    let shared-slice-known = c .before .before .before .before .before .before .before .before .shared-slice-known in
+    let bytes = c .before .before .before .before .before .before .before .before .shared-slice-known in
     let args = c .before .before .before .before .before .before .before .before .before .args in
-    sym (own-is (args .table .now) (args .row) (meaning (form-of .result)) (search needs) (shared-slice-known .given (args .row * 4) .fits) (form-of .ensures)
+    sym (own-is (args .table .now) (args .row) (meaning (form-of .result)) (search needs) (bytes .given (args .row * 4) .fits) (form-of .ensures)
     ∙ rw (other (form-of .result) (arm .keys2), ← (c .before .operands-fit .ensures), c .if1 .taken))
 
 returns-3 : tie.Need-returns-3
@@ -66,9 +66,9 @@ unfolding orElse unless
 returns-3 c =
     let arm = c .before .before .before .before .before .match in
     let form-of = c .before .before .before .before .before .before .form-of in
-    let shared-slice-known = c .before .before .before .before .before .before .before .before .shared-slice-known in
+    let bytes = c .before .before .before .before .before .before .before .before .shared-slice-known in
     let args = c .before .before .before .before .before .before .before .before .before .args in
-    sym (own-is (args .table .now) (args .row) (meaning (form-of .result)) (search needs) (shared-slice-known .given (args .row * 4) .fits) (form-of .ensures)
+    sym (own-is (args .table .now) (args .row) (meaning (form-of .result)) (search needs) (bytes .given (args .row * 4) .fits) (form-of .ensures)
     ∙ rw (other (form-of .result) (arm .keys2), ← (c .before .operands-fit .ensures), c .if1 .left))
 
 pub row-fits-spec : {M : Type 1} → statement M

@@ -1,6 +1,6 @@
 use mathlib.Core.Path.{_∙_}
 use Rattle.layout.proofs.PlainRows.{counts-accessed}
-use Rattle.layout.specs.Running.{shapeBy}
+use Rattle.layout.specs.Memory.{shapeBy}
 use Rattle.step.proofs.Tables.{mem-op}
 use Rattle.step.proofs.Plain.{access-after}
 use borrow.Author.Needs.{needs}

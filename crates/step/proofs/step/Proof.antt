@@ -4,7 +4,7 @@ use native.Mathlib.Omega.{arith}
 use lib.ListN.{length, getD}
 use Rattle.spec.specs.Table.{rowsOf, rowAt, endOf}
 use Rattle.layout.proofs.PlainRows.{counted-moved}
-use Rattle.layout.specs.Running.{shapeBy}
+use Rattle.layout.specs.Memory.{shapeBy}
 use Rattle.constructs.proofs.Arms.{barrier-arm}
 use Rattle.step.proofs.Tables.{compute-op, compute-asks, row-here}
 use Rattle.step.proofs.Plain.{compute-after}
@@ -14,20 +14,20 @@ use Rattle.step.proofs.step.Tie as tie
 
 compute-row-requires : tie.Need-compute-row-requires
 compute-row-requires c κs =
-    let second = c .before .before .before .index3 in
-    let source = c .before .before .before .before .before .index2 in
-    let target = c .before .before .before .before .before .before .before .index in
+    let b = c .before .before .before .index3 in
+    let a = c .before .before .before .before .before .index2 in
+    let d = c .before .before .before .before .before .before .before .index in
     let pre = c .before .before .before .before .before .before .before .before .before .before .before .before .before .pre in
-    (pre .few, compute-asks _ _ _ _ _ _ _ (target .ensures .0) (source .ensures .0) (second .ensures .0) (pre .asks .computes (c .before .before .if1 .taken)))
+    (pre .few, compute-asks _ _ _ _ _ _ _ (d .ensures .0) (a .ensures .0) (b .ensures .0) (pre .asks .computes (c .before .before .if1 .taken)))
 
 returns : tie.Need-returns
 returns c =
     let count = c .before .count in
     let constant = c .before .before .before .constant in
     let computes = c .before .before .before .before .before .if1 .taken in
-    let second = c .before .before .before .before .before .before .index3 in
-    let source = c .before .before .before .before .before .before .before .before .index2 in
-    let target = c .before .before .before .before .before .before .before .before .before .before .index in
+    let b = c .before .before .before .before .before .before .index3 in
+    let a = c .before .before .before .before .before .before .before .before .index2 in
+    let d = c .before .before .before .before .before .before .before .before .before .before .index in
     let start = c .before .before .before .before .before .before .before .before .before .before .before .before .before .before .before .before in
     let args = start .args in
     let table = args .table .now in
@@ -44,8 +44,8 @@ returns c =
           compute-after (args .n) z (args .s) regs cells log saved openers R (rowsOf table) (rowAt (rowsOf table) (z .row)) (length cells) (op .0)
           (args .s .mask) (count .result) (c .moved .result) (c .before .before .compute-row .last .0) cells log
           (ap (λ x. x .op) E ∙ op .1) (count .ensures .0)
-          (c .before .before .compute-row .ensures (op .0) (rowAt (rowsOf table) (z .row)) (op .1) (ap (λ x. x .d) E ∙ sym (target .ensures .0))
-          (ap (λ x. x .a) E ∙ sym (source .ensures .0)) (ap (λ x. x .b) E ∙ sym (second .ensures .0)) (constant .ensures) cells log z (R .enabled-is)
+          (c .before .before .compute-row .ensures (op .0) (rowAt (rowsOf table) (z .row)) (op .1) (ap (λ x. x .d) E ∙ sym (d .ensures .0))
+          (ap (λ x. x .a) E ∙ sym (a .ensures .0)) (ap (λ x. x .b) E ∙ sym (b .ensures .0)) (constant .ensures) cells log z (R .enabled-is)
           (R .enabled-size) (R .memory))
           (c .moved .ensures),
     )
@@ -54,8 +54,8 @@ access-row-requires : tie.Need-access-row-requires
 access-row-requires c κs =
     let accesses = c .before .before .before .if2 .taken in
     let no-computing = c .before .before .before .before .if1 .left in
-    let source2 = c .before .before .before .before .before .before .before .index2 in
-    let target2 = c .before .before .before .before .before .before .before .before .before .index in
+    let a = c .before .before .before .before .before .before .before .index2 in
+    let d = c .before .before .before .before .before .before .before .before .before .index in
     let pre = c .before .before .before .before .before .before .before .before .before .before .before .before .before .before .before .pre in
     let q = pre .asks .accesses no-computing accesses in (
       pre .room,
@@ -63,8 +63,8 @@ access-row-requires c κs =
       record {
         known = no-computing;
         small = q .0;
-        target = subst (λ k. k < 16) (sym (target2 .ensures .0)) (q .1);
-        source = subst (λ k. k < 16) (sym (source2 .ensures .0)) (q .2);
+        target = subst (λ k. k < 16) (sym (d .ensures .0)) (q .1);
+        source = subst (λ k. k < 16) (sym (a .ensures .0)) (q .2);
         twice = pre .twice;
         cells-few = pre .cells-few;
       },
@@ -74,9 +74,10 @@ returns-2 : tie.Need-returns-2
 returns-2 c =
     let at-access-row = c .before .before .before .before in
     let access-row = at-access-row .access-row in
-    let source = at-access-row .before .before .before .before .before .before .before .before .index2 in
-    let target = at-access-row .before .before .before .before .before .before .before .before .before .before .index in
-    let args = at-access-row .before .before .before .before .before .before .before .before .before .before .before .before .before .before .before .before .args in
+    let a = at-access-row .before .before .before .before .before .before .before .before .index2 in
+    let at-index = at-access-row .before .before .before .before .before .before .before .before .before .before in
+    let d = at-index .index in
+    let args = at-index .before .before .before .before .before .before .args in
     let table = args .table .now in
     let saved = args .saved .now in
     let openers = args .openers .now in (
@@ -84,7 +85,7 @@ returns-2 c =
       λ z h ee R.
           let E = row-here table (args .n) z (args .s) (args .regs .now) (args .cells .now) (args .log .now) saved openers R h in
           access-row .ensures .1 saved openers (rowsOf table) (rowAt (rowsOf table) (z .row)) z (ap (λ x. x .op) E)
-          (ap (λ x. x .d) E ∙ sym (target .ensures .0)) (ap (λ x. x .a) E ∙ sym (source .ensures .0)) R,
+          (ap (λ x. x .d) E ∙ sym (d .ensures .0)) (ap (λ x. x .a) E ∙ sym (a .ensures .0)) R,
     )
 
 construct-row-requires : tie.Need-construct-row-requires
@@ -92,15 +93,15 @@ construct-row-requires c κs =
     let constructs = c .before .before .before .before .before .if3 .taken in
     let no-access = c .before .before .before .before .before .before .if2 .left in
     let at-index2 = c .before .before .before .before .before .before .before .before .before .before in
-    let source = at-index2 .index2 in
+    let a = at-index2 .index2 in
     let pre = at-index2 .before .before .before .before .before .before .before .before .pre in (
       pre .room,
       c .index4 .ensures .1,
       no-access,
       omega (arith, constructs),
       (
-        (λ e. subst (λ k. k < 16) (sym (source .ensures .0)) (pre .asks .ifs e)),
-        (λ e. subst (λ k. k < 16) (sym (source .ensures .0)) (pre .asks .whiles e)),
+        (λ e. subst (λ k. k < 16) (sym (a .ensures .0)) (pre .asks .ifs e)),
+        (λ e. subst (λ k. k < 16) (sym (a .ensures .0)) (pre .asks .whiles e)),
       ),
       pre .depths,
     )
@@ -108,7 +109,7 @@ construct-row-requires c κs =
 returns-3 : tie.Need-returns-3
 returns-3 c =
     let at-index2 = c .before .before .before .before .before .before .before .before .before .before .before in
-    let source = at-index2 .index2 in
+    let a = at-index2 .index2 in
     let args = at-index2 .before .before .before .before .before .before .before .before .args in
     let table = args .table .now in
     let cells = args .cells .now in
@@ -118,7 +119,7 @@ returns-3 c =
       λ z h ee R.
           let E = row-here table (args .n) z (args .s) (args .regs .now) cells log (args .saved .now) (args .openers .now) R h in
           o .ensures .1 (args .n) cells log (rowsOf table) (shapeBy (args .n) cells) (rowAt (rowsOf table) (z .row)) z (ap (λ x. x .op) E)
-          (ap (λ x. x .a) E ∙ sym (source .ensures .0))
+          (ap (λ x. x .a) E ∙ sym (a .ensures .0))
           (λ w. c .before .index4 .ensures .0 ∙ ee (ap (λ r. rowAt (rowsOf table) r .op) (R .row-is) ∙ w) ∙ ap (endOf (rowsOf table)) (R .row-is)) R,
     )
 

@@ -25,14 +25,15 @@ loop-again c =
     let args = c .before .before .before .before .args in
     let regs = args .regs .now in
     ⊎-elim
-    (λ w. (omega (arith, (test .taken)), lane-zero (args .a) regs (turn .t) (turn .z) (turn .inv .1) (c .if1 .z) (test .taken) (w .0 .taken) (w .1)))
-    (λ w. (omega (arith, (test .taken)), lane-left (args .a) regs (turn .t) (turn .z) (turn .inv .1) (c .if1 .z) (w .0 .left) (w .1)))
+    (λ w. (omega (arith, test .taken), lane-zero (args .a) regs (turn .t) (turn .z) (turn .inv .1) (c .if1 .z) (test .taken) (w .0 .taken) (w .1)))
+    (λ w. (omega (arith, test .taken), lane-left (args .a) regs (turn .t) (turn .z) (turn .inv .1) (c .if1 .z) (w .0 .left) (w .1)))
     (c .if1 .came)
 
 returns : tie.Need-returns Inv-loop μ-loop
 returns c =
     let turn = c .before .loop in
-    subst (λ (k : ℕ). ZerosAre (c .before .before .args .a) (c .before .before .args .regs .now) k (turn .z))
+    let args = c .before .before .args in
+    subst (λ (k : ℕ). ZerosAre (args .a) (args .regs .now) k (turn .z))
     (let e : turn .t ≡ 32 = omega (arith, turn .inv .0, c .loop-test .left) in e) (turn .inv .1)
 
 pub zero-lanes-spec : {M : Type 1} → statement M
