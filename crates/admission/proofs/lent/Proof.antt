@@ -3,14 +3,8 @@ use borrow.Author.Needs.{needs}
 use Rattle.admission.proofs.lent.Statement.{statement}
 use Rattle.admission.proofs.lent.Tie as tie
 
-wide-requires : tie.Need-wide-requires
-wide-requires c κs = search needs
-
 returns : tie.Need-returns
 returns c = bad-held _ _ _ _ (c .before .wide .ensures) (c .if1 .taken)
-
-mul-if2 : tie.Need-mul-if2
-mul-if2 c = search needs
 
 returns-2 : tie.Need-returns-2
 returns-2 c = bad-logged _ _ _ _ (c .before .before .wide .ensures) (c .before .if1 .left) (c .if2 .taken)
@@ -19,4 +13,11 @@ returns-3 : tie.Need-returns-3
 returns-3 c = lent-fine _ _ _ _ (c .before .before .wide .ensures) (c .before .if1 .left) (c .if2 .left)
 
 pub lent-spec : {M : Type 1} → statement M
-lent-spec = tie.close (tie.spec wide-requires returns mul-if2 returns-2 returns-3)
+lent-spec =
+    tie.close
+    (tie.spec
+    (λ c κs. search needs)
+    returns
+    (λ c. search needs)
+    returns-2
+    returns-3)

@@ -15,4 +15,10 @@ returns-4 : tie.Need-returns-4
 returns-4 c = all-lent _ _ _ (c .before .before .if1 .left) (c .before .if2 .left) (c .if3 .left)
 
 pub lent-for-file-spec : {M : Type 1} → statement M
-lent-for-file-spec = tie.close (tie.spec returns returns-2 returns-3 returns-4)
+lent-for-file-spec =
+    tie.close
+    (tie.spec
+    returns
+    returns-2
+    returns-3
+    returns-4)

@@ -9,16 +9,10 @@ returns c = odd-length _ _ _ _ (c .if1 .taken)
 returns-2 : tie.Need-returns-2
 returns-2 c = many-rows _ _ _ _ (c .before .if1 .left) (c .if2 .taken)
 
-within-requires : tie.Need-within-requires
-within-requires c κs = search needs
-
 returns-3 : tie.Need-returns-3
 returns-3 c =
     let test = c .before .before .before .if1 in
     bad-threads _ _ _ _ (test .left) (c .before .before .if2 .left) _ (c .before .within .ensures) (c .if3 .taken)
-
-within-requires-2 : tie.Need-within-requires-2
-within-requires-2 c κs = search needs
 
 returns-4 : tie.Need-returns-4
 returns-4 c =
@@ -50,9 +44,9 @@ numbers-spec =
     (tie.spec
     returns
     returns-2
-    within-requires
+    (λ c κs. search needs)
     returns-3
-    within-requires-2
+    (λ c κs. search needs)
     returns-4
     returns-5
     returns-6)

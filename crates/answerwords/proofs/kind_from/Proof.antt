@@ -17,4 +17,9 @@ unfolding kindFrom
 returns-3 c = rw (ne-eqb _ 1 (c .before .if1 .left), ne-eqb _ 2 (c .if2 .left))
 
 pub kind-from-spec : {M : Type 1} → statement M
-kind-from-spec = tie.close (tie.spec returns returns-2 returns-3)
+kind-from-spec =
+    tie.close
+    (tie.spec
+    returns
+    returns-2
+    returns-3)

@@ -13,9 +13,6 @@ Inv-loop values words₀ i₀ words i = (i ≤ 9) × Coded values i words
 abbrev μ-loop : tie.MeasureT-loop
 μ-loop values words₀ i₀ words i = 9 - i
 
-run-values-requires : tie.Need-run-values-requires Inv-loop μ-loop
-run-values-requires c κs = search needs
-
 loop-holds : tie.Need-loop-holds Inv-loop μ-loop
 loop-holds c = (search needs, record { nine = refl; each = λ k h. absurd (omega arith) })
 
@@ -24,9 +21,6 @@ mul-value-code c = omega arith
 
 array-copy-out-value-code : tie.Need-array-copy-out-value-code Inv-loop μ-loop
 array-copy-out-value-code c = omega arith
-
-value-code-requires : tie.Need-value-code-requires Inv-loop μ-loop
-value-code-requires c κs = search needs
 
 mul-words : tie.Need-mul-words Inv-loop μ-loop
 mul-words c = omega arith
@@ -57,11 +51,11 @@ outcome-words-spec =
     (tie.spec
     Inv-loop
     μ-loop
-    run-values-requires
+    (λ c κs. search needs)
     loop-holds
     mul-value-code
     array-copy-out-value-code
-    value-code-requires
+    (λ c κs. search needs)
     mul-words
     array-write-words
     add-i

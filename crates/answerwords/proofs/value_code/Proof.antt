@@ -5,27 +5,6 @@ use borrow.Author.Needs.{needs}
 use Rattle.answerwords.proofs.value_code.Statement.{statement}
 use Rattle.answerwords.proofs.value_code.Tie as tie
 
-enum-told : tie.Need-enum-told
-enum-told c = search needs
-
-enum-known-value : tie.Need-enum-known-value
-enum-known-value c = search needs
-
-enum-known-value-2 : tie.Need-enum-known-value-2
-enum-known-value-2 c = search needs
-
-verdict-code-requires : tie.Need-verdict-code-requires
-verdict-code-requires c κs = search needs
-
-enum-known-value-3 : tie.Need-enum-known-value-3
-enum-known-value-3 c = search needs
-
-kind-code-requires : tie.Need-kind-code-requires
-kind-code-requires c κs = search needs
-
-enum-told-2 : tie.Need-enum-told-2
-enum-told-2 c = search needs
-
 returns : tie.Need-returns
 unfolding valueCode
 returns c = sym (ap valueCode (c .enum-told .given .1))
@@ -50,13 +29,8 @@ pub value-code-spec : {M : Type 1} → statement M
 value-code-spec =
     tie.close
     (tie.spec
-    enum-told
-    enum-known-value
-    enum-known-value-2
-    verdict-code-requires
-    enum-known-value-3
-    kind-code-requires
-    enum-told-2
+    (λ c. search needs) (λ c. search needs) (λ c. search needs) (λ c κs. search needs) (λ c. search needs)
+    (λ c κs. search needs) (λ c. search needs)
     returns
     returns-2
     returns-3

@@ -9,9 +9,6 @@ returns : tie.Need-returns
 unfolding verdictFrom
 returns c = rw (eq-eqb _ 1 (c .if1 .taken))
 
-kind-from-requires : tie.Need-kind-from-requires
-kind-from-requires c κs = search needs
-
 returns-2 : tie.Need-returns-2
 unfolding verdictFrom
 returns-2 c = rw (ne-eqb _ 1 (c .before .before .if1 .left), eq-eqb _ 2 (c .before .if2 .taken), c .kind-from .ensures)
@@ -34,4 +31,11 @@ returns-5 c =
 
 pub verdict-from-spec : {M : Type 1} → statement M
 verdict-from-spec =
-    tie.close (tie.spec returns kind-from-requires returns-2 returns-3 returns-4 returns-5)
+    tie.close
+    (tie.spec
+    returns
+    (λ c κs. search needs)
+    returns-2
+    returns-3
+    returns-4
+    returns-5)

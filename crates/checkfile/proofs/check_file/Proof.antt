@@ -8,12 +8,6 @@ use Rattle.checkfile.proofs.Whole.{whole-rows, file-refuses, state-refu
 use Rattle.checkfile.proofs.check_file.Statement.{statement}
 use Rattle.checkfile.proofs.check_file.Tie as tie
 
-read-launch-requires : tie.Need-read-launch-requires
-read-launch-requires c κs = search needs
-
-enum-known-answer : tie.Need-enum-known-answer
-enum-known-answer c = search needs
-
 returns : tie.Need-returns
 returns c =
     let read-launch = c .before .before .before .before .read-launch in
@@ -21,9 +15,6 @@ returns c =
     let file = args .file .now in
     file-refuses file (args .cells .now) (args .log .now) (args .output .now) _
     (file-refused file (read-launch .result) (read-launch .ensures) _ (c .before .answer .given .1))
-
-enum-told : tie.Need-enum-told
-enum-told c = search needs
 
 mul-used : tie.Need-mul-used
 mul-used c =
@@ -53,9 +44,6 @@ read-table-requires c κs =
     let start = c .before .before .before .before .before .before .before .before .before .before .before .before in
     whole-rows (start .args .file .now) (read-launch .result) (read-launch .ensures) (accepted .given .1)
 
-enum-known-found : tie.Need-enum-known-found
-enum-known-found c = search needs
-
 returns-2 : tie.Need-returns-2
 returns-2 c =
     let at-read-table = c .before .before .before .before in
@@ -66,15 +54,6 @@ returns-2 c =
     file-refuses file (args .cells .now) (args .log .now) (args .output .now) _
     (table-refused file (read-launch .result) (read-launch .ensures) (accepted .given .1) _
     (sym (at-read-table .read-table .ensures .0) ∙ ap refusalOf (c .before .found .given .1)))
-
-enum-told-2 : tie.Need-enum-told-2
-enum-told-2 c = search needs
-
-lent-for-file-requires : tie.Need-lent-for-file-requires
-lent-for-file-requires c κs = search needs
-
-enum-known-why : tie.Need-enum-known-why
-enum-known-why c = search needs
 
 returns-3 : tie.Need-returns-3
 returns-3 c =
@@ -88,9 +67,6 @@ returns-3 c =
     state-refuses file (args .cells .now) (args .log .now) (args .output .now) (launchRead (read-launch .result)) _
     (launch-accepted file (read-launch .result) (read-launch .ensures) (accepted .given .1)
     (sym (at-read-table .read-table .ensures .0) ∙ ap refusalOf (checked .given .1))) (sym (lent-for-file .ensures) ∙ ap refusalOf (c .before .why .given .1))
-
-enum-told-3 : tie.Need-enum-told-3
-enum-told-3 c = search needs
 
 array-share-prefix-table-2 : tie.Need-array-share-prefix-table-2
 array-share-prefix-table-2 c =
@@ -138,15 +114,6 @@ run-launch-requires c κs =
     asked (args .file .now) (args .cells .now) (args .log .now) (args .output .now) (read-launch .result) (read-launch .ensures) (accepted .given .1)
     _ (sym (read-table .ensures .0) ∙ ap refusalOf (checked .given .1)) (read-table .ensures .1) (sym (lent-for-file .ensures) ∙ ap refusalOf (lent .given .1))
 
-same-length : tie.Need-same-length
-same-length c = search needs
-
-same-length-2 : tie.Need-same-length-2
-same-length-2 c = search needs
-
-same-length-3 : tie.Need-same-length-3
-same-length-3 c = search needs
-
 returns-4 : tie.Need-returns-4
 returns-4 c =
     let at-run-launch = c .before .before .before .before .before .before in
@@ -167,27 +134,22 @@ pub check-file-spec : {M : Type 1} → statement M
 check-file-spec =
     tie.close
     (tie.spec
-    read-launch-requires
-    enum-known-answer
+    (λ c κs. search needs) (λ c. search needs)
     returns
-    enum-told
+    (λ c. search needs)
     mul-used
     array-share-prefix-table
     slice-aggregate-read-table
     read-table-requires
-    enum-known-found
+    (λ c. search needs)
     returns-2
-    enum-told-2
-    lent-for-file-requires
-    enum-known-why
+    (λ c. search needs) (λ c κs. search needs) (λ c. search needs)
     returns-3
-    enum-told-3
+    (λ c. search needs)
     array-share-prefix-table-2
     slice-aggregate-run-launch
     array-share-prefix-words
     slice-aggregate-run-launch-2
     run-launch-requires
-    same-length
-    same-length-2
-    same-length-3
+    (λ c. search needs) (λ c. search needs) (λ c. search needs)
     returns-4)

@@ -8,24 +8,12 @@ use Rattle.checkfile.proofs.Running.{placed-length, reported}
 use Rattle.checkfile.proofs.run_launch.Statement.{statement}
 use Rattle.checkfile.proofs.run_launch.Tie as tie
 
-mul-logged : tie.Need-mul-logged
-mul-logged c = search needs
-
-place-requires : tie.Need-place-requires
-place-requires c κs = search needs
-
-slice-relend-prefix-run : tie.Need-slice-relend-prefix-run
-slice-relend-prefix-run c = search needs
-
 slice-aggregate-run : tie.Need-slice-aggregate-run
 slice-aggregate-run c =
     let place = c .before .before .before .place in
     let start = c .before .before .before .before .before .before .before .before .before .before in
     let pre = start .pre in
     front-length (length (start .args .words .now)) _ (omega (arith, placed-length _ _ _ _ _ _ _ _ pre _ (place .ensures), pre .fewCells, pre .cellsLent))
-
-slice-relend-prefix-run-2 : tie.Need-slice-relend-prefix-run-2
-slice-relend-prefix-run-2 c = search needs
 
 slice-aggregate-run-2 : tie.Need-slice-aggregate-run-2
 slice-aggregate-run-2 c =
@@ -45,9 +33,6 @@ run-requires c κs =
     let log-front = front-length (2 * length words) (args .log .now) (omega (arith, pre .fewCells, pre .logLent)) in
     (pre .checked, pre .someThread, pre .fewThreads, pre .fewRuns, omega (arith, cells-front, log-front), omega (arith, cells-front, pre .fewCells))
 
-slice-reshare-prefix-write-report : tie.Need-slice-reshare-prefix-write-report
-slice-reshare-prefix-write-report c = search needs
-
 slice-aggregate-write-report : tie.Need-slice-aggregate-write-report
 slice-aggregate-write-report c =
     let at-cells2 = c .before .before .before .before in
@@ -56,18 +41,6 @@ slice-aggregate-write-report c =
     let pre = start .pre in
     front-length (length (start .args .words .now)) _
     (omega (arith, at-cells2 .cells2 .given .1, placed-length _ _ _ _ _ _ _ _ pre _ (place .ensures), pre .fewCells, pre .cellsLent))
-
-write-report-requires : tie.Need-write-report-requires
-write-report-requires c κs = search needs
-
-same-length : tie.Need-same-length
-same-length c = search needs
-
-same-length-2 : tie.Need-same-length-2
-same-length-2 c = search needs
-
-same-length-3 : tie.Need-same-length-3
-same-length-3 c = search needs
 
 returns : tie.Need-returns
 returns c =
@@ -92,17 +65,12 @@ pub run-launch-spec : {M : Type 1} → statement M
 run-launch-spec =
     tie.close
     (tie.spec
-    mul-logged
-    place-requires
-    slice-relend-prefix-run
+    (λ c. search needs) (λ c κs. search needs) (λ c. search needs)
     slice-aggregate-run
-    slice-relend-prefix-run-2
+    (λ c. search needs)
     slice-aggregate-run-2
     run-requires
-    slice-reshare-prefix-write-report
+    (λ c. search needs)
     slice-aggregate-write-report
-    write-report-requires
-    same-length
-    same-length-2
-    same-length-3
+    (λ c κs. search needs) (λ c. search needs) (λ c. search needs) (λ c. search needs)
     returns)

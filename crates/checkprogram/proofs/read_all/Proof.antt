@@ -17,23 +17,8 @@ abbrev μ-loop : tie.MeasureT-loop
 loop-holds : tie.Need-loop-holds Inv-loop μ-loop
 loop-holds c = (search needs, refl)
 
-read-more-requires : tie.Need-read-more-requires Inv-loop μ-loop
-read-more-requires c κs = search needs
-
-enum-known-to : tie.Need-enum-known-to Inv-loop μ-loop
-enum-known-to c = search needs
-
-enum-told : tie.Need-enum-told Inv-loop μ-loop
-enum-told c = search needs
-
-same-length : tie.Need-same-length Inv-loop μ-loop
-same-length c = search needs
-
 returns : tie.Need-returns Inv-loop μ-loop
 returns c = tt
-
-same-length-2 : tie.Need-same-length-2 Inv-loop μ-loop
-same-length-2 c = search needs
 
 returns-2 : tie.Need-returns-2 Inv-loop μ-loop
 returns-2 c =
@@ -54,9 +39,6 @@ loop-again c =
     let b = bounds _ _ _ _ (read-more .ensures) (c .before .before .to .given .1) in
     (omega (arith, b .1, buffer .given), omega (arith, turn .inv .1, buffer .given))
 
-same-length-3 : tie.Need-same-length-3 Inv-loop μ-loop
-same-length-3 c = search needs
-
 returns-3 : tie.Need-returns-3 Inv-loop μ-loop
 returns-3 c = (search needs, omega (arith, c .before .loop .inv .0, c .before .loop .inv .1))
 
@@ -67,14 +49,11 @@ read-all-spec =
     Inv-loop
     μ-loop
     loop-holds
-    read-more-requires
-    enum-known-to
-    enum-told
-    same-length
+    (λ c κs. search needs) (λ c. search needs) (λ c. search needs) (λ c. search needs)
     returns
-    same-length-2
+    (λ c. search needs)
     returns-2
     loop-less
     loop-again
-    same-length-3
+    (λ c. search needs)
     returns-3)

@@ -16,26 +16,8 @@ arg-count-requires c κs = tt
 loop-holds : tie.Need-loop-holds Inv-loop μ-loop
 loop-holds c = tt
 
-mul-compare : tie.Need-mul-compare Inv-loop μ-loop
-mul-compare c = search needs
-
-add-compare : tie.Need-add-compare Inv-loop μ-loop
-add-compare c = search needs
-
-mul-compare-2 : tie.Need-mul-compare-2 Inv-loop μ-loop
-mul-compare-2 c = search needs
-
-add-compare-2 : tie.Need-add-compare-2 Inv-loop μ-loop
-add-compare-2 c = search needs
-
 compare-requires : tie.Need-compare-requires Inv-loop μ-loop
 compare-requires c κs = tt
-
-add-k : tie.Need-add-k Inv-loop μ-loop
-add-k c = search needs
-
-loop-less : tie.Need-loop-less Inv-loop μ-loop
-loop-less c = search needs
 
 loop-again : tie.Need-loop-again Inv-loop μ-loop
 loop-again c = tt
@@ -51,12 +33,8 @@ main-spec =
     μ-loop
     arg-count-requires
     loop-holds
-    mul-compare
-    add-compare
-    mul-compare-2
-    add-compare-2
+    (λ c. search needs) (λ c. search needs) (λ c. search needs) (λ c. search needs)
     compare-requires
-    add-k
-    loop-less
+    (λ c. search needs) (λ c. search needs)
     loop-again
     returns)

@@ -5,24 +5,6 @@ use borrow.Author.Needs.{needs}
 use Rattle.filereport.proofs.report_file.Statement.{statement}
 use Rattle.filereport.proofs.report_file.Tie as tie
 
-slice-aggregate-check-file : tie.Need-slice-aggregate-check-file
-slice-aggregate-check-file c = search needs
-
-slice-aggregate-check-file-2 : tie.Need-slice-aggregate-check-file-2
-slice-aggregate-check-file-2 c = search needs
-
-check-file-requires : tie.Need-check-file-requires
-check-file-requires c κs = search needs
-
-enum-known-size : tie.Need-enum-known-size
-enum-known-size c = search needs
-
-enum-known-why : tie.Need-enum-known-why
-enum-known-why c = search needs
-
-report-refusal-requires : tie.Need-report-refusal-requires
-report-refusal-requires c κs = search needs
-
 returns : tie.Need-returns
 returns c =
     let check-file = c .before .before .before .before .before .check-file in
@@ -42,11 +24,7 @@ pub report-file-spec : {M : Type 1} → statement M
 report-file-spec =
     tie.close
     (tie.spec
-    slice-aggregate-check-file
-    slice-aggregate-check-file-2
-    check-file-requires
-    enum-known-size
-    enum-known-why
-    report-refusal-requires
+    (λ c. search needs) (λ c. search needs) (λ c κs. search needs) (λ c. search needs) (λ c. search needs)
+    (λ c κs. search needs)
     returns
     returns-2)

@@ -9,30 +9,6 @@ use borrow.Author.Needs.{needs}
 use Rattle.filereport.proofs.report_refusal.Statement.{statement}
 use Rattle.filereport.proofs.report_refusal.Tie as tie
 
-words-requires : tie.Need-words-requires
-words-requires c κs = search needs
-
-array-read-t11 : tie.Need-array-read-t11
-array-read-t11 c = search needs
-
-array-read-t14 : tie.Need-array-read-t14
-array-read-t14 c = search needs
-
-slice-aggregate-write-report : tie.Need-slice-aggregate-write-report
-slice-aggregate-write-report c = search needs
-
-write-report-requires : tie.Need-write-report-requires
-write-report-requires c κs = search needs
-
-enum-known-size : tie.Need-enum-known-size
-enum-known-size c = search needs
-
-enum-known-short : tie.Need-enum-known-short
-enum-known-short c = search needs
-
-same-length : tie.Need-same-length
-same-length c = search needs
-
 returns : tie.Need-returns
 unfolding refusalWords
 returns c =
@@ -43,9 +19,6 @@ returns c =
     refusal-written (args .why) _ _ (ap (λ (w : List ℕ). getD w 0 0) (words .ensures)) (ap (λ (w : List ℕ). getD w 1 0) (words .ensures)) _
     (args .output .now) _ _ (start .pre) _
     (write-report .ensures) (c .before .size .given .1)
-
-same-length-2 : tie.Need-same-length-2
-same-length-2 c = search needs
 
 returns-2 : tie.Need-returns-2
 unfolding refusalWords
@@ -62,14 +35,8 @@ pub report-refusal-spec : {M : Type 1} → statement M
 report-refusal-spec =
     tie.close
     (tie.spec
-    words-requires
-    array-read-t11
-    array-read-t14
-    slice-aggregate-write-report
-    write-report-requires
-    enum-known-size
-    enum-known-short
-    same-length
+    (λ c κs. search needs) (λ c. search needs) (λ c. search needs) (λ c. search needs) (λ c κs. search needs)
+    (λ c. search needs) (λ c. search needs) (λ c. search needs)
     returns
-    same-length-2
+    (λ c. search needs)
     returns-2)

@@ -10,12 +10,6 @@ use borrow.Author.Needs.{needs}
 use Rattle.launch.proofs.bare_launch.Statement.{statement}
 use Rattle.launch.proofs.bare_launch.Tie as tie
 
-numbers-requires : tie.Need-numbers-requires
-numbers-requires c κs = search needs
-
-enum-known-why : tie.Need-enum-known-why
-enum-known-why c = search needs
-
 returns : tie.Need-returns
 returns c =
     let numbers = c .before .before .before .numbers in
@@ -23,16 +17,10 @@ returns c =
     numbers-refuse (args .table .now) (args .threads) (args .count) (args .limit) (args .cells .now) (args .log .now) _
     (sym (numbers .ensures) ∙ ap refusalOf (c .before .why .given .1))
 
-enum-told : tie.Need-enum-told
-enum-told c = search needs
-
 read-table-requires : tie.Need-read-table-requires
 read-table-requires c κs =
     let args = c .before .before .before .before .before .before .args in
     readable (args .table .now) (args .threads) (args .count) (args .limit) (sym (c .before .before .numbers .ensures) ∙ ap refusalOf (c .enum-told .given .1))
-
-enum-known-answer : tie.Need-enum-known-answer
-enum-known-answer c = search needs
 
 returns-2 : tie.Need-returns-2
 returns-2 c =
@@ -42,15 +30,6 @@ returns-2 c =
     let args = c .before .before .before .before .before .before .before .before .before .before .before .args in
     table-refuses (args .table .now) (args .threads) (args .count) (args .limit) (args .cells .now) (args .log .now) _
     (sym (numbers .ensures) ∙ ap refusalOf (accepted .given .1)) (sym (read-table .ensures .0) ∙ ap refusalOf (c .before .answer .given .1))
-
-enum-told-2 : tie.Need-enum-told-2
-enum-told-2 c = search needs
-
-lent-requires : tie.Need-lent-requires
-lent-requires c κs = search needs
-
-enum-known-why-2 : tie.Need-enum-known-why-2
-enum-known-why-2 c = search needs
 
 returns-3 : tie.Need-returns-3
 returns-3 c =
@@ -63,9 +42,6 @@ returns-3 c =
     state-refuses (args .table .now) (args .threads) (args .count) (args .limit) (args .cells .now) (args .log .now) _
     (sym (numbers .ensures) ∙ ap refusalOf (accepted .given .1)) (sym (read-table .ensures .0) ∙ ap refusalOf (checked .given .1))
     (sym (lent .ensures) ∙ ap refusalOf (c .before .why2 .given .1))
-
-enum-told-3 : tie.Need-enum-told-3
-enum-told-3 c = search needs
 
 run-requires : tie.Need-run-requires
 run-requires c κs =
@@ -89,12 +65,6 @@ run-requires c κs =
       omega (arith, l .0, f .fewCells),
     )
 
-same-length : tie.Need-same-length
-same-length c = search needs
-
-same-length-2 : tie.Need-same-length-2
-same-length-2 c = search needs
-
 returns-4 : tie.Need-returns-4
 returns-4 c =
     let run = c .before .before .before .before .run in
@@ -113,19 +83,15 @@ pub bare-launch-spec : {M : Type 1} → statement M
 bare-launch-spec =
     tie.close
     (tie.spec
-    numbers-requires
-    enum-known-why
+    (λ c κs. search needs) (λ c. search needs)
     returns
-    enum-told
+    (λ c. search needs)
     read-table-requires
-    enum-known-answer
+    (λ c. search needs)
     returns-2
-    enum-told-2
-    lent-requires
-    enum-known-why-2
+    (λ c. search needs) (λ c κs. search needs) (λ c. search needs)
     returns-3
-    enum-told-3
+    (λ c. search needs)
     run-requires
-    same-length
-    same-length-2
+    (λ c. search needs) (λ c. search needs)
     returns-4)

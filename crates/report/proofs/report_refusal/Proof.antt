@@ -11,15 +11,6 @@ use borrow.Author.Needs.{needs}
 use Rattle.report.proofs.report_refusal.Statement.{statement}
 use Rattle.report.proofs.report_refusal.Tie as tie
 
-refusal-values-requires : tie.Need-refusal-values-requires
-refusal-values-requires c κs = search needs
-
-lines-length-requires : tie.Need-lines-length-requires
-lines-length-requires c κs = search needs
-
-cast-t9 : tie.Need-cast-t9
-cast-t9 c = search needs
-
 returns : tie.Need-returns
 returns c =
     let args = c .before .before .before .before .args in
@@ -28,12 +19,6 @@ returns c =
     let needed = size .0 ∙ ap length (refusal-part (args .number) (args .place) _ (c .before .before .refusal-values .ensures)) in
     turned-back what [] (args .out .now) _ (too-long what [] _ _ (no-cells-asked _ _ []) needed (c .if1 .taken))
     (fits what [] _ needed (omega (arith, size .1)))
-
-lines-at-requires : tie.Need-lines-at-requires
-lines-at-requires c κs = search needs
-
-same-length : tie.Need-same-length
-same-length c = search needs
 
 returns-2 : tie.Need-returns-2
 returns-2 c =
@@ -55,10 +40,7 @@ pub report-refusal-spec : {M : Type 1} → statement M
 report-refusal-spec =
     tie.close
     (tie.spec
-    refusal-values-requires
-    lines-length-requires
-    cast-t9
+    (λ c κs. search needs) (λ c κs. search needs) (λ c. search needs)
     returns
-    lines-at-requires
-    same-length
+    (λ c κs. search needs) (λ c. search needs)
     returns-2)

@@ -19,12 +19,6 @@ returns-2 c =
     let cells = args .cells .now in
     cells-refused (ran (args .outcome)) cells (args .out .now) _ (many-cells (args .outcome) cells (omega (arith, c .if2 .taken)))
 
-run-length-requires : tie.Need-run-length-requires
-run-length-requires c κs = search needs
-
-cast-t10 : tie.Need-cast-t10
-cast-t10 c = search needs
-
 returns-3 : tie.Need-returns-3
 unfolding reportOf
 returns-3 c =
@@ -37,12 +31,6 @@ returns-3 c =
     turned-back (ran (args .outcome)) cells out _
     (too-long (ran (args .outcome)) cells out (run-length .result) right (run-length .ensures .0) (omega (arith, c .if3 .taken)))
     (fits (ran (args .outcome)) cells _ (run-length .ensures .0) (run-length .ensures .1))
-
-write-run-requires : tie.Need-write-run-requires
-write-run-requires c κs = search needs
-
-same-length : tie.Need-same-length
-same-length c = search needs
 
 returns-4 : tie.Need-returns-4
 unfolding reportOf
@@ -66,9 +54,7 @@ report-run-spec =
     (tie.spec
     returns
     returns-2
-    run-length-requires
-    cast-t10
+    (λ c κs. search needs) (λ c. search needs)
     returns-3
-    write-run-requires
-    same-length
+    (λ c κs. search needs) (λ c. search needs)
     returns-4)

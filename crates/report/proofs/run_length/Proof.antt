@@ -8,27 +8,6 @@ use borrow.Author.Needs.{needs}
 use Rattle.report.proofs.run_length.Statement.{statement}
 use Rattle.report.proofs.run_length.Tie as tie
 
-run-values-requires : tie.Need-run-values-requires
-run-values-requires c κs = search needs
-
-lines-length-requires : tie.Need-lines-length-requires
-lines-length-requires c κs = search needs
-
-slice-aggregate-each-length : tie.Need-slice-aggregate-each-length
-slice-aggregate-each-length c = search needs
-
-each-length-requires : tie.Need-each-length-requires
-each-length-requires c κs = search needs
-
-add-result : tie.Need-add-result
-add-result c = search needs
-
-lines-length-requires-2 : tie.Need-lines-length-requires-2
-lines-length-requires-2 c κs = search needs
-
-add-result-2 : tie.Need-add-result-2
-add-result-2 c = search needs
-
 returns : tie.Need-returns
 unfolding text
 returns c =
@@ -46,11 +25,6 @@ pub run-length-spec : {M : Type 1} → statement M
 run-length-spec =
     tie.close
     (tie.spec
-    run-values-requires
-    lines-length-requires
-    slice-aggregate-each-length
-    each-length-requires
-    add-result
-    lines-length-requires-2
-    add-result-2
+    (λ c κs. search needs) (λ c κs. search needs) (λ c. search needs) (λ c κs. search needs) (λ c. search needs)
+    (λ c κs. search needs) (λ c. search needs)
     returns)

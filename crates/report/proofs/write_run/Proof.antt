@@ -60,14 +60,8 @@ both c =
     let start = c .before .before .before .before .before .before .before .before .before .before .before .before in
     length-append (head (run-values .result)) (cellsPart (start .args .cells .now))
 
-run-values-requires : tie.Need-run-values-requires
-run-values-requires c κs = search needs
-
 lines-at-requires : tie.Need-lines-at-requires
 lines-at-requires c κs = (search needs, omega (arith, room (c .before)))
-
-slice-aggregate-each-at : tie.Need-slice-aggregate-each-at
-slice-aggregate-each-at c = search needs
 
 each-at-requires : tie.Need-each-at-requires
 unfolding text
@@ -80,9 +74,6 @@ lines-at-requires-2 c κs =
     let at-celled = c .before in
     let at-room = c .before .before .before .before .before .before .before .before .before .before in
     (search needs, omega (arith, room at-room, same-size (celled at-celled), celled at-celled .ended, both at-celled))
-
-same-length : tie.Need-same-length
-same-length c = search needs
 
 returns : tie.Need-returns
 unfolding text
@@ -100,10 +91,10 @@ pub write-run-spec : {M : Type 1} → statement M
 write-run-spec =
     tie.close
     (tie.spec
-    run-values-requires
+    (λ c κs. search needs)
     lines-at-requires
-    slice-aggregate-each-at
+    (λ c. search needs)
     each-at-requires
     lines-at-requires-2
-    same-length
+    (λ c. search needs)
     returns)

@@ -31,4 +31,12 @@ returns c = omega (arith, length-one (c .before .loop .rest) (c .loop-test .left
 
 pub digits-spec : {M : Type 1} → statement M
 digits-spec =
-    tie.close (tie.spec Inv-loop μ-loop loop-holds add-count loop-less loop-again returns)
+    tie.close
+    (tie.spec
+    Inv-loop
+    μ-loop
+    loop-holds
+    add-count
+    loop-less
+    loop-again
+    returns)

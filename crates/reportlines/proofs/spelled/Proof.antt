@@ -8,27 +8,6 @@ use borrow.Author.Needs.{needs}
 use Rattle.reportlines.proofs.spelled.Statement.{statement}
 use Rattle.reportlines.proofs.spelled.Tie as tie
 
-enum-told : tie.Need-enum-told
-enum-told c = search needs
-
-enum-known-value : tie.Need-enum-known-value
-enum-known-value c = search needs
-
-enum-known-value-2 : tie.Need-enum-known-value-2
-enum-known-value-2 c = search needs
-
-verdict-word-requires : tie.Need-verdict-word-requires
-verdict-word-requires c κs = search needs
-
-enum-known-value-3 : tie.Need-enum-known-value-3
-enum-known-value-3 c = search needs
-
-kind-word-requires : tie.Need-kind-word-requires
-kind-word-requires c κs = search needs
-
-enum-told-2 : tie.Need-enum-told-2
-enum-told-2 c = search needs
-
 returns : tie.Need-returns
 unfolding valueText words text
 returns c = rw (c .enum-told .given .1) (record { listed = omega arith; word = refl })
@@ -53,13 +32,8 @@ pub spelled-spec : {M : Type 1} → statement M
 spelled-spec =
     tie.close
     (tie.spec
-    enum-told
-    enum-known-value
-    enum-known-value-2
-    verdict-word-requires
-    enum-known-value-3
-    kind-word-requires
-    enum-told-2
+    (λ c. search needs) (λ c. search needs) (λ c. search needs) (λ c κs. search needs) (λ c. search needs)
+    (λ c κs. search needs) (λ c. search needs)
     returns
     returns-2
     returns-3

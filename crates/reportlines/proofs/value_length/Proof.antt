@@ -15,12 +15,6 @@ use Rattle.reportlines.proofs.value_length.Tie as tie
 word : (c : tie.After-known-told) → IsWord (c .before .i .given .0 .0) (valueText (c .before .before .before .before .args .value))
 word c = as-word (c .before .i .given .1) (c .before .before .before .spelled .ensures)
 
-spelled-requires : tie.Need-spelled-requires
-spelled-requires c κs = search needs
-
-enum-known-i : tie.Need-enum-known-i
-enum-known-i c = search needs
-
 add-result : tie.Need-add-result
 add-result c = omega (arith, few-words (word c))
 
@@ -40,12 +34,6 @@ sub-result : tie.Need-sub-result
 unfolding starts
 sub-result c = word-at (word c) .ordered
 
-enum-known-n : tie.Need-enum-known-n
-enum-known-n c = search needs
-
-digits-requires : tie.Need-digits-requires
-digits-requires c κs = search needs
-
 returns : tie.Need-returns
 unfolding starts
 returns c = (part-size (word-at (word c)), omega (arith, part-size (word-at (word c)), word-short (word c)))
@@ -60,15 +48,13 @@ pub value-length-spec : {M : Type 1} → statement M
 value-length-spec =
     tie.close
     (tie.spec
-    spelled-requires
-    enum-known-i
+    (λ c κs. search needs) (λ c. search needs)
     add-result
     mul-result
     array-read-result
     mul-result-2
     array-read-result-2
     sub-result
-    enum-known-n
-    digits-requires
+    (λ c. search needs) (λ c κs. search needs)
     returns
     returns-2)

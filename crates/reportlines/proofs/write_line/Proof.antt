@@ -72,9 +72,6 @@ sub-write-value c = within (signed c)
 part-write-value-start : tie.Need-part-write-value-start
 part-write-value-start c = within (signed c)
 
-part-write-value-end : tie.Need-part-write-value-end
-part-write-value-end c = search needs
-
 write-value-requires : tie.Need-write-value-requires
 write-value-requires c κs =
     let put = c .before .before .before .put in
@@ -112,7 +109,7 @@ write-line-spec =
     add-start
     sub-write-value
     part-write-value-start
-    part-write-value-end
+    (λ c. search needs)
     write-value-requires
     add-end
     slice-write-out-2

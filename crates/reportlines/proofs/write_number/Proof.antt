@@ -20,9 +20,6 @@ Inv-loop n out₀ count i₀ rest₀ out i rest =
 abbrev μ-loop : tie.MeasureT-loop
 μ-loop n out₀ count i₀ rest₀ out i rest = rest
 
-digits-requires : tie.Need-digits-requires Inv-loop μ-loop
-digits-requires c κs = search needs
-
 loop-holds : tie.Need-loop-holds Inv-loop μ-loop
 unfolding over
 loop-holds c = rw (c .digits .ensures .0) (refl, c .before .before .pre, refl, refl)
@@ -77,7 +74,7 @@ write-number-spec =
     (tie.spec
     Inv-loop
     μ-loop
-    digits-requires
+    (λ c κs. search needs)
     loop-holds
     sub-i
     cast-out

@@ -15,12 +15,6 @@ use Rattle.reportlines.proofs.write_value.Tie as tie
 word : (c : tie.After-known-told) → IsWord (c .before .i .given .0 .0) (valueText (c .before .before .before .before .before .args .value))
 word c = as-word (c .before .i .given .1) (c .before .before .before .spelled .ensures)
 
-spelled-requires : tie.Need-spelled-requires
-spelled-requires c κs = search needs
-
-enum-known-i : tie.Need-enum-known-i
-enum-known-i c = search needs
-
 mul-from : tie.Need-mul-from
 mul-from c = omega (arith, few-words (word c))
 
@@ -55,26 +49,17 @@ put-requires c κs =
     let start = c .before .before .before .before .before .before .before .before in
     room-for (word-at (word at-word) .part) (start .pre)
 
-enum-known-n : tie.Need-enum-known-n
-enum-known-n c = search needs
-
 write-number-requires : tie.Need-write-number-requires
 write-number-requires c κs =
     let spelled = c .before .before .before .before .spelled in
     let start = c .before .before .before .before .before .before in
     room-for (as-digits (c .before .before .n .given .1) (spelled .ensures)) (start .pre)
 
-same-length : tie.Need-same-length
-same-length c = search needs
-
 returns : tie.Need-returns
 unfolding wordBytes starts
 returns c =
     let at-word = c .before .before .before .before .before .before in
     wrote _ (word-at (word at-word) .part) (c .before .before .put .ensures)
-
-same-length-2 : tie.Need-same-length-2
-same-length-2 c = search needs
 
 returns-2 : tie.Need-returns-2
 returns-2 c =
@@ -86,8 +71,7 @@ pub write-value-spec : {M : Type 1} → statement M
 write-value-spec =
     tie.close
     (tie.spec
-    spelled-requires
-    enum-known-i
+    (λ c κs. search needs) (λ c. search needs)
     mul-from
     array-read-from
     add-to
@@ -97,9 +81,9 @@ write-value-spec =
     part-put-start
     part-put-end
     put-requires
-    enum-known-n
+    (λ c. search needs)
     write-number-requires
-    same-length
+    (λ c. search needs)
     returns
-    same-length-2
+    (λ c. search needs)
     returns-2)

@@ -27,12 +27,6 @@ room c = omega (arith, c .pre, ap (λ (ls : List Line). length (bytesOf ls)) (ea
 loop-holds : tie.Need-loop-holds Inv-loop μ-loop
 loop-holds c = (search needs, none-written (numberLine _ _) _ 0 _ (omega (arith, c .before .before .before .pre)))
 
-mul-t7 : tie.Need-mul-t7 Inv-loop μ-loop
-mul-t7 c = search needs
-
-shared-slice-read-t10 : tie.Need-shared-slice-read-t10 Inv-loop μ-loop
-shared-slice-read-t10 c = search needs
-
 line-at-requires : tie.Need-line-at-requires Inv-loop μ-loop
 unfolding valueText
 line-at-requires c κs =
@@ -86,8 +80,7 @@ each-at-spec =
     Inv-loop
     μ-loop
     loop-holds
-    mul-t7
-    shared-slice-read-t10
+    (λ c. search needs) (λ c. search needs)
     line-at-requires
     add-i
     loop-less

@@ -22,12 +22,6 @@ loop-holds : tie.Need-loop-holds Inv-loop μ-loop
 unfolding linesFrom bytesOf
 loop-holds c = (search needs, refl, search needs)
 
-mul-t8 : tie.Need-mul-t8 Inv-loop μ-loop
-mul-t8 c = search needs
-
-shared-slice-read-t10 : tie.Need-shared-slice-read-t10 Inv-loop μ-loop
-shared-slice-read-t10 c = search needs
-
 line-length-requires : tie.Need-line-length-requires Inv-loop μ-loop
 line-length-requires c κs = c .before .before .before .before .before .pre .0
 
@@ -72,8 +66,7 @@ each-length-spec =
     Inv-loop
     μ-loop
     loop-holds
-    mul-t8
-    shared-slice-read-t10
+    (λ c. search needs) (λ c. search needs)
     line-length-requires
     add-total
     add-i

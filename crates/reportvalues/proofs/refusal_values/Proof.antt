@@ -5,15 +5,6 @@ use borrow.Author.Needs.{needs}
 use Rattle.reportvalues.proofs.refusal_values.Statement.{statement}
 use Rattle.reportvalues.proofs.refusal_values.Tie as tie
 
-array-set-from-values : tie.Need-array-set-from-values
-array-set-from-values c = search needs
-
-array-set-from-values-2 : tie.Need-array-set-from-values-2
-array-set-from-values-2 c = search needs
-
-array-set-from-values-3 : tie.Need-array-set-from-values-3
-array-set-from-values-3 c = search needs
-
 returns : tie.Need-returns
 unfolding listed
 returns c = refl
@@ -21,4 +12,6 @@ returns c = refl
 pub refusal-values-spec : {M : Type 1} → statement M
 refusal-values-spec =
     tie.close
-    (tie.spec array-set-from-values array-set-from-values-2 array-set-from-values-3 returns)
+    (tie.spec
+    (λ c. search needs) (λ c. search needs) (λ c. search needs)
+    returns)

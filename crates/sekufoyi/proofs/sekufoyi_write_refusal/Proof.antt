@@ -5,18 +5,6 @@ use borrow.Author.Needs.{needs}
 use Rattle.sekufoyi.proofs.sekufoyi_write_refusal.Statement.{statement}
 use Rattle.sekufoyi.proofs.sekufoyi_write_refusal.Tie as tie
 
-slice-aggregate-write-report : tie.Need-slice-aggregate-write-report
-slice-aggregate-write-report c = search needs
-
-write-report-requires : tie.Need-write-report-requires
-write-report-requires c κs = search needs
-
-tell-written-requires : tie.Need-tell-written-requires
-tell-written-requires c κs = search needs
-
-same-length : tie.Need-same-length
-same-length c = search needs
-
 returns : tie.Need-returns
 returns c =
     let write-report = c .before .before .before .before .write-report in (
@@ -28,8 +16,5 @@ pub sekufoyi-write-refusal-spec : {M : Type 1} → statement M
 sekufoyi-write-refusal-spec =
     tie.close
     (tie.spec
-    slice-aggregate-write-report
-    write-report-requires
-    tell-written-requires
-    same-length
+    (λ c. search needs) (λ c κs. search needs) (λ c κs. search needs) (λ c. search needs)
     returns)
