@@ -2,7 +2,7 @@
 use mathlib.Core.Path.{_≡_, refl, sym, ap, _∙_}
 use mathlib.Core.List.{List, [], _∷_}
 use mathlib.Core.Option.{Option, none, some, Option·none-ne-some}
-use mathlib.Core.Bool.{Bool, true, false, _&&_}
+use mathlib.Core.Bool.{and-false}
 use Prim.Native.Nat.{ℕ, _≤_, _<_}
 use native.Mathlib.Omega.{arith}
 use borrow.Author.Tests.{le-leb, lt-leb}
@@ -18,10 +18,6 @@ use Rattle.spec.specs.Report.{reportOf}
 use Rattle.spec.specs.Entries.{over, cellsReported, writerRefusal, writtenOf, writerAnswer, writerBuffer, keptIf}
 use Rattle.report.specs.Subjects.{ran, refused, FitsOutput}
 
-no-and : (b : Bool) → (b && false) ≡ false
-no-and true = refl
-no-and false = refl
-
 -- 23.
 pub no-cells : (o : Outcome) (cells : List ℕ) → length cells < 1 → cellsReported (ran o) cells ≡ some ReportCells
 unfolding cellsReported unless
@@ -29,7 +25,7 @@ no-cells o cells h = rw (lt-leb 1 (length cells) h)
 
 pub many-cells : (o : Outcome) (cells : List ℕ) → 1024 < length cells → cellsReported (ran o) cells ≡ some ReportCells
 unfolding cellsReported unless
-many-cells o cells h = rw (lt-leb (length cells) 1024 h, no-and (leb 1 (length cells)))
+many-cells o cells h = rw (lt-leb (length cells) 1024 h, and-false (leb 1 (length cells)))
 
 pub cells-right : (o : Outcome) (cells : List ℕ) → 1 ≤ length cells → length cells ≤ 1024 → cellsReported (ran o) cells ≡ none
 unfolding cellsReported unless

@@ -10,28 +10,28 @@ use Rattle.spec.specs.Text.{text}
 use Rattle.spec.specs.Report.{Line, bytesOf, eachLine, headLines, endLine, runLines, runReport, refusalReport, reportOf}
 use Rattle.spec.specs.Entries.{over}
 use Rattle.report.specs.Subjects.{refused}
-use Rattle.reporttable.specs.Numbered.{tableLines}
+use Rattle.reporttable.specs.Numbered.{headCount, endNumber, tableLines}
 use Rattle.reporttable.proofs.Numbered.{bytes-append}
 use Rattle.reportvalues.specs.Values.{runValues, refusalValues}
 use Rattle.reportvalues.proofs.Lines.{head-listed, end-listed, refusal-listed}
 use Rattle.reportlines.proofs.Writing.{Stands, started}
 
 abbrev pub head : List Value → List ℕ
-head values = bytesOf (tableLines values 0 9)
+head values = bytesOf (tableLines values 0 headCount)
 
 abbrev pub cellsPart : List ℕ → List ℕ
 cellsPart cells = bytesOf (eachLine (text "cell") cells)
 
 abbrev pub last : List Value → List ℕ
-last values = bytesOf (tableLines values 11 1)
+last values = bytesOf (tableLines values endNumber 1)
 
 module _ (o : Outcome) (cells : List ℕ) (values : List Value) (e : values ≡ runValues o) where
   pub run-parts : (head values ++ cellsPart cells) ++ last values ≡ runReport o cells
   unfolding runReport runLines
   run-parts =
       ap₂ (λ (h l : List Line). (bytesOf h ++ cellsPart cells) ++ bytesOf l)
-      (ap (λ (v : List Value). tableLines v 0 9) e ∙ head-listed o)
-      (ap (λ (v : List Value). tableLines v 11 1) e ∙ end-listed o)
+      (ap (λ (v : List Value). tableLines v 0 headCount) e ∙ head-listed o)
+      (ap (λ (v : List Value). tableLines v endNumber 1) e ∙ end-listed o)
       ∙ append-assoc (bytesOf (headLines o)) (cellsPart cells) (bytesOf (endLine ∷ []))
       ∙ ap (λ (l : List ℕ). bytesOf (headLines o) ++ l) (sym (bytes-append (eachLine (text "cell") cells) (endLine ∷ [])))
       ∙ sym (bytes-append (headLines o) (eachLine (text "cell") cells ++ (endLine ∷ [])))
@@ -47,6 +47,6 @@ nothing xs = started (omega arith) refl refl
 
 -- A refusal's report is the last lines of the table.
 pub refusal-part : (number place : ℕ) (values : List Value) → values ≡ refusalValues number place
-    → bytesOf (tableLines values 9 3) ≡ reportOf (refused number place) []
+    → bytesOf (tableLines values headCount 3) ≡ reportOf (refused number place) []
 unfolding reportOf refusalReport
-refusal-part number place values e = ap (λ (v : List Value). bytesOf (tableLines v 9 3)) e ∙ ap bytesOf (refusal-listed number place)
+refusal-part number place values e = ap (λ (v : List Value). bytesOf (tableLines v headCount 3)) e ∙ ap bytesOf (refusal-listed number place)

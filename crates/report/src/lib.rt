@@ -17,9 +17,9 @@ fn run_length(outcome: Outcome, cells: &[u32]) -> usize
     ensures { λ r. ⌜ (r ≡ length (runReport outcome (now (cells .entry)))) × (r ≤ 17408) ⌝ }
 {
     let values = reportvalues::run_values(outcome);
-    reporttable::lines_length(values, 0, 9)
+    reporttable::lines_length(values, 0, reporttable::HEAD)
         + reporttable::each_length(b"cell", cells)
-        + reporttable::lines_length(values, 11, 1)
+        + reporttable::lines_length(values, reporttable::END, 1)
 }
 
 // The head, the cells, and the last line of the table.
@@ -29,9 +29,9 @@ fn write_run(outcome: Outcome, cells: &[u32], out: &mut [u8]) -> usize
     ensures written { λ _. ⌜ now (out .exit) ≡ over (runReport outcome (now (cells .entry))) (now (out .entry)) ⌝ }
 {
     let values = reportvalues::run_values(outcome);
-    let next = reporttable::lines_at(values, 0, 9, out, 0);
+    let next = reporttable::lines_at(values, 0, reporttable::HEAD, out, 0);
     let last = reporttable::each_at(b"cell", cells, out, next);
-    reporttable::lines_at(values, 11, 1, out, last)
+    reporttable::lines_at(values, reporttable::END, 1, out, last)
 }
 
 fn report_run(outcome: Outcome, cells: &[u32], out: &mut [u8]) -> Written
@@ -60,11 +60,11 @@ fn report_refusal(number: u32, place: u32, out: &mut [u8]) -> Written
     ensures fits { λ _. ⌜ FitsOutput (refused number place) [] ⌝ }
 {
     let values = reportvalues::refusal_values(number, place);
-    let size = reporttable::lines_length(values, 9, 3);
+    let size = reporttable::lines_length(values, reporttable::REFUSED, 3);
     if out.len() < size {
         return Written::Refused(Refusal::ReportTooLong(size as u32));
     }
-    let end = reporttable::lines_at(values, 9, 3, out, 0);
+    let end = reporttable::lines_at(values, reporttable::REFUSED, 3, out, 0);
     Written::Wrote(end)
 }
 

@@ -20,8 +20,15 @@ someOutcome = record { verdict = Passed; row = 0; rows = 0; steps = 0; barriers 
 unfoldable pub keys : List (List ℕ)
 keys = map (λ (l : Line). l .key) (headLines someOutcome ++ refusalLines 0 0)
 
+-- How many they are, how many of them are the head's, and the number of the last line.
 abbrev pub keyCount : ℕ
 keyCount = 12
+
+abbrev pub headCount : ℕ
+headCount = 9
+
+abbrev pub endNumber : ℕ
+endNumber = 11
 
 -- Line i of the table, where the lines have these values.
 unfoldable pub tableLine : List Value → ℕ → Line

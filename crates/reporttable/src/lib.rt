@@ -7,13 +7,24 @@ ghost use Rattle.spec.specs.Report.{bytesOf, eachLine};
 ghost use Rattle.reportlines.specs.Places.{overFrom};
 ghost use Rattle.reporttable.specs.Numbered.{keyCount, tableLines};
 
-// The lines before a run's cells, then those of a refusal, of which a run's report has the last one too. A line more is a key more, with its end.
+// How many lines the table has. The first HEAD are a run's, before its cells; then come a refusal's, of which the last one ends a run's report too.
+pub const COUNT: usize = 12;
+
+pub const HEAD: usize = 9;
+
+pub const REFUSED: usize = 9;
+
+pub const PLACE: usize = 10;
+
+pub const END: usize = 11;
+
+// The keys, one behind the other: key i starts at STARTS[i] and ends where the next one starts.
 const KEYS: [u8; 59] = *b"verdictrowthreadotherkindatrowsstepsbarriersrefusedplaceend";
 
 const STARTS: [usize; 13] = [0, 7, 10, 16, 21, 25, 27, 31, 36, 44, 51, 56, 59];
 
 // The length of n lines of the table.
-pub fn lines_length(values: [Value; 12], from: usize, n: usize) -> usize
+pub fn lines_length(values: [Value; COUNT], from: usize, n: usize) -> usize
     requires { ⌜ from + n ≤ keyCount ⌝ }
     ensures { λ r. ⌜ (r ≡ length (bytesOf (tableLines values from n))) × (r ≤ 32 * n) ⌝ }
 {
@@ -29,7 +40,7 @@ pub fn lines_length(values: [Value; 12], from: usize, n: usize) -> usize
 }
 
 // Writes n lines of the table from place `at` on, and answers the place behind them.
-pub fn lines_at(values: [Value; 12], from: usize, n: usize, out: &mut [u8], at: usize) -> usize
+pub fn lines_at(values: [Value; COUNT], from: usize, n: usize, out: &mut [u8], at: usize) -> usize
     requires { ⌜ (from + n ≤ keyCount) × (at + length (bytesOf (tableLines values from n)) ≤ length (now out)) ⌝ }
     ensures next { λ r. ⌜ r ≡ at + length (bytesOf (tableLines values from n)) ⌝ }
     ensures written { λ _. ⌜ now (out .exit) ≡ overFrom at (bytesOf (tableLines values from n)) (now (out .entry)) ⌝ }

@@ -4,7 +4,7 @@ use mathlib.Core.List.{List, [], _∷_}
 use Prim.Native.Nat.{ℕ}
 use Rattle.spec.specs.declared.Outcome.{Outcome}
 use Rattle.spec.specs.Report.{Line, _is_, headWith, headLines, endLine, refusalLines}
-use Rattle.reporttable.specs.Numbered.{linesFrom, keys, tableLine, tableLines}
+use Rattle.reporttable.specs.Numbered.{linesFrom, keys, headCount, endNumber, tableLine, tableLines}
 use Rattle.reportvalues.specs.Values.{valuesOf, runValues, refusalValues}
 
 -- Whoever unfolds this unfolds the lists of lines and the table.
@@ -12,14 +12,14 @@ unfoldable pub listed : Unit {0}
 unfolding linesFrom keys tableLine valuesOf runValues refusalValues headLines headWith refusalLines endLine _is_
 listed = tt
 
-pub head-listed : (o : Outcome) → tableLines (runValues o) 0 9 ≡ headLines o
+pub head-listed : (o : Outcome) → tableLines (runValues o) 0 headCount ≡ headLines o
 unfolding listed
 head-listed o = refl
 
-pub end-listed : (o : Outcome) → tableLines (runValues o) 11 1 ≡ endLine ∷ []
+pub end-listed : (o : Outcome) → tableLines (runValues o) endNumber 1 ≡ endLine ∷ []
 unfolding listed
 end-listed o = refl
 
-pub refusal-listed : (number place : ℕ) → tableLines (refusalValues number place) 9 3 ≡ refusalLines number place
+pub refusal-listed : (number place : ℕ) → tableLines (refusalValues number place) headCount 3 ≡ refusalLines number place
 unfolding listed
 refusal-listed number place = refl

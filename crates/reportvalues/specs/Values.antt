@@ -6,6 +6,7 @@ use Rattle.spec.specs.declared.Outcome.{Outcome}
 use Rattle.spec.specs.declared.Value.{Value}
 use Rattle.spec.specs.declared.Value.the-variants as value
 use Rattle.spec.specs.Report.{Line, headLines, refusalLines}
+use Rattle.reporttable.specs.Numbered.{headCount}
 
 unfoldable pub valuesOf : List Line → List Value
 valuesOf ls = map (λ (l : Line). l .value) ls
@@ -14,4 +15,4 @@ unfoldable pub runValues : Outcome → List Value
 runValues o = valuesOf (headLines o) ++ (value.Hyphen ∷ value.Hyphen ∷ value.Report ∷ [])
 
 unfoldable pub refusalValues : (number place : ℕ) → List Value
-refusalValues number place = replicate 9 value.Hyphen ++ valuesOf (refusalLines number place)
+refusalValues number place = replicate headCount value.Hyphen ++ valuesOf (refusalLines number place)

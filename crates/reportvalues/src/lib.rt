@@ -49,7 +49,7 @@ fn details(verdict: Verdict, row: u32) -> Details
     }
 }
 
-pub fn run_values(outcome: Outcome) -> [Value; 12]
+pub fn run_values(outcome: Outcome) -> [Value; reporttable::COUNT]
     ensures { λ r. ⌜ r ≡ runValues outcome ⌝ }
 {
     let none = Value::Hyphen;
@@ -80,12 +80,12 @@ pub fn run_values(outcome: Outcome) -> [Value; 12]
     ]
 }
 
-pub fn refusal_values(number: u32, place: u32) -> [Value; 12]
+pub fn refusal_values(number: u32, place: u32) -> [Value; reporttable::COUNT]
     ensures { λ r. ⌜ r ≡ refusalValues number place ⌝ }
 {
-    let mut values = [Value::Hyphen; 12];
-    values[9] = Value::Number(number);
-    values[10] = Value::Number(place);
-    values[11] = Value::Report;
+    let mut values = [Value::Hyphen; reporttable::COUNT];
+    values[reporttable::REFUSED] = Value::Number(number);
+    values[reporttable::PLACE] = Value::Number(place);
+    values[reporttable::END] = Value::Report;
     values
 }
