@@ -33,7 +33,8 @@ fn run_launch(
     output: &mut [u8],
 ) -> Written
     requires { ⌜ Asks (now table) (now ends) threads limit (now words) (now cells) (now log) (now output) ⌝ }
-    ensures { λ r. ⌜ Reported (now (table .entry)) threads limit (now (words .entry)) (now (cells .entry)) (now (log .entry)) (now (output .entry)) r (now (cells .exit)) (now (log .exit)) (now (output .exit)) ⌝ }
+    ensures { λ r. ⌜ Reported (now (table .entry)) threads limit (now (words .entry)) (now (cells .entry)) (now (log .entry)) (now (output .entry)) r
+        (now (cells .exit)) (now (log .exit)) (now (output .exit)) ⌝ }
 {
     let count = words.len();
     let logged = 2 * count;

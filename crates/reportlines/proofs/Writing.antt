@@ -5,7 +5,7 @@ use Prim.Native.Nat.{ℕ, suc, _+_, _-_, _/_, _%_, _≤_, _<_}
 use native.Mathlib.Numerals.{add-one}
 use native.Mathlib.Omega.{arith}
 use lib.ListN.{length, getD, set, take, drop, length-append, length-drop, length-set, drop-of-length-le, take-append-drop}
-use lib.Seq.{take-all, take-at, drop-at, drop-drop, drop-cons, take-suc, set-at, length-take-le, getD-set-same, drop-set-lt}
+use lib.Seq.{take-all, take-length, take-at, drop-at, drop-drop, drop-cons, take-suc, set-at, length-take-le, getD-set-same, drop-set-lt}
 use borrow.Rule.Slice.PartMut.{midOf, putMid}
 use Rattle.spec.specs.Text.{decimal}
 use Rattle.spec.specs.Entries.{over}
@@ -122,12 +122,31 @@ next {xs} {l} {v} {at} {r} w l′ s h er el =
     started (omega (arith, length-append v w, s .ended)) (er ∙ ap (λ (n : ℕ). n + length w) (s .ended) ∙ sym (length-append v w))
     (el ∙ ap (λ (x : List ℕ). (x ++ w) ++ drop (length (x ++ w)) l) front ∙ ap (λ (x : List ℕ). (v ++ w) ++ x) rest)
 
--- A text copied byte by byte.
-pub copied : (src xs : List ℕ) (i : ℕ) → i < length src → length src ≤ length xs → set (over (take i src) xs) i (getD src i 0) ≡ over (take (i + 1) src) xs
-copied src xs i h l =
-    let long : length (take i src) ≡ i = length-take-le i src (omega arith) in
-    set-behind xs (over (take i src) xs) (take i src) i (getD src i 0) (sym long) refl (omega arith)
-    ∙ ap (λ (p : List ℕ). over p xs) (sym (take-suc src i 0 h) ∙ ap (λ (n : ℕ). take n src) (sym (add-one i)))
+-- The first i elements of src have been copied to the front of a buffer that held xs and now holds l.
+pub record Copying (src xs l : List ℕ) (i : ℕ) : Type 0 where
+  pub under : i ≤ length src
+  pub long : length l ≡ length xs
+  pub front : l ≡ over (take i src) xs
+
+pub copy-none : (src xs : List ℕ) → Copying src xs xs 0
+unfolding over
+copy-none src xs = record { under = omega arith; long = refl; front = refl }
+
+pub copy-more : {src xs l : List ℕ} {i : ℕ} → Copying src xs l i → i < length src → length src ≤ length xs → Copying src xs (set l i (getD src i 0)) (i + 1)
+copy-more {src} {xs} {l} {i} s h room =
+    let size : length (take i src) ≡ i = length-take-le i src (s .under) in
+    record {
+      under = omega arith;
+      long = length-set l i (getD src i 0) ∙ s .long;
+      front =
+          set-behind xs l (take i src) i (getD src i 0) (sym size) (s .front) (omega arith)
+          ∙ ap (λ (p : List ℕ). over p xs) (sym (take-suc src i 0 h) ∙ ap (λ (n : ℕ). take n src) (sym (add-one i)));
+    }
+
+pub copy-all : {src xs l : List ℕ} {i : ℕ} → Copying src xs l i → length src ≤ i → (i ≡ length src) × (l ≡ over src xs)
+copy-all {src} {xs} {l} {i} s h =
+    let all : i ≡ length src = omega (arith, s .under) in
+    (all, s .front ∙ ap (λ (p : List ℕ). over p xs) (ap (λ (n : ℕ). take n src) all ∙ take-length src))
 
 -- A number's last digit is written, and the others stand before it.
 pub digit-written : (xs : List ℕ) (rest i : ℕ) → 10 ≤ rest → i ≡ length (decimal rest) → i ≤ length xs

@@ -1,51 +1,32 @@
--- `reportlines::put` meets its contract. The invariant: the bytes passed stand over the buffer. Assumes nothing.
-use mathlib.Core.Path.{_≡_, refl, ap, _∙_}
-use mathlib.Core.List.{List}
-use Prim.Native.Nat.{ℕ, _-_, _≤_}
+-- `reportlines::put` meets its contract. Each turn copies a byte. Assumes nothing.
+use Prim.Native.Nat.{_-_}
 use native.Mathlib.Omega.{arith}
 use borrow.Author.Needs.{needs}
-use lib.ListN.{length, take, getD, set, length-set}
-use lib.Seq.{take-length}
-use Rattle.spec.specs.Entries.{over}
-use Rattle.reportlines.proofs.Writing.{copied}
+use lib.ListN.{length}
+use Rattle.reportlines.proofs.Writing.{Copying, copy-none, copy-more, copy-all}
 use Rattle.reportlines.proofs.put.Statement.{statement}
 use Rattle.reportlines.proofs.put.Tie as tie
 
 abbrev Inv-loop : tie.InvT-loop
-Inv-loop src out₀ i₀ out i = (i ≤ length src) × (length out ≡ length out₀) × (out ≡ over (take i src) out₀)
+Inv-loop src out₀ i₀ out i = Copying src out₀ out i
 
 abbrev μ-loop : tie.MeasureT-loop
 μ-loop src out₀ i₀ out i = length src - i
 
 loop-holds : tie.Need-loop-holds Inv-loop μ-loop
-unfolding over
-loop-holds c = (search needs, refl, refl)
+loop-holds c = copy-none _ _
 
 slice-write-out : tie.Need-slice-write-out Inv-loop μ-loop
 slice-write-out c = omega (arith, c .before .before .before .pre)
 
 loop-again : tie.Need-loop-again Inv-loop μ-loop
-loop-again c =
-    let turn = c .before .before .loop in
-    let start = c .before .before .before in
-    let args = start .args in
-    let src = args .src .now in (
-      search needs,
-      simp length-set (turn .inv .1),
-      ap (λ (d : List ℕ). set d (turn .i) (getD src (turn .i) 0)) (turn .inv .2)
-          ∙ copied src (args .out .now) (turn .i) (c .before .loop-test .taken) (start .pre),
-    )
+loop-again c = copy-more (c .before .before .loop .inv) (c .before .loop-test .taken) (c .before .before .before .pre)
 
 same-length : tie.Need-same-length Inv-loop μ-loop
-same-length c = c .before .loop .inv .1
+same-length c = c .before .loop .inv .long
 
 returns : tie.Need-returns Inv-loop μ-loop
-returns c =
-    let turn = c .before .loop in
-    let args = c .before .before .args in
-    let src = args .src .now in
-    let e : turn .i ≡ length src = omega arith in
-    (e, turn .inv .2 ∙ ap (λ (s : List ℕ). over s (args .out .now)) (ap (λ (n : ℕ). take n src) e ∙ take-length src))
+returns c = copy-all (c .before .loop .inv) (c .loop-test .left)
 
 pub put-spec : {M : Type 1} → statement M
 put-spec =
