@@ -21,8 +21,7 @@ use Rattle.reader.specs.declared.Reach.{Reach}
 use Rattle.reader.specs.declared.Reach.the-variants.{To, Refused}
 use Rattle.reader.specs.Answer.{ifLoop}
 use Rattle.reader.specs.Parts.{IsTable, ownRefusal, Opens, Ends, Passes, Fails, Notes, Span, Stops, Body, Construct, BodyIs, ConstructIs, ClosesIs}
-use Rattle.spec.proofs.Laws.{rows-length, row-bytes}
-use Rattle.reader.proofs.OpBytes.{byte-if, byte-else, byte-endif, byte-while, byte-endwhile}
+use Rattle.spec.proofs.Laws.{rows-length, row-bytes, byte-if, byte-else, byte-endif, byte-while, byte-endwhile}
 use Rattle.reader.proofs.Passing.{fail-row, pass-plain, too-deep, pass-none, pass-on, fail-on, Reaches, reach-pass, reach-fail, reach-left}
 use Rattle.reader.proofs.Passing.{reach-open, reach-else, reach-end, reach-misfit, loop-end}
 use Rattle.reader.proofs.Noting.{NoLoop, plain-no-loop, notes-none, notes-row, notes-on, notes-loop}

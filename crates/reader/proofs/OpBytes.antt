@@ -5,31 +5,11 @@ use Prim.Native.Nat.{ℕ, _<_}
 use native.Mathlib.Omega.{arith}
 use borrow.Author.Tests.{leb-true}
 use lib.Dec.{leb}
-use Rattle.spec.specs.Op.{Form, setForm, dForm, dabForm, daForm, aForm, noForm, unknownForm, opTable, opOf, IF, ELSE, ENDIF, WHILE, ENDWHILE, form, formOf}
+use Rattle.spec.specs.Op.{Form, setForm, dForm, dabForm, daForm, aForm, noForm, unknownForm, opTable, opOf, form, formOf}
 use Rattle.spec.specs.Table.{Role, plain, opening, dividing, closing, role}
 use Rattle.spec.specs.TableCheck.{isKnown}
 use Rattle.spec.proofs.Laws.{allBelow, below}
 use Rattle.structure.proofs.Ops.{Plain, plain-of-role}
-
-pub byte-if : opOf 32 ≡ IF
-unfolding opOf opTable
-byte-if = refl
-
-pub byte-else : opOf 33 ≡ ELSE
-unfolding opOf opTable
-byte-else = refl
-
-pub byte-endif : opOf 34 ≡ ENDIF
-unfolding opOf opTable
-byte-endif = refl
-
-pub byte-while : opOf 35 ≡ WHILE
-unfolding opOf opTable
-byte-while = refl
-
-pub byte-endwhile : opOf 36 ≡ ENDWHILE
-unfolding opOf opTable
-byte-endwhile = refl
 
 isPlain : Role → Bool
 isPlain plain = true

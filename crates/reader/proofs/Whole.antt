@@ -9,16 +9,15 @@ use native.Mathlib.Omega.{arith}
 use lib.ListN.{length, getD, replicate, List·getD-eq-default}
 use Rattle.spec.specs.declared.Refusal.{Refusal}
 use Rattle.spec.specs.declared.Refusal.the-variants.{Misplaced}
-use Rattle.spec.specs.Op.{WHILE, opOf}
+use Rattle.spec.specs.Op.{opOf}
 use Rattle.spec.specs.Table.{Table, noRow, rowsOf, rowAt, endOf}
 use Rattle.spec.specs.TableCheck.{Open, elseFits, endifFits, endwhileFits, fits, tableRefusal}
-use Rattle.spec.proofs.Laws.{lt-or-le, zeros}
+use Rattle.spec.proofs.Laws.{lt-or-le, zeros, byte-else, byte-endif, byte-endwhile}
 use Rattle.reader.specs.declared.Read.{Read}
 use Rattle.admission.specs.declared.Admission.the-variants.{Refused}
 use Rattle.admission.specs.Refusing.{refusalOf}
 use Rattle.reader.specs.Answer.{ifLoop, ifAccepted, endAt}
 use Rattle.reader.specs.Parts.{IsTable, Ends, Fails, Body}
-use Rattle.reader.proofs.OpBytes.{byte-else, byte-endif, byte-endwhile}
 use Rattle.reader.proofs.Passing.{fail-on, misplaced, pass-all}
 use Rattle.reader.proofs.Constructs.{in-table, at-end, op-is}
 
@@ -66,8 +65,3 @@ module _ (t : List ℕ) (w : IsTable t) (k : ℕ) (y : List ℕ) (b : Body t 0 0
       by (inl h) = b .span .notes .inside i (omega arith) h ∙ ap (ifLoop (rowAt (rowsOf t) i .op) (endOf (rowsOf t) i)) (zeros 256 i)
       by (inr h) =
           b .span .notes .below i h ∙ zeros 256 i ∙ sym (past (rowsOf t) i (endOf (rowsOf t) i) (omega (arith, at-end t w k (omega (arith, b .span .within)))))
-
--- For who goes by the noted ends: at a WHILE of an accepted table stands the row of its ENDWHILE.
-pub end-at-loop : (T : Table) (i : ℕ) → tableRefusal T ≡ none → rowAt T i .op ≡ WHILE → endAt T i ≡ endOf T i
-unfolding endAt ifAccepted ifLoop
-end-at-loop T i e w = rw (e, w)

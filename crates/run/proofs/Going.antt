@@ -11,13 +11,13 @@ use lib.ListN.{length, getD, replicate, length-replicate, getD-replicate}
 use Rattle.spec.specs.declared.Verdict.{Verdict}
 use Rattle.spec.specs.declared.Verdict.the-variants.{Passed, Spent}
 use Rattle.spec.specs.declared.Outcome.{Outcome}
-use Rattle.spec.specs.Op.{Op, IF, ELSE, ENDIF, WHILE, ENDWHILE, UNKNOWN, opOf, opTable}
+use Rattle.spec.specs.Op.{Op, IF, ELSE, ENDIF, WHILE, ENDWHILE, UNKNOWN, opOf}
 use Rattle.spec.specs.Table.{Table, rowsOf, opening, role, rowAt, openBefore, openedBy, innermost, Fits, rowOf}
 use Rattle.spec.specs.Shape.{Shape, shapeOf}
 use Rattle.spec.specs.LockStep.{LockState, Step, continues, stops, topOpener, runRow, LockResult, resultOf, runFrom, initialState, lockstep, outcomeOf}
 use Rattle.spec.specs.Threads.{Group, machine, initialGroup}
 use Rattle.spec.specs.Runs.{after}
-use Rattle.spec.proofs.Laws.{row-bytes, rows-length, role-while, top-cons}
+use Rattle.spec.proofs.Laws.{row-bytes, rows-length, role-while, top-cons, byte-if, byte-else, byte-endif, byte-while, byte-endwhile}
 use Rattle.structure.proofs.Acceptance.{well-formed, depth-bounded}
 use Rattle.allruns.proofs.Nesting.{isWhile}
 use Rattle.allruns.proofs.Simulation.{Frame}
@@ -131,26 +131,6 @@ role-if : (o : Op) → o ≡ IF → role o ≡ opening
 unfolding role
 role-if o e = ap role e
 
-op-if : opOf 32 ≡ IF
-unfolding opOf opTable
-op-if = refl
-
-op-else : opOf 33 ≡ ELSE
-unfolding opOf opTable
-op-else = refl
-
-op-endif : opOf 34 ≡ ENDIF
-unfolding opOf opTable
-op-endif = refl
-
-op-while : opOf 35 ≡ WHILE
-unfolding opOf opTable
-op-while = refl
-
-op-endwhile : opOf 36 ≡ ENDWHILE
-unfolding opOf opTable
-op-endwhile = refl
-
 clash-if : UNKNOWN ≡ IF → ⊥
 clash-if e = let z : _≡_ {A = ℕ} 0 1 = cc in omega arith
 
@@ -257,20 +237,20 @@ module _ (table ends : List ℕ) (n limit : ℕ) (cells₀ : List ℕ) (s : Stat
 
     closes : (getD table (s .row * 4) 0 ≡ 33) ⊎ ((getD table (s .row * 4) 0 ≡ 34) ⊎ (getD table (s .row * 4) 0 ≡ 36)) → (0 < s .depth) × (s .depth ≤ 8)
     closes (inl e) =
-        let q = op-is 33 ELSE op-else e in
+        let q = op-is 33 ELSE byte-else e in
         nonempty ELSE q while-else (λ u. clash-if (sym u ∙ fits ELSE q))
     closes (inr (inl e)) =
-        let q = op-is 34 ENDIF op-endif e in
+        let q = op-is 34 ENDIF byte-endif e in
         nonempty ENDIF q while-endif (λ u. ⊎-elim (λ f. clash-if (sym u ∙ f)) (λ f. clash-else (sym u ∙ f)) (fits ENDIF q))
     closes (inr (inr e)) =
-        let q = op-is 36 ENDWHILE op-endwhile e in
+        let q = op-is 36 ENDWHILE byte-endwhile e in
         nonempty ENDWHILE q while-endwhile (λ u. clash-while (sym u ∙ fits ENDWHILE q))
 
     loops : getD table (s .row * 4) 0 ≡ 35 → RoomForWhile s openers
     loops e = by (G .frames) (G .sim .framed) (G .sim .saving) depth-frames
       where
         l8 : suc (length (openBefore T (G .here .row))) ≤ 8
-        l8 = deeper (role-while _ (op-is 35 WHILE op-while e))
+        l8 = deeper (role-while _ (op-is 35 WHILE byte-while e))
 
         by : (fs : List Frame) → Framed T (G .here .row) fs → G .here .saved ≡ savedOf fs → s .depth ≡ length (openersOf fs) → RoomForWhile s openers
         by fs (fresh q) sv d = inl (let y = ap length q in omega (arith, l8))
@@ -297,7 +277,7 @@ module _ (table ends : List ℕ) (n limit : ℕ) (cells₀ : List ℕ) (s : Stat
           };
           asks = row-asks table (A .accepted) (s .row) inside;
           depths = record {
-            opens-if = λ e. let q = op-is 32 IF op-if e in let d = depth-opens IF q while-if in omega (arith, deeper (role-if _ q));
+            opens-if = λ e. let q = op-is 32 IF byte-if e in let d = depth-opens IF q while-if in omega (arith, deeper (role-if _ q));
             inside = λ h k u. closes (which _ h k u);
             opens-while = loops;
           };

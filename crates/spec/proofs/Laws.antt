@@ -7,7 +7,7 @@ use Prim.Native.Nat.{ℕ, zero, suc, _+_, _*_, _/_, _<_, _≤_}
 use native.Mathlib.Nat.{eq-or-lt-of-le, le-of-suc-le-suc}
 use native.Mathlib.Omega.{arith}
 use lib.ListN.{length, getD, replicate, length-map}
-use Rattle.spec.specs.Op.{Op, WHILE}
+use Rattle.spec.specs.Op.{Op, IF, ELSE, ENDIF, WHILE, ENDWHILE, opOf, opTable}
 use Rattle.spec.specs.Table.{rowOf, rowsOf, rowAt, role, opening}
 use Rattle.spec.specs.Mask.{Mask, minus, union, holding}
 use Rattle.spec.specs.LockStep.{Saved, topOpener}
@@ -58,6 +58,27 @@ row-bytes (op ∷ d ∷ a ∷ b ∷ t) (suc r) l =
     let e : (n : ℕ) → suc r * 4 + n ≡ suc (suc (suc (suc (r * 4 + n)))) = λ n. omega arith in
     let z : suc r * 4 ≡ suc (suc (suc (suc (r * 4)))) = omega arith in
     rw (e 1, e 2, e 3, z) (row-bytes t r (omega arith))
+
+-- The op bytes of the constructs.
+pub byte-if : opOf 32 ≡ IF
+unfolding opOf opTable
+byte-if = refl
+
+pub byte-else : opOf 33 ≡ ELSE
+unfolding opOf opTable
+byte-else = refl
+
+pub byte-endif : opOf 34 ≡ ENDIF
+unfolding opOf opTable
+byte-endif = refl
+
+pub byte-while : opOf 35 ≡ WHILE
+unfolding opOf opTable
+byte-while = refl
+
+pub byte-endwhile : opOf 36 ≡ ENDWHILE
+unfolding opOf opTable
+byte-endwhile = refl
 
 pub role-while : (o : Op) → o ≡ WHILE → role o ≡ opening
 unfolding role

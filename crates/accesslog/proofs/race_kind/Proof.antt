@@ -1,3 +1,4 @@
+-- `accesslog::race_kind` meets its contract. Assumes nothing.
 use native.Mathlib.Omega.{arith}
 use Rattle.accesslog.proofs.LogTests.{kind-by-load, kind-by-reader, kind-by-writer}
 use borrow.Author.Needs.{needs}

@@ -1,3 +1,4 @@
+-- `constructs::barrier_row` meets its contract. Assumes nothing.
 use mathlib.Core.Path.{refl}
 use native.Mathlib.Omega.{arith}
 use Rattle.layout.proofs.PlainRows.{counted-moved}

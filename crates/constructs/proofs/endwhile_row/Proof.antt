@@ -1,3 +1,4 @@
+-- `constructs::endwhile_row` meets its contract. Assumes nothing.
 use mathlib.Core.Path.{refl}
 use native.Mathlib.Omega.{arith}
 use Rattle.constructs.proofs.Rows.{endwhile-done}

@@ -1,3 +1,4 @@
+-- `constructs::enter_while` meets its contract. Assumes nothing.
 use mathlib.Core.Path.{_≡_, refl}
 use Prim.Native.Nat.{_<_, _-_}
 use native.Mathlib.Omega.{arith}

@@ -1,3 +1,4 @@
+-- `masks::bit` meets its contract. Assumes nothing.
 use Rattle.masks.proofs.Bits.{one-bit}
 use borrow.Author.Needs.{needs}
 use Rattle.masks.proofs.bit.Statement.{statement}

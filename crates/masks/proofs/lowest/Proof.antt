@@ -1,3 +1,4 @@
+-- `masks::lowest` meets its contract. Assumes nothing.
 use mathlib.Core.Path.{refl}
 use Rattle.masks.proofs.Bits.{trailing-lt}
 use Rattle.masks.proofs.lowest.Statement.{statement}

@@ -1,3 +1,4 @@
+-- `memory::access_one` meets its contract. Assumes nothing.
 use mathlib.Core.Path.{sym}
 use native.Mathlib.Omega.{arith}
 use Rattle.memory.proofs.Accesses.{outside-did, race-did, made-did}

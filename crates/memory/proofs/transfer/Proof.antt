@@ -1,3 +1,4 @@
+-- `memory::transfer` meets its contract. Assumes nothing.
 use mathlib.Core.Path.{refl}
 use borrow.Author.Needs.{needs}
 use Rattle.memory.proofs.transfer.Statement.{statement}

@@ -1,3 +1,4 @@
+-- `step::access_row` meets its contract. Assumes nothing.
 use mathlib.Core.Path.{_∙_}
 use Rattle.layout.proofs.PlainRows.{counts-accessed}
 use Rattle.layout.specs.Memory.{shapeBy}

@@ -1,3 +1,4 @@
+-- `step::after_access` meets its contract. Assumes nothing.
 use mathlib.Core.Path.{sym, ap, _∙_}
 use Rattle.layout.specs.declared.Next.the-variants as next
 use Rattle.layout.specs.Represents.{accessed}

@@ -1,3 +1,4 @@
+-- `step::step` meets its contract. Assumes nothing.
 use mathlib.Core.Path.{_≡_, sym, ap, _∙_, subst}
 use Prim.Native.Nat.{_<_, _*_}
 use native.Mathlib.Omega.{arith}
