@@ -1,5 +1,5 @@
 -- The code's table of keys, cut at its starts. Assumes nothing.
-use mathlib.Core.Path.{_≡_, refl, ap, _∙_}
+use mathlib.Core.Path.{_≡_, refl, ap}
 use mathlib.Core.List.{List, []}
 use mathlib.Core.Bool.{true}
 use Prim.Native.Nat.{ℕ, _+_, _-_, _≤_, _<_}
@@ -9,7 +9,7 @@ use Rattle.spec.specs.Lists.{every}
 use Rattle.spec.specs.Text.{text}
 use Rattle.spec.specs.declared.Value.{Value}
 use Rattle.spec.specs.declared.Value.the-variants as value
-use Rattle.spec.specs.Report.{_is_, detailsOf, details, headWith, headLines, endLine, refusalLines, valueText, keyLine, lineBytes}
+use Rattle.spec.specs.Report.{_is_, headWith, headLines, endLine, refusalLines, valueText, keyLine, lineBytes}
 use Rattle.stringtable.proofs.Strings.{joined, startsFrom, partOf, IsPart, part-size, string-at, isWithin, at-most}
 use Rattle.reportlines.proofs.Lines.{line-size}
 use Rattle.reporttable.specs.Numbered.{keys, keyCount, tableLine}

@@ -1,9 +1,9 @@
 -- The lines that the table gives for these values are the definition's: the head, the last line, and a refusal's. Assumes nothing.
 use mathlib.Core.Path.{_≡_, refl}
-use mathlib.Core.List.{List, [], _∷_}
+use mathlib.Core.List.{[], _∷_}
 use Prim.Native.Nat.{ℕ}
 use Rattle.spec.specs.declared.Outcome.{Outcome}
-use Rattle.spec.specs.Report.{Line, _is_, headWith, headLines, endLine, refusalLines}
+use Rattle.spec.specs.Report.{_is_, headWith, headLines, endLine, refusalLines}
 use Rattle.reporttable.specs.Numbered.{linesFrom, keys, headCount, endNumber, tableLine, tableLines}
 use Rattle.reportvalues.specs.Values.{valuesOf, runValues, refusalValues}
 

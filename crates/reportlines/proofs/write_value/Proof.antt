@@ -1,10 +1,6 @@
 -- `reportlines::write_value` meets its contract. A word is copied from the table. Assumes nothing.
-use mathlib.Core.Path.{_≡_, sym, ap, _∙_}
-use Prim.Native.Nat.{ℕ}
 use native.Mathlib.Omega.{arith}
-use lib.ListN.{length}
 use Rattle.spec.specs.Report.{valueText}
-use Rattle.spec.specs.Entries.{over}
 use Rattle.reportlines.specs.Words.{IsWord}
 use Rattle.reportlines.proofs.Words.{wordBytes, starts, as-word, as-digits, few-words, word-at, room-for, wrote}
 use borrow.Author.Needs.{needs}

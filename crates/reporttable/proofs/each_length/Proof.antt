@@ -1,11 +1,10 @@
 -- `reporttable::each_length` meets its contract. Each turn adds one line. Assumes nothing.
 use borrow.Author.Needs.{needs}
-use mathlib.Core.Path.{_≡_, refl, sym, ap, _∙_}
-use mathlib.Core.List.{List}
-use Prim.Native.Nat.{ℕ, _+_, _*_, _-_, _≤_, _<_}
+use mathlib.Core.Path.{_≡_, refl, _∙_}
+use Prim.Native.Nat.{_+_, _*_, _-_, _≤_}
 use native.Mathlib.Omega.{arith}
 use lib.ListN.{length}
-use Rattle.spec.specs.Report.{Line, valueText, bytesOf}
+use Rattle.spec.specs.Report.{valueText, bytesOf}
 use Rattle.reporttable.specs.Numbered.{linesFrom, numberLine}
 use Rattle.reporttable.proofs.Numbered.{size-more, each-numbered, size-by-number, one-more, bounded}
 use Rattle.reporttable.proofs.each_length.Statement.{statement}
