@@ -119,8 +119,8 @@ module _ (n : ℕ) (z : LockState) (s : State) (regs cells log saved openers : L
     Left r = Represents n (leaveOrStay T (countSteps (z .enabled) z) masks (holding a (z .enabled) (z .regs))) r regs cells log saved′ openers′
 
     whiled-at : (b : Bool) → any (holding a (z .enabled) (z .regs)) ≡ b
-        → leaveOrStay T (countSteps (z .enabled) z) masks (holding a (z .enabled) (z .regs)) ≡ cond b
-        (advance (suc (z .row)) (holding a (z .enabled) (z .regs)) masks (countSteps (z .enabled) z))
+        → leaveOrStay T (countSteps (z .enabled) z) masks (holding a (z .enabled) (z .regs))
+        ≡ cond b (advance (suc (z .row)) (holding a (z .enabled) (z .regs)) masks (countSteps (z .enabled) z))
         (advance (suc (endOf T (z .row))) (topMask masks) (pop masks) (countSteps (z .enabled) z))
     unfolding leaveOrStay countSteps
     whiled-at b q =
