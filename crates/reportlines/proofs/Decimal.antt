@@ -9,35 +9,35 @@ use borrow.Author.Tests.{lt-ltb, le-ltb}
 use lib.ListN.{length, length-append}
 use Rattle.spec.specs.Text.{digitsWithin, decimal}
 
-one : (k n : ℕ) → n < 10 → digitsWithin k n ≡ (48 + n) ∷ []
+pub digits-one : (k n : ℕ) → n < 10 → digitsWithin k n ≡ (48 + n) ∷ []
 unfolding digitsWithin
-one zero n h = refl
-one (suc k) n h = rw (lt-ltb n 10 h, digitsWithin)
+digits-one zero n h = refl
+digits-one (suc k) n h = rw (lt-ltb n 10 h, digitsWithin)
 
-more : (k n : ℕ) → 10 ≤ n → digitsWithin (suc k) n ≡ digitsWithin k (n / 10) ++ ((48 + n % 10) ∷ [])
+pub digits-more : (k n : ℕ) → 10 ≤ n → digitsWithin (suc k) n ≡ digitsWithin k (n / 10) ++ ((48 + n % 10) ∷ [])
 unfolding digitsWithin
-more k n h = rw (le-ltb n 10 h, digitsWithin)
+digits-more k n h = rw (le-ltb n 10 h, digitsWithin)
 
 -- The bound on the divisions does not matter once it is the number or more.
 same : (j k n : ℕ) → n ≤ j → n ≤ k → digitsWithin j n ≡ digitsWithin k n
-same zero k n l m = one zero n (omega arith) ∙ sym (one k n (omega arith))
-same (suc j) zero n l m = one (suc j) n (omega arith) ∙ sym (one zero n (omega arith))
+same zero k n l m = digits-one zero n (omega arith) ∙ sym (digits-one k n (omega arith))
+same (suc j) zero n l m = digits-one (suc j) n (omega arith) ∙ sym (digits-one zero n (omega arith))
 same (suc j) (suc k) n l m = by (decLt n 10) (λ h. same j k (n / 10) (omega arith) (omega arith))
   where
     by : Dec (n < 10) → (10 ≤ n → digitsWithin j (n / 10) ≡ digitsWithin k (n / 10)) → digitsWithin (suc j) n ≡ digitsWithin (suc k) n
-    by (yes h) rest = one (suc j) n h ∙ sym (one (suc k) n h)
+    by (yes h) rest = digits-one (suc j) n h ∙ sym (digits-one (suc k) n h)
     by (no h) rest =
         let m : 10 ≤ n = omega arith in
-        more j n m ∙ ap (λ (ds : List ℕ). ds ++ ((48 + n % 10) ∷ [])) (rest m) ∙ sym (more k n m)
+        digits-more j n m ∙ ap (λ (ds : List ℕ). ds ++ ((48 + n % 10) ∷ [])) (rest m) ∙ sym (digits-more k n m)
 
 pub decimal-one : (n : ℕ) → n < 10 → decimal n ≡ (48 + n) ∷ []
 unfolding decimal
-decimal-one n h = one n n h
+decimal-one n h = digits-one n n h
 
 pub decimal-more : (n : ℕ) → 10 ≤ n → decimal n ≡ decimal (n / 10) ++ ((48 + n % 10) ∷ [])
 unfolding decimal
 decimal-more zero h = absurd (omega arith)
-decimal-more (suc m) h = more m (suc m) h ∙ ap (λ (ds : List ℕ). ds ++ ((48 + suc m % 10) ∷ [])) (same m (suc m / 10) (suc m / 10) (omega arith) (omega arith))
+decimal-more (suc m) h = digits-more m (suc m) h ∙ ap (λ (ds : List ℕ). ds ++ ((48 + suc m % 10) ∷ [])) (same m (suc m / 10) (suc m / 10) (omega arith) (omega arith))
 
 pub length-one : (n : ℕ) → n < 10 → length (decimal n) ≡ 1
 length-one n h = ap length (decimal-one n h)

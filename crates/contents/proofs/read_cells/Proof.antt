@@ -17,15 +17,6 @@ abbrev μ-loop : tie.MeasureT-loop
 loop-holds : tie.Need-loop-holds Inv-loop μ-loop
 loop-holds c = cells-start _ _ _ (c .before .pre .1)
 
-cell-line-requires : tie.Need-cell-line-requires Inv-loop μ-loop
-cell-line-requires c κs = search needs
-
-enum-known-word : tie.Need-enum-known-word Inv-loop μ-loop
-enum-known-word c = search needs
-
-enum-told : tie.Need-enum-told Inv-loop μ-loop
-enum-told c = search needs
-
 returns : tie.Need-returns Inv-loop μ-loop
 returns c =
     let at-cell-line = c .before .before in
@@ -38,9 +29,6 @@ mul-cells c = omega arith
 
 element-write-cells : tie.Need-element-write-cells Inv-loop μ-loop
 element-write-cells c = omega arith
-
-next-requires : tie.Need-next-requires Inv-loop μ-loop
-next-requires c κs = search needs
 
 add-k : tie.Need-add-k Inv-loop μ-loop
 add-k c = omega arith
@@ -68,13 +56,11 @@ read-cells-spec =
     Inv-loop
     μ-loop
     loop-holds
-    cell-line-requires
-    enum-known-word
-    enum-told
+    (λ c κs. search needs) (λ c. search needs) (λ c. search needs)
     returns
     mul-cells
     element-write-cells
-    next-requires
+    (λ c κs. search needs)
     add-k
     loop-less
     loop-again

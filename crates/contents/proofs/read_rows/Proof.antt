@@ -17,15 +17,6 @@ abbrev μ-loop : tie.MeasureT-loop
 loop-holds : tie.Need-loop-holds Inv-loop μ-loop
 loop-holds c = rows-start _ _ _ (c .before .pre .1)
 
-row-line-requires : tie.Need-row-line-requires Inv-loop μ-loop
-row-line-requires c κs = search needs
-
-enum-known-op : tie.Need-enum-known-op Inv-loop μ-loop
-enum-known-op c = search needs
-
-enum-told : tie.Need-enum-told Inv-loop μ-loop
-enum-told c = search needs
-
 returns : tie.Need-returns Inv-loop μ-loop
 returns c =
     let at-row-line = c .before .before in
@@ -35,9 +26,6 @@ returns c =
 
 put-row-requires : tie.Need-put-row-requires Inv-loop μ-loop
 put-row-requires c κs = omega arith
-
-next-requires : tie.Need-next-requires Inv-loop μ-loop
-next-requires c κs = search needs
 
 add-k : tie.Need-add-k Inv-loop μ-loop
 add-k c = omega arith
@@ -66,12 +54,10 @@ read-rows-spec =
     Inv-loop
     μ-loop
     loop-holds
-    row-line-requires
-    enum-known-op
-    enum-told
+    (λ c κs. search needs) (λ c. search needs) (λ c. search needs)
     returns
     put-row-requires
-    next-requires
+    (λ c κs. search needs)
     add-k
     loop-less
     loop-again

@@ -4,28 +4,10 @@ use Rattle.filelines.proofs.Rows.{is-value, is-bad, value-fits, bad-op,
 use Rattle.filelines.proofs.four.Statement.{statement}
 use Rattle.filelines.proofs.four.Tie as tie
 
-number-below-requires : tie.Need-number-below-requires
-number-below-requires c κs = search needs
-
-enum-known-x : tie.Need-enum-known-x
-enum-known-x c = search needs
-
-enum-told : tie.Need-enum-told
-enum-told c = search needs
-
 returns : tie.Need-returns
 returns c =
     let at-op = c .before .before in
     bad-op _ _ _ _ (is-bad _ (at-op .number-below .ensures) (c .enum-told .given .1))
-
-number-below-requires-2 : tie.Need-number-below-requires-2
-number-below-requires-2 c κs = search needs
-
-enum-known-y : tie.Need-enum-known-y
-enum-known-y c = search needs
-
-enum-told-2 : tie.Need-enum-told-2
-enum-told-2 c = search needs
 
 returns-2 : tie.Need-returns-2
 returns-2 c =
@@ -35,15 +17,6 @@ returns-2 c =
     bad-d _ _ _ _
     (is-value _ (at-op .number-below .ensures) (op-known .x .given .1))
     (is-bad _ (at-d .number-below2 .ensures) (c .enum-told2 .given .1))
-
-number-below-requires-3 : tie.Need-number-below-requires-3
-number-below-requires-3 c κs = search needs
-
-enum-known-z : tie.Need-enum-known-z
-enum-known-z c = search needs
-
-enum-told-3 : tie.Need-enum-told-3
-enum-told-3 c = search needs
 
 returns-3 : tie.Need-returns-3
 returns-3 c =
@@ -56,15 +29,6 @@ returns-3 c =
     (is-value _ (at-op .number-below .ensures) (op-known .x .given .1))
     (is-value _ (at-d .number-below2 .ensures) (d-known .y .given .1))
     (is-bad _ (at-a .number-below3 .ensures) (c .enum-told3 .given .1))
-
-number-below-requires-4 : tie.Need-number-below-requires-4
-number-below-requires-4 c κs = search needs
-
-enum-known-w : tie.Need-enum-known-w
-enum-known-w c = search needs
-
-enum-told-4 : tie.Need-enum-told-4
-enum-told-4 c = search needs
 
 returns-4 : tie.Need-returns-4
 returns-4 c =
@@ -131,21 +95,13 @@ pub four-spec : {M : Type 1} → statement M
 four-spec =
     tie.close
     (tie.spec
-    number-below-requires
-    enum-known-x
-    enum-told
+    (λ c κs. search needs) (λ c. search needs) (λ c. search needs)
     returns
-    number-below-requires-2
-    enum-known-y
-    enum-told-2
+    (λ c κs. search needs) (λ c. search needs) (λ c. search needs)
     returns-2
-    number-below-requires-3
-    enum-known-z
-    enum-told-3
+    (λ c κs. search needs) (λ c. search needs) (λ c. search needs)
     returns-3
-    number-below-requires-4
-    enum-known-w
-    enum-told-4
+    (λ c κs. search needs) (λ c. search needs) (λ c. search needs)
     returns-4
     cast-t13
     cast-t14

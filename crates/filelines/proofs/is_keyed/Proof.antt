@@ -6,25 +6,16 @@ use Rattle.filelines.proofs.Keys.{no-line, no-name, named}
 use Rattle.filelines.proofs.is_keyed.Statement.{statement}
 use Rattle.filelines.proofs.is_keyed.Tie as tie
 
-before-requires : tie.Need-before-requires
-before-requires c κs = search needs
-
 returns : tie.Need-returns
 returns c =
     let at-line = c .before in
     no-line _ (at-line .before2 .ensures) (omega arith)
-
-before-requires-2 : tie.Need-before-requires-2
-before-requires-2 c κs = search needs
 
 returns-2 : tie.Need-returns-2
 returns-2 c =
     let at-name = c .before in
     let at-line = at-name .before .before in
     no-name _ (at-line .before2 .ensures) (omega arith) (at-name .before3 .ensures) (omega arith)
-
-same-requires : tie.Need-same-requires
-same-requires c κs = search needs
 
 returns-3 : tie.Need-returns-3
 returns-3 c =
@@ -36,4 +27,10 @@ returns-3 c =
 pub is-keyed-spec : {M : Type 1} → statement M
 is-keyed-spec =
     tie.close
-    (tie.spec before-requires returns before-requires-2 returns-2 same-requires returns-3)
+    (tie.spec
+    (λ c κs. search needs)
+    returns
+    (λ c κs. search needs)
+    returns-2
+    (λ c κs. search needs)
+    returns-3)

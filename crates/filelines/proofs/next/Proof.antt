@@ -4,16 +4,14 @@ use Rattle.filelines.proofs.Keys.{behind-line}
 use Rattle.filelines.proofs.next.Statement.{statement}
 use Rattle.filelines.proofs.next.Tie as tie
 
-before-requires : tie.Need-before-requires
-before-requires c κs = search needs
-
-behind-requires : tie.Need-behind-requires
-behind-requires c κs = search needs
-
 returns : tie.Need-returns
 returns c =
     let at-line = c .before in
     behind-line (at-line .before2 .ensures) (c .behind .ensures)
 
 pub next-spec : {M : Type 1} → statement M
-next-spec = tie.close (tie.spec before-requires behind-requires returns)
+next-spec =
+    tie.close
+    (tie.spec
+    (λ c κs. search needs) (λ c κs. search needs)
+    returns)

@@ -6,15 +6,6 @@ use Rattle.filelines.proofs.Keys.{has-value, has-none}
 use Rattle.filelines.proofs.number_line.Statement.{statement}
 use Rattle.filelines.proofs.number_line.Tie as tie
 
-is-keyed-requires : tie.Need-is-keyed-requires
-is-keyed-requires c κs = search needs
-
-value-requires : tie.Need-value-requires
-value-requires c κs = search needs
-
-number-below-requires : tie.Need-number-below-requires
-number-below-requires c κs = search needs
-
 returns : tie.Need-returns
 unfolding number
 returns c =
@@ -31,4 +22,8 @@ returns-2 c =
 
 pub number-line-spec : {M : Type 1} → statement M
 number-line-spec =
-    tie.close (tie.spec is-keyed-requires value-requires number-below-requires returns returns-2)
+    tie.close
+    (tie.spec
+    (λ c κs. search needs) (λ c κs. search needs) (λ c κs. search needs)
+    returns
+    returns-2)

@@ -5,19 +5,10 @@ use Rattle.filelines.proofs.Rows.{no-first, no-second, no-third, parts}
 use Rattle.filelines.proofs.row.Statement.{statement}
 use Rattle.filelines.proofs.row.Tie as tie
 
-before-requires : tie.Need-before-requires
-before-requires c κs = search needs
-
 returns : tie.Need-returns
 returns c =
     let at-op = c .before in
     no-first (at-op .before2 .ensures) (c .if1 .taken)
-
-behind-requires : tie.Need-behind-requires
-behind-requires c κs = search needs
-
-before-requires-2 : tie.Need-before-requires-2
-before-requires-2 c κs = search needs
 
 returns-2 : tie.Need-returns-2
 returns-2 c =
@@ -26,12 +17,6 @@ returns-2 c =
     let at-if1 = at-second .before in
     let at-op = at-if1 .before in
     no-second (at-op .before2 .ensures) (at-if1 .if1 .left) (at-second .behind .ensures) (at-d .before3 .ensures) (c .if2 .taken)
-
-behind-requires-2 : tie.Need-behind-requires-2
-behind-requires-2 c κs = search needs
-
-before-requires-3 : tie.Need-before-requires-3
-before-requires-3 c κs = search needs
 
 returns-3 : tie.Need-returns-3
 returns-3 c =
@@ -44,12 +29,6 @@ returns-3 c =
     let at-op = at-if1 .before in
     no-third (at-op .before2 .ensures) (at-if1 .if1 .left) (at-second .behind .ensures)
     (at-d .before3 .ensures) (at-if2 .if2 .left) (at-third .behind2 .ensures) (at-a .before4 .ensures) (c .if3 .taken)
-
-behind-requires-3 : tie.Need-behind-requires-3
-behind-requires-3 c κs = search needs
-
-four-requires : tie.Need-four-requires
-four-requires c κs = search needs
 
 returns-4 : tie.Need-returns-4
 returns-4 c =
@@ -71,14 +50,11 @@ pub row-spec : {M : Type 1} → statement M
 row-spec =
     tie.close
     (tie.spec
-    before-requires
+    (λ c κs. search needs)
     returns
-    behind-requires
-    before-requires-2
+    (λ c κs. search needs) (λ c κs. search needs)
     returns-2
-    behind-requires-2
-    before-requires-3
+    (λ c κs. search needs) (λ c κs. search needs)
     returns-3
-    behind-requires-3
-    four-requires
+    (λ c κs. search needs) (λ c κs. search needs)
     returns-4)

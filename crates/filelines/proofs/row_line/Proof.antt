@@ -7,18 +7,6 @@ use Rattle.filelines.proofs.Keys.{has-value, has-none}
 use Rattle.filelines.proofs.row_line.Statement.{statement}
 use Rattle.filelines.proofs.row_line.Tie as tie
 
-slice-aggregate-is-keyed : tie.Need-slice-aggregate-is-keyed
-slice-aggregate-is-keyed c = search needs
-
-is-keyed-requires : tie.Need-is-keyed-requires
-is-keyed-requires c κs = search needs
-
-value-requires : tie.Need-value-requires
-value-requires c κs = search needs
-
-row-requires : tie.Need-row-requires
-row-requires c κs = search needs
-
 returns : tie.Need-returns
 unfolding text
 returns c =
@@ -38,9 +26,6 @@ pub row-line-spec : {M : Type 1} → statement M
 row-line-spec =
     tie.close
     (tie.spec
-    slice-aggregate-is-keyed
-    is-keyed-requires
-    value-requires
-    row-requires
+    (λ c. search needs) (λ c κs. search needs) (λ c κs. search needs) (λ c κs. search needs)
     returns
     returns-2)

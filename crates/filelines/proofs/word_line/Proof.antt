@@ -6,15 +6,6 @@ use Rattle.filelines.proofs.Keys.{has-value, has-none, word-is}
 use Rattle.filelines.proofs.word_line.Statement.{statement}
 use Rattle.filelines.proofs.word_line.Tie as tie
 
-is-keyed-requires : tie.Need-is-keyed-requires
-is-keyed-requires c κs = search needs
-
-value-requires : tie.Need-value-requires
-value-requires c κs = search needs
-
-same-requires : tie.Need-same-requires
-same-requires c κs = search needs
-
 returns : tie.Need-returns
 returns c =
     let at-value = c .before in
@@ -30,4 +21,8 @@ returns-2 c =
 
 pub word-line-spec : {M : Type 1} → statement M
 word-line-spec =
-    tie.close (tie.spec is-keyed-requires value-requires same-requires returns returns-2)
+    tie.close
+    (tie.spec
+    (λ c κs. search needs) (λ c κs. search needs) (λ c κs. search needs)
+    returns
+    returns-2)

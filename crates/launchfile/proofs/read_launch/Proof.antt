@@ -10,23 +10,8 @@ use Rattle.launchfile.proofs.Whole.{too-long, no-kernel, number-refused
 use Rattle.launchfile.proofs.read_launch.Statement.{statement}
 use Rattle.launchfile.proofs.read_launch.Tie as tie
 
-refused-requires : tie.Need-refused-requires
-refused-requires c κs = search needs
-
 returns : tie.Need-returns
 returns c = refuses (too-long _ (omega arith)) (c .refused .ensures)
-
-slice-aggregate-word-line : tie.Need-slice-aggregate-word-line
-slice-aggregate-word-line c = search needs
-
-slice-aggregate-word-line-2 : tie.Need-slice-aggregate-word-line-2
-slice-aggregate-word-line-2 c = search needs
-
-word-line-requires : tie.Need-word-line-requires
-word-line-requires c κs = search needs
-
-refused-requires-2 : tie.Need-refused-requires-2
-refused-requires-2 c κs = search needs
 
 returns-2 : tie.Need-returns-2
 unfolding text
@@ -36,18 +21,9 @@ returns-2 c =
     (no-kernel _ (omega arith) (at-word .word-line .result) (at-word .word-line .ensures) (not-true _ (c .before .if2 .taken)))
     (c .refused2 .ensures)
 
-next-requires : tie.Need-next-requires
-next-requires c κs = search needs
-
 read-numbers-requires : tie.Need-read-numbers-requires
 unfolding lineCount
 read-numbers-requires c κs = refl
-
-enum-known-why : tie.Need-enum-known-why
-enum-known-why c = search needs
-
-refused-requires-3 : tie.Need-refused-requires-3
-refused-requires-3 c κs = search needs
 
 returns-3 : tie.Need-returns-3
 unfolding text lineCount
@@ -60,12 +36,6 @@ returns-3 c =
     (number-refused _ (omega arith) (at-word .word-line .result) (at-word .word-line .ensures) (not-false _ (at-next .before .if2 .left))
     (at-next .next .ensures) _ _ (at-numbers .read-numbers .ensures) (at-why .why .given .1))
     (c .refused3 .ensures)
-
-enum-told : tie.Need-enum-told
-enum-told c = search needs
-
-behind-lines-requires : tie.Need-behind-lines-requires
-behind-lines-requires c κs = search needs
 
 read-contents-requires : tie.Need-read-contents-requires
 read-contents-requires c κs =
@@ -90,19 +60,14 @@ pub read-launch-spec : {M : Type 1} → statement M
 read-launch-spec =
     tie.close
     (tie.spec
-    refused-requires
+    (λ c κs. search needs)
     returns
-    slice-aggregate-word-line
-    slice-aggregate-word-line-2
-    word-line-requires
-    refused-requires-2
+    (λ c. search needs) (λ c. search needs) (λ c κs. search needs) (λ c κs. search needs)
     returns-2
-    next-requires
+    (λ c κs. search needs)
     read-numbers-requires
-    enum-known-why
-    refused-requires-3
+    (λ c. search needs) (λ c κs. search needs)
     returns-3
-    enum-told
-    behind-lines-requires
+    (λ c. search needs) (λ c κs. search needs)
     read-contents-requires
     returns-4)

@@ -19,15 +19,6 @@ loop-holds : tie.Need-loop-holds Inv-loop μ-loop
 unfolding linesBehind
 loop-holds c = (search needs, refl)
 
-next-requires : tie.Need-next-requires Inv-loop μ-loop
-next-requires c κs = search needs
-
-add-i : tie.Need-add-i Inv-loop μ-loop
-add-i c = search needs
-
-loop-less : tie.Need-loop-less Inv-loop μ-loop
-loop-less c = search needs
-
 loop-again : tie.Need-loop-again Inv-loop μ-loop
 loop-again c = (omega arith, c .next .ensures ∙ ap nextIn (c .before .before .loop .inv .1) ∙ next-behind _ _)
 
@@ -40,4 +31,10 @@ returns c =
 pub behind-lines-spec : {M : Type 1} → statement M
 behind-lines-spec =
     tie.close
-    (tie.spec Inv-loop μ-loop loop-holds next-requires add-i loop-less loop-again returns)
+    (tie.spec
+    Inv-loop
+    μ-loop
+    loop-holds
+    (λ c κs. search needs) (λ c. search needs) (λ c. search needs)
+    loop-again
+    returns)

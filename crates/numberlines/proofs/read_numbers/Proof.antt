@@ -17,18 +17,9 @@ abbrev μ-loop : tie.MeasureT-loop
 loop-holds : tie.Need-loop-holds Inv-loop μ-loop
 loop-holds c = begins _ _ (c .before .pre)
 
-mul-start : tie.Need-mul-start Inv-loop μ-loop
-mul-start c = search needs
-
 array-read-start : tie.Need-array-read-start Inv-loop μ-loop
 unfolding tables
 array-read-start c = search needs
-
-add-end : tie.Need-add-end Inv-loop μ-loop
-add-end c = search needs
-
-mul-end : tie.Need-mul-end Inv-loop μ-loop
-mul-end c = search needs
 
 array-read-end : tie.Need-array-read-end Inv-loop μ-loop
 unfolding tables
@@ -46,21 +37,6 @@ part-number-line-end : tie.Need-part-number-line-end Inv-loop μ-loop
 unfolding tables
 part-number-line-end c = key-part (c .before .before .loop .i) (c .before .loop-test .taken) .inside
 
-number-line-requires : tie.Need-number-line-requires Inv-loop μ-loop
-number-line-requires c κs = search needs
-
-enum-known-n : tie.Need-enum-known-n Inv-loop μ-loop
-enum-known-n c = search needs
-
-enum-told : tie.Need-enum-told Inv-loop μ-loop
-enum-told c = search needs
-
-add-t26 : tie.Need-add-t26 Inv-loop μ-loop
-add-t26 c = search needs
-
-cast-t27 : tie.Need-cast-t27 Inv-loop μ-loop
-cast-t27 c = search needs
-
 returns : tie.Need-returns Inv-loop μ-loop
 unfolding tables answered
 returns c =
@@ -68,27 +44,6 @@ returns c =
     let in-loop = at-number .before .before .before in
     let at-loop = in-loop .before in
     line-missing (at-loop .loop .inv) (in-loop .loop-test .taken) _ (at-number .number-line .ensures) (c .enum-told .given .1)
-
-mul-within : tie.Need-mul-within Inv-loop μ-loop
-mul-within c = search needs
-
-array-read-within : tie.Need-array-read-within Inv-loop μ-loop
-array-read-within c = search needs
-
-mul-within-2 : tie.Need-mul-within-2 Inv-loop μ-loop
-mul-within-2 c = search needs
-
-array-read-within-2 : tie.Need-array-read-within-2 Inv-loop μ-loop
-array-read-within-2 c = search needs
-
-within-requires : tie.Need-within-requires Inv-loop μ-loop
-within-requires c κs = search needs
-
-mul-why : tie.Need-mul-why Inv-loop μ-loop
-mul-why c = search needs
-
-array-copy-out-why : tie.Need-array-copy-out-why Inv-loop μ-loop
-array-copy-out-why c = search needs
 
 returns-2 : tie.Need-returns-2 Inv-loop μ-loop
 unfolding tables answered
@@ -100,18 +55,6 @@ returns-2 c =
     let at-loop = in-loop .before in
     out-of-limits (at-loop .loop .inv) (in-loop .loop-test .taken) _ (at-number .number-line .ensures)
     (at-n .n .given .1) (at-within .within .ensures) (not-true _ (c .before .if1 .taken)) _
-
-mul-numbers : tie.Need-mul-numbers Inv-loop μ-loop
-mul-numbers c = search needs
-
-element-write-numbers : tie.Need-element-write-numbers Inv-loop μ-loop
-element-write-numbers c = search needs
-
-next-requires : tie.Need-next-requires Inv-loop μ-loop
-next-requires c κs = search needs
-
-add-i : tie.Need-add-i Inv-loop μ-loop
-add-i c = search needs
 
 loop-less : tie.Need-loop-less Inv-loop μ-loop
 unfolding lineCount
@@ -139,32 +82,19 @@ read-numbers-spec =
     Inv-loop
     μ-loop
     loop-holds
-    mul-start
+    (λ c. search needs)
     array-read-start
-    add-end
-    mul-end
+    (λ c. search needs) (λ c. search needs)
     array-read-end
     sub-number-line
     part-number-line-start
     part-number-line-end
-    number-line-requires
-    enum-known-n
-    enum-told
-    add-t26
-    cast-t27
+    (λ c κs. search needs) (λ c. search needs) (λ c. search needs) (λ c. search needs) (λ c. search needs)
     returns
-    mul-within
-    array-read-within
-    mul-within-2
-    array-read-within-2
-    within-requires
-    mul-why
-    array-copy-out-why
+    (λ c. search needs) (λ c. search needs) (λ c. search needs) (λ c. search needs) (λ c κs. search needs)
+    (λ c. search needs) (λ c. search needs)
     returns-2
-    mul-numbers
-    element-write-numbers
-    next-requires
-    add-i
+    (λ c. search needs) (λ c. search needs) (λ c κs. search needs) (λ c. search needs)
     loop-less
     loop-again
     returns-3)

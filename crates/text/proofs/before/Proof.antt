@@ -15,12 +15,6 @@ Inv-loop s b i₀ i = (i ≤ length s) × ((k : ℕ) → k < i → getD s k 0 �
 abbrev μ-loop : tie.MeasureT-loop
 μ-loop s b i₀ i = length s - i
 
-loop-holds : tie.Need-loop-holds Inv-loop μ-loop
-loop-holds c = search needs
-
-shared-slice-read-if1 : tie.Need-shared-slice-read-if1 Inv-loop μ-loop
-shared-slice-read-if1 c = search needs
-
 slice-aggregate-result : tie.Need-slice-aggregate-result Inv-loop μ-loop
 slice-aggregate-result c =
     let at-loop = c .before .before .before .before in
@@ -32,12 +26,6 @@ returns c =
     let in-loop = at-if1 .before .before in
     let at-loop = in-loop .before in
     found _ _ _ (in-loop .loop-test .taken) (at-if1 .if1 .taken) (at-loop .loop .inv .1)
-
-add-i : tie.Need-add-i Inv-loop μ-loop
-add-i c = search needs
-
-loop-less : tie.Need-loop-less Inv-loop μ-loop
-loop-less c = search needs
 
 loop-again : tie.Need-loop-again Inv-loop μ-loop
 loop-again c = (search needs, below-more _ _ (c .before .before .before .loop .inv .1) (c .if1 .left))
@@ -53,11 +41,9 @@ before-spec =
     (tie.spec
     Inv-loop
     μ-loop
-    loop-holds
-    shared-slice-read-if1
+    (λ c. search needs) (λ c. search needs)
     slice-aggregate-result
     returns
-    add-i
-    loop-less
+    (λ c. search needs) (λ c. search needs)
     loop-again
     returns-2)

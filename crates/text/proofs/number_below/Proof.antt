@@ -8,26 +8,17 @@ use Rattle.text.proofs.number_below.Tie as tie
 returns : tie.Need-returns
 returns c = no-digit _ _ (c .if1 .taken)
 
-digits-requires : tie.Need-digits-requires
-digits-requires c κs = search needs
-
 returns-2 : tie.Need-returns-2
 returns-2 c =
     let at-if2 = c .before in
     one-digit _ _ (at-if2 .if2 .taken)
     ∙ c .digits .ensures
 
-shared-slice-read-if3 : tie.Need-shared-slice-read-if3
-shared-slice-read-if3 c = search needs
-
 returns-3 : tie.Need-returns-3
 returns-3 c =
     let at-if2 = c .before .before in
     let at-if1 = at-if2 .before in
     zero-first _ _ (at-if1 .if1 .left) (at-if2 .if2 .left) (c .if3 .taken)
-
-digits-requires-2 : tie.Need-digits-requires-2
-digits-requires-2 c κs = search needs
 
 returns-4 : tie.Need-returns-4
 returns-4 c =
@@ -41,9 +32,9 @@ number-below-spec =
     tie.close
     (tie.spec
     returns
-    digits-requires
+    (λ c κs. search needs)
     returns-2
-    shared-slice-read-if3
+    (λ c. search needs)
     returns-3
-    digits-requires-2
+    (λ c κs. search needs)
     returns-4)

@@ -1,0 +1,2 @@
+-- A report read back. Assumes nothing.
+pub mod Reading
