@@ -48,6 +48,8 @@ by-op {op} {k} {p} {q} {v} {d} {f} e I L =
 past-five : (k op : ℕ) → k ≤ op → (op ≡ k → ⊥) → (op ≡ k + 1 → ⊥) → (op ≡ k + 2 → ⊥) → (op ≡ k + 3 → ⊥) → (op ≡ k + 4 → ⊥) → k + 5 ≤ op
 past-five k op h n₀ n₁ n₂ n₃ n₄ = omega arith
 
-pub last-op : (op : ℕ) → 4 ≤ op → op ≤ 14 → (op ≡ 4 → ⊥) → (op ≡ 5 → ⊥) → (op ≡ 6 → ⊥) → (op ≡ 7 → ⊥) → (op ≡ 8 → ⊥) → (op ≡ 9 → ⊥) → (op ≡ 10 → ⊥)
-    → (op ≡ 11 → ⊥) → (op ≡ 12 → ⊥) → (op ≡ 13 → ⊥) → op ≡ 14
-last-op op h l n₄ n₅ n₆ n₇ n₈ n₉ n₁₀ n₁₁ n₁₂ n₁₃ = let k : 14 ≤ op = past-five 9 op (past-five 4 op h n₄ n₅ n₆ n₇ n₈) n₉ n₁₀ n₁₁ n₁₂ n₁₃ in omega (arith, l, k)
+pub last-op : (op : ℕ) → 4 ≤ op → op ≤ 14 → (op ≡ 4 → ⊥) → (op ≡ 5 → ⊥) → (op ≡ 6 → ⊥) → (op ≡ 7 → ⊥) → (op ≡ 8 → ⊥)
+    → (op ≡ 9 → ⊥) → (op ≡ 10 → ⊥) → (op ≡ 11 → ⊥) → (op ≡ 12 → ⊥) → (op ≡ 13 → ⊥) → op ≡ 14
+last-op op h l n₄ n₅ n₆ n₇ n₈ n₉ n₁₀ n₁₁ n₁₂ n₁₃ =
+    let k : 14 ≤ op = past-five 9 op (past-five 4 op h n₄ n₅ n₆ n₇ n₈) n₉ n₁₀ n₁₁ n₁₂ n₁₃ in
+    omega (arith, l, k)
