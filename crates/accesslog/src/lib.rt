@@ -2,12 +2,12 @@
 ghost use mathlib.Core.Path.{_≡_};
 ghost use Prim.Native.Nat.{_<_};
 ghost use lib.ListN.{length, replicate};
-ghost use Rattle.layout.specs.Logging.{LogAsks, ConflictBy, KindIs, LoggedBy};
+ghost use Rattle.layout.specs.Logging.{LogAsks, conflictWord, kindWord, enteredWords};
 
-// The access test: the threads but the one of this bit whose logged accesses of cell i conflict with an access by op.
+// The access test: the threads but those of these bits whose logged accesses of cell i conflict with an access by op.
 pub fn conflict(log: &[u32], cells: usize, i: usize, bit: u32, op: u8) -> u32
     requires { ⌜ LogAsks op cells i (now log) ⌝ }
-    ensures { λ r. ⌜ ConflictBy op cells i bit (now (log .entry)) r ⌝ }
+    ensures { λ r. ⌜ r ≡ conflictWord op cells i bit (now (log .entry)) ⌝ }
 {
     let w = log[cells + i];
     if op == 16 {
@@ -19,7 +19,7 @@ pub fn conflict(log: &[u32], cells: usize, i: usize, bit: u32, op: u8) -> u32
 // The kind of a race with the thread `other` at cell i.
 pub fn race_kind(log: &[u32], cells: usize, i: usize, other: u32, op: u8) -> spec::AccessKind
     requires { ⌜ (other < 32) × LogAsks op cells i (now log) ⌝ }
-    ensures { λ r. ⌜ KindIs op cells i other (now (log .entry)) r ⌝ }
+    ensures { λ r. ⌜ r ≡ kindWord op cells i other (now (log .entry)) ⌝ }
 {
     if op == 16 {
         return spec::AccessKind::WriteRead;
@@ -33,7 +33,7 @@ pub fn race_kind(log: &[u32], cells: usize, i: usize, other: u32, op: u8) -> spe
 // The thread of this bit enters the mask of cell i.
 pub fn enter(log: &mut [u32], cells: usize, i: usize, bit: u32, op: u8)
     requires { ⌜ LogAsks op cells i (now log) ⌝ }
-    ensures { λ _. ⌜ LoggedBy op cells i bit (now (log .entry)) (now (log .exit)) ⌝ }
+    ensures { λ _. ⌜ now (log .exit) ≡ enteredWords op cells i bit (now (log .entry)) ⌝ }
 {
     if op == 16 {
         log[i] = log[i] | bit;

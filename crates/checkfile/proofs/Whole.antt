@@ -61,11 +61,11 @@ same-launch launch p a = rw (a .threads, a .limit, a .table, a .cells) refl
 module _ (file : List ℕ) (p : Parsed) (h : ParsedIs file p) where
   pub file-refused : (why : Refusal) → p .answer ≡ admission.Refused why → fileLaunch file ≡ refused why
   unfolding checkedTable
-  file-refused why e = whole-file file ∙ ap checkedTable (lines-refused (linesRead file) p why h e)
+  file-refused why e = whole-file file ∙ ap checkedTable (lines-refused (linesRead file) p why (h .read-as) e)
 
   module _ (e : p .answer ≡ admission.Accepted) where
     abbrev lines : Accepted (linesRead file) p
-    lines = lines-accepted (linesRead file) p h e
+    lines = lines-accepted (linesRead file) p (h .read-as) e
 
     of-file : AcceptedAs (lines .launch) p
     of-file = lines .stands

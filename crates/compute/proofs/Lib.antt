@@ -1,3 +1,4 @@
 mod Values
 mod Putting
-mod Turns
+mod Stored
+pub mod Turns

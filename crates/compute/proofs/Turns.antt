@@ -15,11 +15,11 @@ use Rattle.spec.specs.Op.{Calc, CALC, opOf, value}
 use Rattle.spec.specs.Table.{Row}
 use Rattle.spec.specs.LockStep.{LockState, Step, inTurn, computeTurn, setReg, update, reg}
 use Rattle.layout.specs.declared.Access.the-variants.{Done}
-use Rattle.layout.specs.Memory.{Regs, Memory, Did, OneTurn, ComputeAsks, ComputeAll}
+use Rattle.layout.specs.Memory.{Regs, Memory, Did, OneTurn, ComputeAsks, lane, Puts, computedLane, Computed}
 use Rattle.layout.proofs.Buffers.{regs-set}
 use Rattle.layout.proofs.Turning.{Turning, turn-start, turn-in, turn-out, turn-whole}
-use Rattle.compute.specs.RowLanes.{Puts, lane, chosen, RowLanes}
-use Rattle.compute.proofs.Putting.{puts-none, puts-old, puts-more, puts-agree, given-on, given-off}
+use Rattle.compute.proofs.Values.{value-read}
+use Rattle.compute.proofs.Putting.{puts-none, puts-old, puts-more, puts-agree, stored-on, stored-off}
 
 -- Buffers that are the same where registers stand are those of the same state.
 did-alike : (n k : ℕ) (s : LockState) (o : Step) (regs regs′ cells log : List ℕ) → length regs′ ≡ 512 → ((t r : ℕ) → t < n → lane r regs′ t ≡ lane r regs t)
@@ -60,10 +60,19 @@ module _ (c : Calc) (n : ℕ) (x : Row) where
         kept = record { row-same = refl; enabled-same = refl; saved-same = refl; rows-same = refl; barriers-same = refl; steps-more = omega arith };
       }
 
-module _ {op n d a b k : ℕ} {regs v : List ℕ} (mask : ℕ) (A : ComputeAsks op d a b) (B : RowLanes op n a b k regs v) where
+module _ (op n mask d a b : ℕ) (regs : List ℕ) (A : ComputeAsks op d a b)
+    (size : length regs ≡ 512) (c : Calc) (o : opOf op ≡ CALC c) where
   -- Lane t of register d after the row.
   abbrev new : ℕ → ℕ
-  new = chosen v mask d regs
+  new = computedLane c n mask d a b regs
+
+  new-on : (t : ℕ) → mask / 2 ^ t % 2 ≡ 1 → new t ≡ value c n t a b (lane a regs t) (lane b regs t)
+  unfolding computedLane
+  new-on t q = rw (stored-on n mask t q)
+
+  new-off : (t : ℕ) → t < n → (mask / 2 ^ t % 2 ≡ 1 → ⊥) → new t ≡ lane d regs t
+  unfolding computedLane
+  new-off t h q = rw (stored-off n mask t h q)
 
   -- The registers after the turns of the threads below t.
   after : ℕ → List ℕ
@@ -74,10 +83,11 @@ module _ {op n d a b k : ℕ} {regs v : List ℕ} (mask : ℕ) (A : ComputeAsks 
   unfolding after
   after-puts zero h = puts-none d new regs
   after-puts (suc t) h =
-      subst (Puts d new regs (after (suc t))) (add-one t) (puts-more d new regs (after t) t (after-puts t (omega arith)) (new t) (A .target) (omega arith) refl)
+      subst (Puts d new regs (after (suc t))) (add-one t)
+      (puts-more d new regs (after t) t (after-puts t (omega arith)) (new t) (A .target) size (omega arith) refl)
 
-  module _ (c : Calc) (x : Row) (o : opOf op ≡ CALC c) (ed : x .d ≡ d) (ea : x .a ≡ a) (eb : x .b ≡ b) (ek : k ≡ a + 256 * b)
-      (cells log : List ℕ) (s : LockState) (em : mask ≡ maskWord (s .enabled)) (el : length (s .enabled) ≡ n) (M : Memory n s regs cells log) where
+  module _ (x : Row) (ed : x .d ≡ d) (ea : x .a ≡ a) (eb : x .b ≡ b) (cells log : List ℕ) (s : LockState) (em : mask ≡ maskWord (s .enabled))
+      (el : length (s .enabled) ≡ n) (M : Memory n s regs cells log) where
     -- Register r of thread t, before its turn.
     reg-is : (t r i : ℕ) → t < n → i ≡ r → r < 16 → (z : LockState) → Memory n z (after t) cells log → reg z t i ≡ lane r regs t
     unfolding reg
@@ -91,16 +101,15 @@ module _ {op n d a b k : ℕ} {regs v : List ℕ} (mask : ℕ) (A : ComputeAsks 
         subst (λ i. OneTurn (turn c n x) n t (after t) cells log Done (set (after t) (i * 32 + t) (new t)) cells log) ed
         (one-turn c n x t (new t) (after t) cells log h (omega (arith, ed, A .target)) (λ z Z.
         ap₂ (λ i j. value c n t i j (reg z t (x .a)) (reg z t (x .b))) ea eb
-        ∙ sym (B .at c o ek t (reg z t (x .a)) (reg z t (x .b)) (omega (arith, M .few))
-        (λ m. reg-is t a (x .a) h ea (A .left m) z Z) (λ m. reg-is t b (x .b) h eb (A .right m) z Z))
-        ∙ given-on (mask / 2 ^ t % 2) v d regs t q))
+        ∙ value-read op c o (A .known) n t a b (reg z t (x .a)) (reg z t (x .b)) (lane a regs t) (lane b regs t)
+        (λ m. reg-is t a (x .a) h ea (A .left m) z Z) (λ m. reg-is t b (x .b) h eb (A .right m) z Z)
+        ∙ sym (new-on t q)))
 
     -- A thread that is not enabled keeps its register.
     turn-off : (t : ℕ) → t < n → (mask / 2 ^ t % 2 ≡ 1 → ⊥) → after t ≡ after (suc t)
     unfolding after
     turn-off t h q =
-        sym (ap (set (after t) (d * 32 + t))
-        (sym (puts-old d new regs (after t) t (after-puts t (omega (arith, M .few))) ∙ given-off (mask / 2 ^ t % 2) v d regs t q))
+        sym (ap (set (after t) (d * 32 + t)) (new-off t h q ∙ sym (puts-old d new regs (after t) t (after-puts t (omega (arith, M .few)))))
         ∙ set-getD (after t) (d * 32 + t) 0)
 
     step : (j t : ℕ) (rs : List ℕ) → Turning (turn c n x) n s j (t + 1) (mask / 2 ^ t / 2) rs cells log
@@ -134,11 +143,11 @@ module _ {op n d a b k : ℕ} {regs v : List ℕ} (mask : ℕ) (A : ComputeAsks 
         let T = turns n (le-refl n) in
         turn-whole (turn c n x) n s (T .0) n (mask / 2 ^ n) (after n) cells log (T .1) mask (ones mask) em refl (le-refl n)
 
-  -- The code's row: what it put into the lanes is v's under the mask.
-  pub row-done : {G : ℕ → ℕ} {regs′ : List ℕ} → Puts d G regs regs′ 32 → ((t : ℕ) → t < n → G t ≡ new t) → ComputeAll op n mask d a b k regs regs′
-  unfolding turn
-  row-done {G} {regs′} P same c x o ed ea eb ek cells log s em el M =
-      let size = M .regs-are .size in
-      did-alike n (ones mask) s (inTurn (turn c n x) (members (s .enabled)) s) (after n) regs′ cells log (P .size ∙ size)
-      (puts-agree d n G new regs regs′ (after n) size (M .few) P (after-puts n (M .few)) same)
-      (row-did c x o ed ea eb ek cells log s em el M)
+    -- So do the words that a computing row leaves.
+    pub compute-did : (regs′ : List ℕ) → Computed op n mask d a b regs regs′
+        → Did n (ones mask) s (inTurn (computeTurn x (λ t p q. value c n t (x .a) (x .b) p q)) (members (s .enabled)) s) Done regs′ cells log
+    unfolding turn
+    compute-did regs′ C =
+        did-alike n (ones mask) s (inTurn (turn c n x) (members (s .enabled)) s) (after n) regs′ cells log (C c o .size ∙ size)
+        (puts-agree d n new new regs regs′ (after n) (M .few) (C c o) (after-puts n (M .few)) (λ t h. refl))
+        row-did

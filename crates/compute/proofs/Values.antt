@@ -1,26 +1,46 @@
 -- The values of a computing row: SET, TID and COUNT, and the ops that read two registers. Assumes nothing.
 use mathlib.Core.Path.{_≡_, refl, sym, _∙_, ap, ap₂}
 use mathlib.Core.List.{List}
-use Prim.Native.Nat.{ℕ, _≤_}
+use Prim.Native.Nat.{ℕ, _+_, _*_, _≤_}
+use native.Mathlib.Omega.{arith}
+use native.Mathlib.Decide.{ℕ-discrete}
 use lib.ListN.{replicate, getD-replicate}
-use Rattle.spec.specs.Op.{SET, TID, COUNT, value, opTable, opOf}
+use Rattle.spec.specs.Op.{Calc, SET, TID, COUNT, CALC, value, opTable, opOf}
+use Rattle.layout.specs.Memory.{lane}
 use Rattle.lanes.specs.Lanes.{Filled, OpLanes}
 use Rattle.lanes.proofs.Ops.{same-op}
-use Rattle.compute.specs.RowLanes.{lane, RowLanes}
+use Rattle.compute.specs.RowLanes.{RowLanes}
 
-module _ {op n a b k : ℕ} {regs : List ℕ} where
-  pub by-set : op ≡ 1 → RowLanes op n a b k regs (replicate 32 k)
+module _ {op n a b : ℕ} {regs : List ℕ} where
+  pub by-set : {k : ℕ} → op ≡ 1 → k ≡ a + 256 * b → RowLanes op n a b regs (replicate 32 k)
   unfolding opOf opTable value
-  by-set e = record { at = λ c o ek t p q h l r. getD-replicate 32 t k 0 h ∙ ek ∙ ap (λ z. value z n t a b p q) (same-op op 1 c SET e refl o) }
+  by-set {k} e ek =
+      record {
+        at = λ c o t h. getD-replicate 32 t k 0 h ∙ ek ∙ ap (λ z. value z n t a b (lane a regs t) (lane b regs t)) (same-op op 1 c SET e refl o);
+      }
 
-  pub by-tid : {v : List ℕ} → op ≡ 2 → Filled (λ t. t) v 32 → RowLanes op n a b k regs v
+  pub by-tid : {v : List ℕ} → op ≡ 2 → Filled (λ t. t) v 32 → RowLanes op n a b regs v
   unfolding opOf opTable value
-  by-tid e L = record { at = λ c o ek t p q h l r. L .below t h ∙ ap (λ z. value z n t a b p q) (same-op op 2 c TID e refl o) }
+  by-tid e L = record { at = λ c o t h. L .below t h ∙ ap (λ z. value z n t a b (lane a regs t) (lane b regs t)) (same-op op 2 c TID e refl o) }
 
-  pub by-count : op ≡ 3 → RowLanes op n a b k regs (replicate 32 n)
+  pub by-count : op ≡ 3 → RowLanes op n a b regs (replicate 32 n)
   unfolding opOf opTable value
-  by-count e = record { at = λ c o ek t p q h l r. getD-replicate 32 t n 0 h ∙ ap (λ z. value z n t a b p q) (same-op op 3 c COUNT e refl o) }
+  by-count e = record { at = λ c o t h. getD-replicate 32 t n 0 h ∙ ap (λ z. value z n t a b (lane a regs t) (lane b regs t)) (same-op op 3 c COUNT e refl o) }
 
-  pub by-registers : {x y v : List ℕ} → 4 ≤ op → OpLanes op x y v → Filled (lane a regs) x 32 → Filled (lane b regs) y 32 → RowLanes op n a b k regs v
-  by-registers m O X Y =
-      record { at = λ c o ek t p q h l r. O .at c o n a b t h ∙ ap₂ (value c n t a b) (X .below t h ∙ sym (l m)) (Y .below t h ∙ sym (r m)) }
+  pub by-registers : {x y v : List ℕ} → OpLanes op x y v → Filled (lane a regs) x 32 → Filled (lane b regs) y 32 → RowLanes op n a b regs v
+  by-registers O X Y = record { at = λ c o t h. O .at c o n a b t h ∙ ap₂ (value c n t a b) (X .below t h) (Y .below t h) }
+
+-- An op reads its registers, or its value is the same whatever they hold.
+pub value-read : (op : ℕ) (c : Calc) → opOf op ≡ CALC c → 1 ≤ op → (n t a b p q p′ q′ : ℕ) → (4 ≤ op → p ≡ p′) → (4 ≤ op → q ≡ q′)
+    → value c n t a b p q ≡ value c n t a b p′ q′
+unfolding opOf opTable value
+value-read op c o l n t a b p q p′ q′ ep eq = by (ℕ-discrete op 1) (ℕ-discrete op 2) (ℕ-discrete op 3)
+  where
+    unread : (d : Calc) → d ≡ c → value d n t a b p q ≡ value d n t a b p′ q′ → value c n t a b p q ≡ value c n t a b p′ q′
+    unread d e r = ap (λ z. value z n t a b p q) (sym e) ∙ r ∙ ap (λ z. value z n t a b p′ q′) e
+
+    by : Dec (op ≡ 1) → Dec (op ≡ 2) → Dec (op ≡ 3) → value c n t a b p q ≡ value c n t a b p′ q′
+    by (yes e) y z = unread SET (same-op op 1 c SET e refl o) refl
+    by (no x) (yes e) z = unread TID (same-op op 2 c TID e refl o) refl
+    by (no x) (no y) (yes e) = unread COUNT (same-op op 3 c COUNT e refl o) refl
+    by (no x) (no y) (no z) = ap₂ (value c n t a b) (ep (omega arith)) (eq (omega arith))

@@ -1,9 +1,10 @@
 // A computing row: its values in all 32 lanes, then a store under the mask.
+ghost use mathlib.Core.Path.{_≡_};
 ghost use Prim.Native.Nat.{_/_, _%_, _^_, _<_, _≤_};
-ghost use lib.ListN.{getD};
-ghost use Rattle.layout.specs.Memory.{ComputeAsks, ComputeAll};
+ghost use lib.ListN.{length, getD};
+ghost use Rattle.layout.specs.Memory.{ComputeAsks, lane, Puts, Computed};
 ghost use Rattle.lanes.specs.Lanes.{Filled};
-ghost use Rattle.compute.specs.RowLanes.{Puts, lane, picked, RowLanes};
+ghost use Rattle.compute.specs.RowLanes.{picked, RowLanes};
 
 // Register r of all threads.
 fn lanes_of(regs: &[u32; 512], r: usize) -> [u32; 32]
@@ -47,7 +48,7 @@ fn bits_of(mask: u32) -> [u32; 32]
 
 // The lanes in which `on` is 1 go to register d. That the bits were spread before keeps this loop straight.
 fn put(regs: &mut [u32; 512], d: usize, v: [u32; 32], on: [u32; 32])
-    requires { ⌜ d < 16 ⌝ }
+    requires { ⌜ (d < 16) × (length (now regs) ≡ 512) ⌝ }
     ensures { λ _. ⌜ Puts d (picked v on d (now (regs .entry))) (now (regs .entry)) (now (regs .exit)) 32 ⌝ }
 {
     let mut t = 0;
@@ -59,9 +60,9 @@ fn put(regs: &mut [u32; 512], d: usize, v: [u32; 32], on: [u32; 32])
     }
 }
 
-// Where all threads are enabled: without the test. Lanes behind the last thread hold nothing.
+// Where all threads are enabled: every lane, without the test.
 fn put_all(regs: &mut [u32; 512], d: usize, v: [u32; 32])
-    requires { ⌜ d < 16 ⌝ }
+    requires { ⌜ (d < 16) × (length (now regs) ≡ 512) ⌝ }
     ensures { λ _. ⌜ Puts d (λ t. getD v t 0) (now (regs .entry)) (now (regs .exit)) 32 ⌝ }
 {
     let mut t = 0;
@@ -72,13 +73,13 @@ fn put_all(regs: &mut [u32; 512], d: usize, v: [u32; 32])
 }
 
 // SET, TID and COUNT read no register.
-fn value_lanes(regs: &[u32; 512], n: u32, op: u8, a: usize, b: usize, k: u32) -> [u32; 32]
-    requires { ⌜ ComputeAsks op 0 a b ⌝ }
-    ensures { λ v. ⌜ RowLanes op n a b k (now (regs .entry)) v ⌝ }
+fn value_lanes(regs: &[u32; 512], n: u32, op: u8, a: usize, b: usize) -> [u32; 32]
+    requires { ⌜ (a < 256) × (b < 256) × ComputeAsks op 0 a b ⌝ }
+    ensures { λ v. ⌜ RowLanes op n a b (now (regs .entry)) v ⌝ }
 {
     if op < 4 {
         if op == 1 {
-            return [k; 32];
+            return [(a + 256 * b) as u32; 32];
         }
         if op == 2 {
             return threads();
@@ -88,22 +89,14 @@ fn value_lanes(regs: &[u32; 512], n: u32, op: u8, a: usize, b: usize, k: u32) ->
     lanes::alu_lanes(op, lanes_of(regs, a), lanes_of(regs, b))
 }
 
-// k is the constant of SET's bytes a and b.
-pub fn compute_row(
-    regs: &mut [u32; 512],
-    n: u32,
-    mask: u32,
-    op: u8,
-    d: usize,
-    a: usize,
-    b: usize,
-    k: u32,
-)
-    requires { ⌜ (n ≤ 32) × ComputeAsks op d a b ⌝ }
-    ensures { λ _. ⌜ ComputeAll op n mask d a b k (now (regs .entry)) (now (regs .exit)) ⌝ }
+// Where all n threads are enabled the lanes behind the last one are stored to as well.
+pub fn compute_row(regs: &mut [u32; 512], n: u32, mask: u32, op: u8, d: usize, a: usize, b: usize)
+    requires { ⌜ (n ≤ 32) × (a < 256) × (b < 256) × ComputeAsks op d a b × (length (now regs) ≡ 512) ⌝ }
+    ensures { λ _. ⌜ Computed op n mask d a b (now (regs .entry)) (now (regs .exit)) ⌝ }
 {
-    let v = value_lanes(regs, n, op, a, b, k);
-    if mask == masks::all(n) {
+    let v = value_lanes(regs, n, op, a, b);
+    let all = masks::all(n);
+    if mask == all {
         put_all(regs, d, v);
     } else {
         put(regs, d, v, bits_of(mask));

@@ -1,3 +1,4 @@
+mod Words
 pub mod Rows
 pub mod Barrier
 pub mod Arms

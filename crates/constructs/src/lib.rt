@@ -1,8 +1,10 @@
 // The rows of constructs, and BARRIER. Masks are saved on entry, with the construct's row beside them.
 ghost use mathlib.Core.Path.{_≡_};
-ghost use Prim.Native.Nat.{_<_, _≤_};
-ghost use Rattle.layout.specs.Represents.{Room, Becomes, ifOn, ElseBecomes, EndifBecomes, RoomForWhile, EnteredWhile};
-ghost use Rattle.layout.specs.Represents.{WhileBecomes, EndwhileBecomes, DepthAsks, ConstructDone, BarrierDone, movedOn};
+ghost use Prim.Native.Nat.{_-_, _<_, _≤_};
+ghost use lib.ListN.{set};
+ghost use Rattle.layout.specs.Represents.{Room, Counted, RoomForWhile, DepthAsks, movedOn};
+ghost use Rattle.layout.specs.Constructs.{ifState, elseState, endifState, whileState, endwhileState, savedAfter, openersAfter, EnteredWhile, ConstructDone};
+ghost use Rattle.layout.specs.Constructs.{barrierNext, barrierLog};
 
 fn if_row(
     regs: &[u32; 512],
@@ -12,7 +14,8 @@ fn if_row(
     s: layout::State,
 ) -> layout::State
     requires { ⌜ Room s × (a < 16) × (s .depth < 8) ⌝ }
-    ensures { λ r. ⌜ Becomes (ifOn a) (now (regs .entry)) s (now (saved .entry)) (now (openers .entry)) r (now (saved .exit)) (now (openers .exit)) ⌝ }
+    ensures { λ r. ⌜ Counted s r × (r ≡ ifState a (now (regs .entry)) s) × (now (saved .exit) ≡ set (now (saved .entry)) (s .depth) (s .mask))
+        × (now (openers .exit) ≡ set (now (openers .entry)) (s .depth) (s .row)) ⌝ }
 {
     let depth = s.depth;
     let row = s.row;
@@ -32,7 +35,8 @@ fn if_row(
 
 fn else_row(saved: &[u32; 8], openers: &mut [usize; 8], s: layout::State) -> layout::State
     requires { ⌜ Room s × (0 < s .depth) × (s .depth ≤ 8) ⌝ }
-    ensures { λ r. ⌜ ElseBecomes s (now (saved .entry)) (now (openers .entry)) r (now (openers .exit)) ⌝ }
+    ensures { λ r. ⌜ Counted s r × (r ≡ elseState (now (saved .entry)) s)
+        × (now (openers .exit) ≡ set (now (openers .entry)) (s .depth - 1) (s .row)) ⌝ }
 {
     let depth = s.depth;
     let row = s.row;
@@ -51,7 +55,7 @@ fn else_row(saved: &[u32; 8], openers: &mut [usize; 8], s: layout::State) -> lay
 
 fn endif_row(saved: &[u32; 8], s: layout::State) -> layout::State
     requires { ⌜ Room s × (0 < s .depth) × (s .depth ≤ 8) ⌝ }
-    ensures { λ r. ⌜ EndifBecomes s (now (saved .entry)) r ⌝ }
+    ensures { λ r. ⌜ Counted s r × (r ≡ endifState (now (saved .entry)) s) ⌝ }
 {
     let depth = s.depth;
     let m = saved[depth - 1];
@@ -91,7 +95,9 @@ fn while_row(
     s: layout::State,
 ) -> layout::State
     requires { ⌜ Room s × (a < 16) × (end < 256) × RoomForWhile s (now openers) ⌝ }
-    ensures { λ r. ⌜ WhileBecomes a end (now (regs .entry)) s (now (saved .entry)) (now (openers .entry)) r (now (saved .exit)) (now (openers .exit)) ⌝ }
+    ensures { λ r. ⌜ Counted s r × (r ≡ whileState a end (now (regs .entry)) s (now (saved .entry)) (now (openers .entry)))
+        × (now (saved .exit) ≡ savedAfter 35 s (now (saved .entry)) (now (openers .entry)))
+        × (now (openers .exit) ≡ openersAfter 35 s (now (openers .entry))) ⌝ }
 {
     let row = s.row;
     let mask = s.mask;
@@ -121,7 +127,7 @@ fn while_row(
 
 fn endwhile_row(openers: &[usize; 8], s: layout::State) -> layout::State
     requires { ⌜ Room s × (0 < s .depth) × (s .depth ≤ 8) ⌝ }
-    ensures { λ r. ⌜ EndwhileBecomes s (now (openers .entry)) r ⌝ }
+    ensures { λ r. ⌜ Counted s r × (r ≡ endwhileState (now (openers .entry)) s) ⌝ }
 {
     let depth = s.depth;
     layout::State {
@@ -171,7 +177,7 @@ pub fn moved(s: layout::State, k: u32) -> layout::State
 
 pub fn barrier_row(log: &mut [u32], n: u32, s: layout::State) -> layout::Next
     requires { ⌜ Room s × (1 ≤ n) × (n ≤ 32) ⌝ }
-    ensures { λ r. ⌜ BarrierDone n s (now (log .entry)) r (now (log .exit)) ⌝ }
+    ensures { λ r. ⌜ (r ≡ barrierNext n s) × (now (log .exit) ≡ barrierLog n s (now (log .entry))) ⌝ }
 {
     let mask = s.mask;
     let all = masks::all(n);

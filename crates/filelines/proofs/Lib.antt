@@ -3,3 +3,4 @@ pub mod Keys
 pub mod Rows
 pub mod DueLines
 pub mod InOrder
+pub mod RowBytes

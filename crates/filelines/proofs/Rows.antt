@@ -1,19 +1,18 @@
 -- That a row's four numbers, found part by part, are those of the definition. Assumes nothing.
 use mathlib.Core.Path.{_≡_, ap, _∙_}
-use mathlib.Core.List.{List}
+use mathlib.Core.List.{List, [], _∷_}
 use mathlib.Core.Option.{none, some}
 use Prim.Native.Nat.{ℕ, _+_, _<_, _≤_}
 use lib.ListN.{length, drop}
 use Rattle.spec.specs.Text.{numberBelow}
-use Rattle.spec.specs.LaunchFile.{given, byte, rowValue}
-use Rattle.spec.specs.Table.{rowOf}
+use Rattle.spec.specs.LaunchFile.{given, byte}
 use Rattle.text.specs.Parts.{First}
 use Rattle.text.specs.Numbers.{numberOf}
 use Rattle.text.specs.declared.Number.{Number}
 use Rattle.text.specs.declared.Number.the-variants.{Value, Bad}
 use Rattle.text.proofs.Splitting.{cut, uncut}
 use Rattle.text.proofs.Counting.{value-below}
-use Rattle.filelines.specs.Values.{fourBytes}
+use Rattle.filelines.specs.Values.{fourBytes, rowBytes}
 
 -- What `number_below` answers at the bound 256.
 pub is-value : (s : List ℕ) {n : Number} {v : ℕ} → numberBelow 256 s ≡ numberOf n → n ≡ Value v → numberBelow 256 s ≡ some v
@@ -45,25 +44,25 @@ module _ (op d a b : List ℕ) where
         unfolding fourBytes given byte
         bad-b e = rw (p, q, r, e)
 
-        pub good : {w : ℕ} → numberBelow 256 b ≡ some w → fourBytes op d a b ≡ some (rowOf x y z w)
+        pub good : {w : ℕ} → numberBelow 256 b ≡ some w → fourBytes op d a b ≡ some (x ∷ y ∷ z ∷ w ∷ [])
         unfolding fourBytes given byte
         good e = rw (p, q, r, e)
 
 module _ {v op : List ℕ} (f : First 44 v op) where
-  pub no-first : length v ≤ length op → rowValue v ≡ none
-  unfolding rowValue given
+  pub no-first : length v ≤ length op → rowBytes v ≡ none
+  unfolding rowBytes given
   no-first h = rw (uncut 44 v op f h)
 
   module _ (h : length op < length v) {second d : List ℕ} (p : second ≡ drop (length op + 1) v) (g : First 44 second d) where
-    pub no-second : length second ≤ length d → rowValue v ≡ none
-    unfolding rowValue given
+    pub no-second : length second ≤ length d → rowBytes v ≡ none
+    unfolding rowBytes given
     no-second k = rw (cut 44 v op f h, ← p, uncut 44 second d g k)
 
     module _ (k : length d < length second) {third a : List ℕ} (q : third ≡ drop (length d + 1) second) (i : First 44 third a) where
-      pub no-third : length third ≤ length a → rowValue v ≡ none
-      unfolding rowValue given
+      pub no-third : length third ≤ length a → rowBytes v ≡ none
+      unfolding rowBytes given
       no-third l = rw (cut 44 v op f h, ← p, cut 44 second d g k, ← q, uncut 44 third a i l)
 
-      pub parts : length a < length third → {b : List ℕ} → b ≡ drop (length a + 1) third → rowValue v ≡ fourBytes op d a b
-      unfolding rowValue given fourBytes
+      pub parts : length a < length third → {b : List ℕ} → b ≡ drop (length a + 1) third → rowBytes v ≡ fourBytes op d a b
+      unfolding rowBytes given fourBytes
       parts l r = rw (cut 44 v op f h, ← p, cut 44 second d g k, ← q, cut 44 third a i l, ← r)

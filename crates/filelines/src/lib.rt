@@ -2,10 +2,10 @@
 use text::Number;
 ghost use mathlib.Core.Path.{_≡_};
 ghost use Rattle.spec.specs.Text.{text};
-ghost use Rattle.spec.specs.LaunchFile.{number, rowValue};
+ghost use Rattle.spec.specs.LaunchFile.{number};
 ghost use Rattle.text.specs.Numbers.{numberOf};
 ghost use Rattle.filelines.specs.Lines.{keyed, valueIn, nextIn, keyedValue};
-ghost use Rattle.filelines.specs.Values.{rowIn, wordIn, exactBytes, fourBytes};
+ghost use Rattle.filelines.specs.Values.{bytesIn, wordIn, exactBytes, fourBytes, rowBytes};
 
 // The four bytes of a row, or none.
 pub enum Bytes {
@@ -71,7 +71,7 @@ pub fn word_line(rest: &[u8], key: &[u8], word: &[u8]) -> bool
 
 // Four numbers below 256.
 fn four<'a>(op: &'a [u8], d: &'a [u8], a: &'a [u8], b: &'a [u8]) -> Bytes
-    ensures { λ r. ⌜ fourBytes (now (op .entry)) (now (d .entry)) (now (a .entry)) (now (b .entry)) ≡ rowIn r ⌝ }
+    ensures { λ r. ⌜ fourBytes (now (op .entry)) (now (d .entry)) (now (a .entry)) (now (b .entry)) ≡ bytesIn r ⌝ }
 {
     let Number::Value(x) = text::number_below(op, 256) else {
         return Bytes::Bad;
@@ -90,7 +90,7 @@ fn four<'a>(op: &'a [u8], d: &'a [u8], a: &'a [u8], b: &'a [u8]) -> Bytes
 
 // A row's value: four numbers with commas between them.
 pub fn row(found: &[u8]) -> Bytes
-    ensures { λ r. ⌜ rowValue (now (found .entry)) ≡ rowIn r ⌝ }
+    ensures { λ r. ⌜ rowBytes (now (found .entry)) ≡ bytesIn r ⌝ }
 {
     let op = text::before(found, 44);
     if found.len() <= op.len() {
@@ -112,7 +112,7 @@ pub fn row(found: &[u8]) -> Bytes
 
 // The row that the first line gives.
 pub fn row_line(rest: &[u8]) -> Bytes
-    ensures { λ r. ⌜ keyedValue (text "row") rowValue (now (rest .entry)) ≡ rowIn r ⌝ }
+    ensures { λ r. ⌜ keyedValue (text "row") rowBytes (now (rest .entry)) ≡ bytesIn r ⌝ }
 {
     if is_keyed(rest, b"row") {
         let found = value(rest);

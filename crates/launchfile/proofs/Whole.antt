@@ -34,10 +34,10 @@ module _ (file : List ℕ) (h : length file ≤ maxFile) (t : Bool) (found : key
   unfolding launchLines _>>=_ _>>_ continue lineRead
   no-kernel f = begun ∙ rw (due-word "kernel" "1" 1 file t found, f)
 
-  module _ (f : t ≡ true) {lines : List ℕ} (q : lines ≡ nextIn file) (ns : List ℕ) (r : Admission) (n : NumbersRead lines ns r) where
+  module _ (f : t ≡ true) {lines : List ℕ} (q : lines ≡ nextIn file) (old ns : List ℕ) (r : Admission) (n : NumbersRead lines old ns r) where
     numbered : linesRead file ≡ continue (answered r ns (2 + lineCount) (linesBehind lineCount lines)) contentLines
     unfolding launchLines _>>=_ _>>_ continue lineRead
-    numbered = begun ∙ rw (due-word "kernel" "1" 1 file t found, f, ← q, n)
+    numbered = begun ∙ rw (due-word "kernel" "1" 1 file t found, f, ← q, n .answer)
 
     pub number-refused : {why : Refusal} → r ≡ Refused why → linesRead file ≡ stop why
     unfolding answered continue
@@ -48,12 +48,12 @@ module _ (file : List ℕ) (h : length file ≤ maxFile) (t : Bool) (found : key
     numbers-read e p = numbered ∙ rw (e, p)
 
 -- Each number is within the limits of its line, which its place tells.
-pub within : (file ns : List ℕ) (r : Admission) → NumbersRead file ns r → r ≡ Accepted
+pub within : (file old ns : List ℕ) (r : Admission) → NumbersRead file old ns r → r ≡ Accepted
     → Within (threadsIn ns) (limitIn ns) (rowsIn ns) (cellsIn ns)
 unfolding answered lineCount
-within file ns r n e =
+within file old ns r n e =
     let at : (i : ℕ) → Limited (getD numberLines i noLine) (getD ns i 0) =
-    all-limited numberLines 2 file ns (2 + lineCount) (linesBehind lineCount file) (n ∙ rw e) in
+    all-limited numberLines 2 file ns (2 + lineCount) (linesBehind lineCount file) (n .answer ∙ rw e) in
     record {
       someThread = at _ .low;
       fewThreads = at _ .high;

@@ -2,14 +2,18 @@
 use mathlib.Core.Path.{_≡_}
 use mathlib.Core.List.{List}
 use mathlib.Core.Bool.{true, false}
-use Prim.Native.Nat.{ℕ, _-_, _*_, _≤_}
+use Prim.Native.Nat.{ℕ, _+_, _-_, _*_, _≤_}
 use lib.Dec.{leb}
 use lib.ListN.{length, take, drop, replicate}
 use Rattle.spec.specs.Limits.{maxFile, maxThreads, maxCells, maxRows, maxLimit}
 use Rattle.spec.specs.Table.{rowsOf}
-use Rattle.spec.specs.LaunchFile.{Read, stop, read, launchLines}
+use Rattle.spec.specs.LaunchFile.{Read, stop, read, times, due, launchLines}
 use Rattle.spec.specs.declared.Refusal.{Refusal}
 use Rattle.spec.specs.declared.Refusal.the-variants.{FileTooLong}
+use Rattle.filelines.specs.Lines.{nextIn}
+use Rattle.filelines.specs.Values.{rowBytes}
+use Rattle.contents.specs.Taken.{foursOf}
+use Rattle.numberlines.specs.Answered.{lineCount, linesBehind}
 use Rattle.launchfile.specs.declared.Launch.{Launch}
 use Rattle.admission.specs.declared.Admission.the-variants.{Accepted, Refused}
 use Rattle.launchfile.specs.declared.Parsed.{Parsed}
@@ -52,5 +56,12 @@ ReadAs (read launch line rest) r = AcceptedAs launch r
 unfoldable pub linesRead : List ℕ → Read definition.Launch
 linesRead file = elim (leb (length file) maxFile) [ true ↦ launchLines 1 file | false ↦ stop FileTooLong ]
 
-abbrev pub ParsedIs : List ℕ → Parsed → Type 0
-ParsedIs file r = ReadAs (linesRead file) r
+-- The bytes of the launch's table are those that the row lines give, of which the first begins this text.
+pub record BytesFrom (rows : List ℕ) (l : Launch) : Type 0 where
+  pub left : List ℕ
+  pub lines : (line : ℕ) → times (l .rows) (due "row" rowBytes) line rows ≡ read (foursOf (take (4 * l .rows) (l .table))) (line + l .rows) left
+
+-- What the reader answers; its table also byte by byte, behind the first line and those of the numbers.
+pub record ParsedIs (file : List ℕ) (r : Parsed) : Type 0 where
+  pub read-as : ReadAs (linesRead file) r
+  pub bytes : r .answer ≡ Accepted → BytesFrom (linesBehind lineCount (nextIn file)) (r .launch)

@@ -5,7 +5,8 @@ ghost use mathlib.Core.Path.{_≡_};
 ghost use Prim.Native.Nat.{_+_};
 ghost use Rattle.spec.specs.LaunchFile.{threadsIn, cellsIn, limitIn, rowsIn, contentLines};
 ghost use Rattle.numberlines.specs.Answered.{lineCount};
-ghost use Rattle.launchfile.specs.Parsed.{refusedWith, Within, ReadAs, ParsedIs};
+ghost use Rattle.launchfile.specs.Parsed.{refusedWith, Within, ReadAs, BytesFrom, ParsedIs};
+ghost use Rattle.admission.specs.declared.Admission.the-variants.{Accepted};
 
 // The table's `rows` rows are the first 4 * rows bytes of `table`, the `count` cells the first words of `cells`.
 pub struct Launch {
@@ -44,7 +45,8 @@ fn refused(why: Refusal) -> Parsed
 // The rows, the cells and the end, behind these numbers.
 fn read_contents(rest: &[u8], numbers: &[u32; numberlines::COUNT]) -> Parsed
     requires { ⌜ Within (threadsIn (now numbers)) (limitIn (now numbers)) (rowsIn (now numbers)) (cellsIn (now numbers)) ⌝ }
-    ensures { λ r. ⌜ ReadAs (contentLines (now (numbers .entry)) (2 + lineCount) (now (rest .entry))) r ⌝ }
+    ensures { λ r. ⌜ ReadAs (contentLines (now (numbers .entry)) (2 + lineCount) (now (rest .entry))) r
+        × (r .answer ≡ Accepted → BytesFrom (now (rest .entry)) (r .launch)) ⌝ }
 {
     let threads = numbers[numberlines::THREADS];
     let limit = numbers[numberlines::LIMIT];

@@ -93,24 +93,24 @@ module _ (n k : ℕ) (G : Log) (log : List ℕ) (L : LogIs n k G log) where
           }
 
     -- the other's bit among the writers tells the kind of a race
-    writer-bit : (u b : ℕ) → b ≡ bitAnd (getD log (k + c) 0) (2 ^ u) → b ≡ cond (has (getD (G .writers) c []) u) (2 ^ u) 0
-    writer-bit u b e = e ∙ ap (λ z. bitAnd z (2 ^ u)) writer-is ∙ word-has (getD (G .writers) c []) u
+    writer-bit : (u : ℕ) → bitAnd (getD log (k + c) 0) (2 ^ u) ≡ cond (has (getD (G .writers) c []) u) (2 ^ u) 0
+    writer-bit u = ap (λ z. bitAnd z (2 ^ u)) writer-is ∙ word-has (getD (G .writers) c []) u
 
-    pub kind-rw : (v u b : ℕ) → b ≡ bitAnd (getD log (k + c) 0) (2 ^ u) → b ≡ 0 → raceKind G c u (store v) ≡ ReadWrite
+    pub kind-rw : (v u : ℕ) → bitAnd (getD log (k + c) 0) (2 ^ u) ≡ 0 → raceKind G c u (store v) ≡ ReadWrite
     unfolding raceKind
-    kind-rw v u b e z = by (has (getD (G .writers) c []) u) refl
+    kind-rw v u z = by (has (getD (G .writers) c []) u) refl
       where
         by : (x : Bool) → has (getD (G .writers) c []) u ≡ x → cond (has (getD (G .writers) c []) u) WriteWrite ReadWrite ≡ ReadWrite
-        by true q = absurd (let y : 2 ^ u ≡ 0 = sym (writer-bit u b e ∙ ap (λ x. cond x (2 ^ u) 0) q) ∙ z in omega (arith, pow-pos u))
+        by true q = absurd (let y : 2 ^ u ≡ 0 = sym (writer-bit u ∙ ap (λ x. cond x (2 ^ u) 0) q) ∙ z in omega (arith, pow-pos u))
         by false q = ap (λ x. cond x WriteWrite ReadWrite) q
 
-    pub kind-ww : (v u b : ℕ) → b ≡ bitAnd (getD log (k + c) 0) (2 ^ u) → (b ≡ 0 → ⊥) → raceKind G c u (store v) ≡ WriteWrite
+    pub kind-ww : (v u : ℕ) → (bitAnd (getD log (k + c) 0) (2 ^ u) ≡ 0 → ⊥) → raceKind G c u (store v) ≡ WriteWrite
     unfolding raceKind
-    kind-ww v u b e z = by (has (getD (G .writers) c []) u) refl
+    kind-ww v u z = by (has (getD (G .writers) c []) u) refl
       where
         by : (x : Bool) → has (getD (G .writers) c []) u ≡ x → cond (has (getD (G .writers) c []) u) WriteWrite ReadWrite ≡ WriteWrite
         by true q = ap (λ x. cond x WriteWrite ReadWrite) q
-        by false q = absurd (z (writer-bit u b e ∙ ap (λ x. cond x (2 ^ u) 0) q))
+        by false q = absurd (z (writer-bit u ∙ ap (λ x. cond x (2 ^ u) 0) q))
 
 -- The buffer with one more word put to 0, and with all.
 pub cleared-more : (l : List ℕ) (i : ℕ) → i < length l → ((j : ℕ) → j < i → getD l j 0 ≡ 0) → (j : ℕ) → j < i + 1 → getD (set l i 0) j 0 ≡ 0

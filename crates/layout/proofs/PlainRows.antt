@@ -11,10 +11,13 @@ use Rattle.layout.specs.declared.Access.the-variants.{Done, Stop}
 use Rattle.layout.specs.declared.State.{State}
 use Rattle.layout.specs.declared.Next.{Next}
 use Rattle.layout.specs.Memory.{Memory, Kept, Did}
-use Rattle.layout.specs.Represents.{Saves, Represents, After, Counted, Counts, movedOn, heldBack, accessed}
+use Rattle.layout.specs.Represents.{Saves, Represents, After, Counted, Counts, goneOn, movedOn, heldBack, accessed}
+
+pub counted-gone : (s : State) (row mask depth k : ℕ) → k ≤ 32 → Counted s (goneOn s row mask depth k)
+counted-gone s row mask depth k h = record { rows-one = refl; steps-some = omega arith; barriers-one = omega arith }
 
 pub counted-moved : (s r : State) (k : ℕ) → r ≡ movedOn s k → k ≤ 32 → Counted s r
-counted-moved s r k e h = subst (Counted s) (sym e) (record { rows-one = refl; steps-some = omega arith; barriers-one = omega arith })
+counted-moved s r k e h = subst (Counted s) (sym e) (counted-gone s (s .row + 1) (s .mask) (s .depth) k h)
 
 pub counts-accessed : (s : State) (r : Next) (a : Access) (k : ℕ) → r ≡ accessed s a k → k ≤ 32 → Counts s r
 counts-accessed s r Done k e h = subst (Counts s) (sym e) (counted-moved s (movedOn s k) k refl h)

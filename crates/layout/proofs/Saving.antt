@@ -1,17 +1,21 @@
 -- The saved masks in their arrays. Assumes nothing.
 use mathlib.Core.Path.{_≡_, refl, sym, _∙_, ap, subst}
-use mathlib.Core.Logic.{inl, inr}
+use mathlib.Core.Logic.{_⊎_, inl, inr}
 use mathlib.Core.List.{List, [], _∷_}
+use mathlib.Core.Bool.{true, false, cond}
 use Prim.Native.Nat.{ℕ, suc, _+_, _-_, _<_, _≤_}
 use native.Mathlib.Omega.{arith}
-use borrow.Author.Tests.{eq-eqb, ne-eqb}
+use native.Mathlib.Decide.{ℕ-discrete}
+use borrow.Author.Tests.{eq-eqb, ne-eqb, lt-ltb}
+use lib.Dec.{eqb, ltb}
 use lib.ListN.{length, getD, set, length-set}
 use lib.Seq.{getD-set-same, getD-set-other}
 use Rattle.spec.specs.Mask.{Mask, maskWord}
 use Rattle.spec.specs.LockStep.{Saved, LockState, topMask, pop, topOpener, savedAtWhile}
 use Rattle.spec.proofs.Laws.{top-cons}
 use Rattle.layout.specs.declared.State.{State}
-use Rattle.layout.specs.Represents.{Saves, EnteredWhile, RoomForWhile}
+use Rattle.layout.specs.Represents.{Saves, RoomForWhile}
+use Rattle.layout.specs.Constructs.{topWord, entered, saving, savedAfter, openersAfter, whileDepth, EnteredWhile}
 
 -- a store above the saved masks leaves them
 pub saves-above : (n : ℕ) (v : List Saved) (saved openers : List ℕ) (i j x y : ℕ) → length v ≤ i → length v ≤ j → Saves n v saved openers
@@ -97,42 +101,6 @@ unfolding savedAtWhile topOpener
 saved-old r m [] h e = absurd (omega arith)
 saved-old r m (f ∷ v) h e = rw (eq-eqb (f .opener) r e)
 
-module _ (s : State) (saved openers : List ℕ) where
-  -- the top row is this one
-  pub enter-old : 0 < s .depth → s .depth ≤ 8 → getD openers (s .depth - 1) 0 ≡ s .row → EnteredWhile (s .depth) s saved openers saved openers
-  enter-old h k e =
-      record {
-        some = h;
-        few = k;
-        are = λ n z er em on ed S ls lo.
-            let q : savedAtWhile (z .row) (z .enabled) (z .saved) ≡ z .saved = saved-old (z .row) (z .enabled) (z .saved) (omega arith)
-            (sym (saves-back n (z .saved) saved openers (s .depth) ed h S) ∙ e ∙ er) in
-            (ed ∙ sym (ap length q), subst (λ v. Saves n v saved openers) (sym q) S, ls, lo);
-      }
-
-  pub enter-new : (d x y : ℕ) → d ≡ s .depth → x ≡ s .mask → y ≡ s .row → s .depth < 8 → (0 < s .depth → getD openers (s .depth - 1) 0 ≡ s .row → ⊥)
-      → EnteredWhile (d + 1) s saved openers (set saved d x) (set openers d y)
-  enter-new d x y edd ex ey k ne =
-      record {
-        some = omega arith;
-        few = omega arith;
-        are = λ n z er em on ed S ls lo.
-            let q : savedAtWhile (z .row) (z .enabled) (z .saved) ≡ record { opener = z .row; mask = z .enabled } ∷ z .saved =
-            saved-new (z .row) (z .enabled) (z .saved) (λ f w p o. apart n z er ed S f w p o) in (
-              let l : d + 1 ≡ suc (length (z .saved)) = omega arith in l ∙ sym (ap length q),
-              subst (λ v. Saves n v (set saved d x) (set openers d y)) (sym q)
-                  (saves-push n (z .saved) saved openers d x y (z .row) (z .enabled) ls lo (edd ∙ ed) (omega arith) (ex ∙ em) on (ey ∙ er) S),
-              length-set saved d x ∙ ls,
-              length-set openers d y ∙ lo,
-            );
-      }
-    where
-      apart : (n : ℕ) (z : LockState) → s .row ≡ z .row → s .depth ≡ length (z .saved) → Saves n (z .saved) saved openers
-          → (f : Saved) (w : List Saved) → z .saved ≡ f ∷ w → f .opener ≡ z .row → ⊥
-      apart n z er ed S f w p o =
-          let h : 0 < s .depth = omega (arith, ap length p) in
-          ne h (saves-back n (z .saved) saved openers (s .depth) ed h S ∙ ap topOpener p ∙ top-cons f w ∙ o ∙ sym er)
-
 pub atmost : (s : State) (openers : List ℕ) → RoomForWhile s openers → s .depth ≤ 8
 atmost s openers (inl h) = omega arith
 atmost s openers (inr h) = h .1
@@ -140,3 +108,92 @@ atmost s openers (inr h) = h .1
 pub room-new : (s : State) (openers : List ℕ) → RoomForWhile s openers → (0 < s .depth → getD openers (s .depth - 1) 0 ≡ s .row → ⊥) → s .depth < 8
 room-new s openers (inl h) n = h
 room-new s openers (inr h) n = absurd (n (h .0) (h .2))
+
+-- A row that is no IF, ELSE or WHILE leaves all slots.
+pub slots-kept : (op : ℕ) (s : State) (saved openers : List ℕ) → (op < 32) ⊎ (36 < op)
+    → (saved ≡ savedAfter op s saved openers) × (openers ≡ openersAfter op s openers)
+unfolding savedAfter openersAfter saving
+slots-kept op s saved openers h =
+    rw (
+      ne-eqb op 32 (λ e. apart 32 (omega arith) (omega arith) e h),
+      ne-eqb op 33 (λ e. apart 33 (omega arith) (omega arith) e h),
+      ne-eqb op 35 (λ e. apart 35 (omega arith) (omega arith) e h),
+    ) (refl, refl)
+  where
+    apart : (k : ℕ) → 32 ≤ k → k ≤ 36 → op ≡ k → (op < 32) ⊎ (36 < op) → ⊥
+    apart k l m e (inl x) = omega arith
+    apart k l m e (inr x) = omega arith
+
+module _ (s : State) (saved openers : List ℕ) where
+  is-entered : 0 < s .depth → topWord s openers ≡ s .row → entered s openers ≡ true
+  unfolding entered
+  is-entered h e = rw (lt-ltb 0 (s .depth) h, eq-eqb (topWord s openers) (s .row) e)
+
+  not-entered : (0 < s .depth → topWord s openers ≡ s .row → ⊥) → entered s openers ≡ false
+  unfolding entered
+  not-entered ne = by (ℕ-discrete (s .depth) 0) (ℕ-discrete (topWord s openers) (s .row))
+    where
+      by : Dec (s .depth ≡ 0) → Dec (topWord s openers ≡ s .row) → cond (ltb 0 (s .depth)) (eqb (topWord s openers) (s .row)) false ≡ false
+      by (yes d) q = ap (λ k. cond (ltb 0 k) (eqb (topWord s openers) (s .row)) false) d
+      by (no d) (yes e) = absurd (ne (omega arith) e)
+      by (no d) (no f) = rw (lt-ltb 0 (s .depth) (omega arith), ne-eqb (topWord s openers) (s .row) f)
+
+  -- the WHILE's own row is on top
+  pub enter-old : 0 < s .depth → s .depth ≤ 8 → topWord s openers ≡ s .row → EnteredWhile (s .depth) s saved openers saved openers
+  unfolding whileDepth savedAfter openersAfter saving
+  enter-old h k e =
+      let q = is-entered h e in
+      record { some = h; few = k; depth-is = rw q; saved-are = rw q; openers-are = rw q }
+
+  -- and is put there
+  pub enter-new : s .depth < 8 → (0 < s .depth → topWord s openers ≡ s .row → ⊥)
+      → EnteredWhile (s .depth + 1) s saved openers (set saved (s .depth) (s .mask)) (set openers (s .depth) (s .row))
+  unfolding whileDepth savedAfter openersAfter saving
+  enter-new k ne =
+      let q = not-entered ne in
+      record { some = omega arith; few = omega arith; depth-is = rw q; saved-are = rw q; openers-are = rw q }
+
+  on-top : ((0 < s .depth) × (topWord s openers ≡ s .row)) ⊎ (0 < s .depth → topWord s openers ≡ s .row → ⊥)
+  on-top = by (ℕ-discrete (s .depth) 0) (ℕ-discrete (topWord s openers) (s .row))
+    where
+      by : Dec (s .depth ≡ 0) → Dec (topWord s openers ≡ s .row)
+          → ((0 < s .depth) × (topWord s openers ≡ s .row)) ⊎ (0 < s .depth → topWord s openers ≡ s .row → ⊥)
+      by (yes d) q = inr (λ h e. omega arith)
+      by (no d) (yes e) = inl (let h : 0 < s .depth = omega arith in h, e)
+      by (no d) (no f) = inr (λ h e. f e)
+
+  -- What stands there for a state of the lock-step run.
+  module _ (n : ℕ) (z : LockState) (er : s .row ≡ z .row) (em : s .mask ≡ maskWord (z .enabled)) (on : length (z .enabled) ≡ n)
+      (ed : s .depth ≡ length (z .saved)) (S : Saves n (z .saved) saved openers) (ls : length saved ≡ 8) (lo : length openers ≡ 8) where
+    abbrev pub masks : List Saved
+    masks = savedAtWhile (z .row) (z .enabled) (z .saved)
+
+    abbrev pub Stood : (k : ℕ) → (saved′ openers′ : List ℕ) → Type 0
+    Stood k saved′ openers′ = (0 < k) × (k ≡ length masks) × Saves n masks saved′ openers′ × (length saved′ ≡ 8) × (length openers′ ≡ 8)
+
+    pub while-saves : RoomForWhile s openers → Stood (whileDepth s openers) (savedAfter 35 s saved openers) (openersAfter 35 s openers)
+    unfolding whileDepth savedAfter openersAfter saving
+    while-saves room = by on-top
+      where
+        apart : (0 < s .depth → topWord s openers ≡ s .row → ⊥) → (f : Saved) (w : List Saved) → z .saved ≡ f ∷ w → f .opener ≡ z .row → ⊥
+        apart ne f w p o =
+            let h : 0 < s .depth = omega (arith, ap length p) in
+            ne h (saves-back n (z .saved) saved openers (s .depth) ed h S ∙ ap topOpener p ∙ top-cons f w ∙ o ∙ sym er)
+
+        by : ((0 < s .depth) × (topWord s openers ≡ s .row)) ⊎ (0 < s .depth → topWord s openers ≡ s .row → ⊥)
+            → Stood (whileDepth s openers) (savedAfter 35 s saved openers) (openersAfter 35 s openers)
+        by (inl (h, e)) =
+            let q : masks ≡ z .saved = saved-old (z .row) (z .enabled) (z .saved) (omega arith)
+            (sym (saves-back n (z .saved) saved openers (s .depth) ed h S) ∙ e ∙ er) in
+            rw (is-entered h e) (h, ed ∙ sym (ap length q), subst (λ v. Saves n v saved openers) (sym q) S, ls, lo)
+        by (inr ne) =
+            let q : masks ≡ record { opener = z .row; mask = z .enabled } ∷ z .saved = saved-new (z .row) (z .enabled) (z .saved) (apart ne) in
+            let d = s .depth in
+            rw (not-entered ne) (
+              (let p : 0 < d + 1 = omega arith in p),
+              (let l : d + 1 ≡ suc (length (z .saved)) = omega arith in l ∙ sym (ap length q)),
+              subst (λ v. Saves n v (set saved d (s .mask)) (set openers d (s .row))) (sym q)
+                  (saves-push n (z .saved) saved openers d (s .mask) (s .row) (z .row) (z .enabled) ls lo ed (room-new s openers room ne) em on er S),
+              length-set saved d (s .mask) ∙ ls,
+              length-set openers d (s .row) ∙ lo,
+            )

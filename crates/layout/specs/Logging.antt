@@ -1,33 +1,33 @@
--- What the code's functions on the log ask and come to. Assumes nothing.
+-- What the code's functions on the log ask, and what they come to word by word. Assumes nothing.
 use mathlib.Core.Path.{_≡_}
 use mathlib.Core.List.{List}
-use Prim.Native.Nat.{ℕ, _*_, _^_, _<_, _≤_}
-use lib.ListN.{length}
+use mathlib.Core.Bool.{cond}
+use Prim.Native.Nat.{ℕ, _+_, _-_, _*_, _^_, _<_, _≤_}
+use lib.Bits.{bitAnd, bitOr}
+use lib.Dec.{eqb}
+use lib.ListN.{length, getD, set}
 use Rattle.spec.specs.declared.AccessKind.{AccessKind}
-use Rattle.spec.specs.Op.{Mem, MEM, opOf}
-use Rattle.spec.specs.Table.{kindOf}
-use Rattle.spec.specs.Mask.{maskWord}
-use Rattle.spec.specs.Log.{Log, logged, conflictMask, raceKind}
-use Rattle.layout.specs.Memory.{LogIs}
+use Rattle.spec.specs.declared.AccessKind.the-variants.{ReadWrite, WriteRead, WriteWrite}
 
--- For an access of cell i by op; the value that a store stores does not matter to them.
-abbrev pub ConflictIs : (op k i t : ℕ) → (log : List ℕ) → ℕ → Type 0
-ConflictIs op k i t log r =
-    (n v : ℕ) (m : Mem) (G : Log) → opOf op ≡ MEM m → n ≤ 32 → t < n → LogIs n k G log → r ≡ maskWord (conflictMask G i t (kindOf m v))
+-- What an access of cell i by op is tested against: a LOAD (16) looks at the cell's writers, a STORE at its writers and readers.
+unfoldable pub testedWord : (op k i : ℕ) → (log : List ℕ) → ℕ
+testedWord op k i log = cond (eqb op 16) (getD log (k + i) 0) (bitOr (getD log (k + i) 0) (getD log i 0))
 
--- The same by the thread's bit.
-abbrev pub ConflictBy : (op k i bit : ℕ) → (log : List ℕ) → ℕ → Type 0
-ConflictBy op k i bit log r = (t : ℕ) → t < 32 → bit ≡ 2 ^ t → ConflictIs op k i t log r
+-- The same without the bits of `bit`.
+unfoldable pub conflictWord : (op k i bit : ℕ) → (log : List ℕ) → ℕ
+conflictWord op k i bit log = bitAnd (testedWord op k i log) (4294967295 - bit)
 
-abbrev pub KindIs : (op k i u : ℕ) → (log : List ℕ) → AccessKind → Type 0
-KindIs op k i u log r = (n v : ℕ) (m : Mem) (G : Log) → opOf op ≡ MEM m → LogIs n k G log → r ≡ raceKind G i u (kindOf m v)
+-- The place of the word that an access enters: cell i's readers or its writers.
+unfoldable pub entryOf : (op k i : ℕ) → ℕ
+entryOf op k i = cond (eqb op 16) i (k + i)
 
-abbrev pub LoggedIs : (op k i t : ℕ) → (log log′ : List ℕ) → Type 0
-LoggedIs op k i t log log′ =
-    (n v : ℕ) (m : Mem) (G : Log) → opOf op ≡ MEM m → n ≤ 32 → t < n → LogIs n k G log → LogIs n k (logged G i t (kindOf m v)) log′
+-- The log with the bits of `bit` put in there.
+unfoldable pub enteredWords : (op k i bit : ℕ) → (log : List ℕ) → List ℕ
+enteredWords op k i bit log = set log (entryOf op k i) (bitOr (getD log (entryOf op k i) 0) bit)
 
-abbrev pub LoggedBy : (op k i bit : ℕ) → (log log′ : List ℕ) → Type 0
-LoggedBy op k i bit log log′ = (t : ℕ) → t < 32 → bit ≡ 2 ^ t → LoggedIs op k i t log log′
+-- The kind of a race with thread u: a STORE looks for its bit among the cell's writers.
+unfoldable pub kindWord : (op k i u : ℕ) → (log : List ℕ) → AccessKind
+kindWord op k i u log = cond (eqb op 16) WriteRead (cond (eqb (bitAnd (getD log (k + i) 0) (2 ^ u)) 0) ReadWrite WriteWrite)
 
 -- Where the log has room for the access.
 pub record LogAsks (op k i : ℕ) (log : List ℕ) : Type 0 where

@@ -1,15 +1,16 @@
 -- How the code's registers, cells and log stand for those of the lock-step run, and what a thread's turn and a row's turns do to them. Assumes nothing.
 use mathlib.Core.Path.{_≡_}
 use mathlib.Core.List.{List, [], _∷_}
-use mathlib.Core.Bool.{not}
-use Prim.Native.Nat.{ℕ, zero, suc, _+_, _*_, _<_, _≤_}
+use mathlib.Core.Bool.{Bool, true, cond, not}
+use Prim.Native.Nat.{ℕ, zero, suc, _+_, _-_, _*_, _/_, _%_, _^_, _<_, _≤_}
+use lib.Bits.{bitAnd}
+use lib.Dec.{eqb}
 use lib.ListN.{length, getD, set}
-use lib.Count.{ones}
-use Rattle.spec.specs.Mask.{Mask, maskWord, members, holding, nonzero}
+use Rattle.spec.specs.Mask.{Mask, maskWord, members, nonzero}
 use Rattle.spec.specs.Log.{Log, logWords}
 use Rattle.spec.specs.Op.{Calc, CALC, Mem, MEM, opOf, value}
 use Rattle.spec.specs.Table.{Row}
-use Rattle.spec.specs.LockStep.{LockState, Step, continues, stops, inTurn, computeTurn, accessTurn}
+use Rattle.spec.specs.LockStep.{LockState, Step, continues, stops, inTurn, accessTurn}
 use Rattle.spec.specs.Shape.{Shape}
 use Rattle.layout.specs.declared.Access.{Access}
 use Rattle.layout.specs.declared.Access.the-variants.{Done, Stop}
@@ -84,9 +85,9 @@ zeros a regs i (suc k) = not (nonzero (getD regs (a * 32 + i) 0)) ∷ zeros a re
 abbrev pub ZerosAre : (a : ℕ) (regs : List ℕ) (k z : ℕ) → Type 0
 ZerosAre a regs k z = z ≡ maskWord (zeros a regs 0 k)
 
--- Those of a mask whose register a is true.
-abbrev pub HoldingIs : (mask a : ℕ) → (regs : List ℕ) → ℕ → Type 0
-HoldingIs mask a regs r = (n : ℕ) (m : Mask) (rs : List (List ℕ)) → n ≤ 32 → mask ≡ maskWord m → length m ≡ n → Regs n rs regs → r ≡ maskWord (holding a m rs)
+-- The bits of a mask in whose lanes register a is not 0.
+unfoldable pub holdingWord : (mask a : ℕ) → (regs : List ℕ) → ℕ
+holdingWord mask a regs = bitAnd mask (4294967295 - maskWord (zeros a regs 0 32))
 
 -- What a computing row asks of its bytes: ops 1 to 3 read no register.
 pub record ComputeAsks (op d a b : ℕ) : Type 0 where
@@ -96,11 +97,37 @@ pub record ComputeAsks (op d a b : ℕ) : Type 0 where
   pub left : 4 ≤ op → a < 16
   pub right : 4 ≤ op → b < 16
 
--- What a computing row does; k is the constant of its bytes a and b.
-abbrev pub ComputeAll : (op n mask d a b k : ℕ) → (regs regs′ : List ℕ) → Type 0
-ComputeAll op n mask d a b k regs regs′ =
-    (c : Calc) (x : Row) → opOf op ≡ CALC c → x .d ≡ d → x .a ≡ a → x .b ≡ b → k ≡ a + 256 * b
-    → (cells log : List ℕ) → AllTurns (computeTurn x (λ t p q. value c n t (x .a) (x .b) p q)) n mask regs cells log Done (ones mask) regs′ cells log
+-- Lane t of register r.
+abbrev pub lane : ℕ → List ℕ → ℕ → ℕ
+lane r regs t = getD regs (r * 32 + t) 0
+
+-- Outside the first n lanes of register d every word is as it was.
+abbrev pub KeptBut : (d n : ℕ) → (regs regs′ : List ℕ) → Type 0
+KeptBut d n regs regs′ = (i : ℕ) → ((t : ℕ) → t < n → i ≡ d * 32 + t → ⊥) → getD regs′ i 0 ≡ getD regs i 0
+
+-- Of register d the first t lanes hold F, and all else is as it was.
+pub record Puts (d : ℕ) (F : ℕ → ℕ) (regs regs′ : List ℕ) (t : ℕ) : Type 0 where
+  pub few : t ≤ 32
+  pub size : length regs′ ≡ length regs
+  pub below : (j : ℕ) → j < t → lane d regs′ j ≡ F j
+  pub above : KeptBut d t regs regs′
+
+-- Whether a computing row stores to lane t: to all 32 where all n threads are enabled, else to those of the mask.
+unfoldable pub stored : (n mask t : ℕ) → Bool
+stored n mask t = cond (eqb mask (2 ^ n - 1)) true (eqb (mask / 2 ^ t % 2) 1)
+
+-- Lane t of register d after it.
+unfoldable pub computedLane : Calc → (n mask d a b : ℕ) → (regs : List ℕ) → ℕ → ℕ
+computedLane c n mask d a b regs t = cond (stored n mask t) (value c n t a b (lane a regs t) (lane b regs t)) (lane d regs t)
+
+-- What a computing row leaves in the registers, word by word.
+abbrev pub Computed : (op n mask d a b : ℕ) → (regs regs′ : List ℕ) → Type 0
+Computed op n mask d a b regs regs′ = (c : Calc) → opOf op ≡ CALC c → Puts d (computedLane c n mask d a b regs) regs regs′ 32
+
+-- Some state of the lock-step run stands in the buffers.
+pub record InMemory (n : ℕ) (regs cells log : List ℕ) : Type 0 where
+  pub state : LockState
+  pub memory : Memory n state regs cells log
 
 -- What an access row asks.
 pub record AccessAsks (op d a : ℕ) (cells log : List ℕ) : Type 0 where

@@ -13,8 +13,9 @@ use Rattle.spec.specs.Log.{logWords}
 use Rattle.spec.specs.LockStep.{LockState, runRow, LockResult, outcomeOf}
 use Rattle.layout.specs.declared.State.{State}
 use Rattle.layout.specs.declared.Next.{Next}
-use Rattle.layout.specs.Memory.{ComputeAsks, shapeBy}
-use Rattle.layout.specs.Represents.{Represents, After, Counts, Room, DepthAsks}
+use Rattle.layout.specs.Memory.{ComputeAsks, Computed, KeptBut, shapeBy}
+use Rattle.layout.specs.Represents.{Represents, Standing, After, Counts, Room, DepthAsks}
+use Rattle.layout.specs.Constructs.{savedAfter, openersAfter}
 
 -- What the bytes of a row ask.
 pub record RowAsks (op d a b : ℕ) : Type 0 where
@@ -24,13 +25,15 @@ pub record RowAsks (op d a b : ℕ) : Type 0 where
   pub whiles : op ≡ 35 → a < 16
   pub known : op ≤ 37
 
-pub record Ready (table : List ℕ) (n : ℕ) (s : State) (cells log openers : List ℕ) : Type 0 where
+-- What a step asks: a row of the table that its state and buffers suit.
+pub record Ready (table ends : List ℕ) (n : ℕ) (s : State) (regs cells log saved openers : List ℕ) : Type 0 where
   pub some : 1 ≤ n
-  pub few : n ≤ 32
   pub inside : s .row * 4 + 3 < length table
   pub room : Room s
   pub asks : RowAsks (getD table (s .row * 4) 0) (getD table (s .row * 4 + 1) 0) (getD table (s .row * 4 + 2) 0) (getD table (s .row * 4 + 3) 0)
   pub depths : DepthAsks (getD table (s .row * 4) 0) s openers
+  pub ends-right : rowAt (rowsOf table) (s .row) .op ≡ WHILE → getD ends (s .row) 0 ≡ endOf (rowsOf table) (s .row)
+  pub stands : Standing n s regs cells log saved openers
   pub twice : length log ≡ 2 * length cells
   pub cells-few : length cells ≤ 1024
 
@@ -47,14 +50,23 @@ AccessDone op n d a s regs cells log r regs′ cells′ log′ =
     → Represents n z s regs cells log saved openers
     → After n (runRow T (shapeBy n cells) x z (x .op)) r regs′ cells′ log′ saved openers)
 
--- What a step comes to.
-abbrev pub Steps : (table ends : List ℕ) (n : ℕ) (s : State) → (regs cells log saved openers : List ℕ) → (r : Next)
-    → (regs′ cells′ log′ saved′ openers′ : List ℕ) → Type 0
-Steps table ends n s regs cells log saved openers r regs′ cells′ log′ saved′ openers′ =
-    Counts s r × ((z : LockState) → s .row < length (rowsOf table)
-    → (rowAt (rowsOf table) (s .row) .op ≡ WHILE → getD ends (s .row) 0 ≡ endOf (rowsOf table) (s .row)) → Represents n z s regs cells log saved openers
-    → After n (runRow (rowsOf table) (shapeBy n cells) (rowAt (rowsOf table) (z .row)) z (rowAt (rowsOf table) (z .row) .op)) r regs′ cells′ log′
-    saved′ openers′)
+-- The registers after a row, by its op.
+pub record RegsAfter (op n mask d a b : ℕ) (regs regs′ : List ℕ) : Type 0 where
+  pub computed : op < 16 → Computed op n mask d a b regs regs′
+  pub accessed : 16 ≤ op → op < 32 → KeptBut d n regs regs′
+  pub kept : 32 ≤ op → regs′ ≡ regs
+
+-- What a step comes to: what the definition's row comes to from the state that stands, and every word that no such state shows.
+pub record Steps (table : List ℕ) (n : ℕ) (s : State) (regs cells log saved openers : List ℕ) (r : Next)
+    (regs′ cells′ log′ saved′ openers′ : List ℕ) : Type 0 where
+  pub counts : Counts s r
+  pub done : (z : LockState) → Represents n z s regs cells log saved openers
+      → After n (runRow (rowsOf table) (shapeBy n cells) (rowAt (rowsOf table) (z .row)) z (rowAt (rowsOf table) (z .row) .op)) r regs′ cells′ log′
+      saved′ openers′
+  pub regs-are : RegsAfter (getD table (s .row * 4) 0) n (s .mask) (getD table (s .row * 4 + 1) 0) (getD table (s .row * 4 + 2) 0)
+      (getD table (s .row * 4 + 3) 0) regs regs′
+  pub saved-are : saved′ ≡ savedAfter (getD table (s .row * 4) 0) s saved openers
+  pub openers-are : openers′ ≡ openersAfter (getD table (s .row * 4) 0) s openers
 
 -- What the run comes to: the answer, the cells and the log are those of the definition's result o.
 pub record RunIs (o : LockResult) (r : Outcome) (cells log : List ℕ) : Type 0 where

@@ -1,16 +1,16 @@
 -- One thread's access, by what it comes to: outside, a race, or made. Assumes nothing.
-use mathlib.Core.Path.{_≡_, refl, sym, _∙_, ap, ap₂, subst}
+use mathlib.Core.Path.{_≡_, refl, sym, _∙_, ap, ap₂, subst, subst₂}
 use mathlib.Core.Logic.{_⊎_, inl, inr}
 use mathlib.Core.List.{List, []}
 use mathlib.Core.Bool.{true, false, cond}
-use Prim.Native.Nat.{ℕ, _+_, _*_, _<_, _≤_}
+use Prim.Native.Nat.{ℕ, _+_, _*_, _^_, _<_, _≤_}
 use native.Mathlib.Omega.{arith}
 use native.Mathlib.Decide.{ℕ-discrete}
 use borrow.Author.Tests.{le-leb, lt-leb}
 use lib.Dec.{leb}
 use lib.Count.{trailingZeros}
 use lib.ListN.{length, getD, set, length-set}
-use lib.Seq.{set-getD}
+use lib.Seq.{set-getD, getD-set-other}
 use Rattle.spec.specs.declared.AccessKind.{AccessKind}
 use Rattle.spec.specs.declared.Verdict.the-variants.{Race, Outside}
 use Rattle.spec.specs.Access.{Kind, load, store, cellAfter, registersAfter}
@@ -23,12 +23,12 @@ use Rattle.spec.specs.LockStep.{LockState, Step, continues, stops, reg, madeAcc
 use Rattle.masks.proofs.Words.{any-none, any-some, lowest-is}
 use Rattle.layout.specs.declared.Access.{Access}
 use Rattle.layout.specs.declared.Access.the-variants.{Done, Stop}
-use Rattle.layout.specs.Memory.{Regs, LogIs, Memory, Did, stepsOf, Transferred, CellRegister}
+use Rattle.layout.specs.Memory.{Regs, LogIs, Memory, Did, stepsOf, KeptBut, Transferred, CellRegister}
 use Rattle.layout.proofs.Buffers.{regs-set}
-use Rattle.layout.specs.Logging.{ConflictIs, KindIs, LoggedIs}
+use Rattle.layout.specs.Logging.{conflictWord, kindWord, enteredWords}
 use Rattle.layout.proofs.LogBuffer.{conflict-size}
 use Rattle.layout.proofs.Turning.{kept-none}
-use Rattle.accesslog.proofs.LogTests.{mem-load, mem-store}
+use Rattle.accesslog.proofs.LogTests.{mem-load, mem-store, conflict-means, entered-means, kind-means}
 
 -- The two ops: a LOAD with its register, a STORE with its own.
 pub which : (op d a b : ℕ) (m : Mem) → 16 ≤ op → op ≤ 17 → opOf op ≡ MEM m → CellRegister op d a b
@@ -38,6 +38,20 @@ which op d a b m h l o r = by (ℕ-discrete op 16)
     by : Dec (op ≡ 16) → ((op ≡ 16) × (m ≡ LOAD) × (b ≡ a)) ⊎ ((op ≡ 16 → ⊥) × (m ≡ STORE) × (b ≡ d))
     by (yes e) = inl (e, mem-load op m e o, r .of-load e)
     by (no n) = inr (n, mem-store op m (omega arith) o, r .of-store n)
+
+-- An access stores to no register but its own lane of register d; what follows one another keeps what all keep.
+pub transfer-keeps : (op d t j from i : ℕ) (regs cells regs′ cells′ : List ℕ) → j ≡ t → Transferred op (d * 32 + j) from i regs cells regs′ cells′
+    → KeptBut d (t + 1) regs regs′
+transfer-keeps op d t j from i regs cells regs′ cells′ e T k off = by (ℕ-discrete op 16)
+  where
+    by : Dec (op ≡ 16) → getD regs′ k 0 ≡ getD regs k 0
+    by (yes q) =
+        ap (λ x. getD x k 0) (T .load-regs q)
+        ∙ getD-set-other regs (d * 32 + j) k (getD cells i 0) 0 (λ p. off t (omega arith) (p ∙ ap (λ x. d * 32 + x) e))
+    by (no f) = ap (λ x. getD x k 0) (T .store-regs f)
+
+pub keeps-on : (d n t : ℕ) (xs ys zs : List ℕ) → t < n → KeptBut d n xs ys → KeptBut d (t + 1) ys zs → KeptBut d n xs zs
+keeps-on d n t xs ys zs h K J i off = J i (λ j l e. off j (omega arith) e) ∙ K i off
 
 module _ (n t : ℕ) (s : LockState) (regs cells log : List ℕ) (M : Memory n s regs cells log) (h : t < n) where
   -- what the code reads at r * 32 + j is the thread's register
@@ -84,12 +98,12 @@ module _ (n t : ℕ) (s : LockState) (regs cells log : List ℕ) (M : Memory n s
         did (stops (Outside t i) s) _ regs cells log (turn-at ∙ rw (le-leb (length cells) i g))
         (record { answer = ap (λ z. Stop (Outside t z)) ev; memory = M; kept = kept-none s })
 
-    module _ (l : i < length cells) (w : ℕ) (C : ConflictIs op (length cells) i t log w) where
+    module _ (l : i < length cells) (bit w : ℕ) (eb : bit ≡ 2 ^ t) (C : w ≡ conflictWord op (length cells) i bit log) where
       abbrev others : Mask
       others = conflictMask (s .log) i t kind
 
       ew : w ≡ maskWord others
-      ew = C n (reg s t (x .a)) m (s .log) o (M .few) h log-here
+      ew = C ∙ conflict-means op (length cells) i log n (reg s t (x .a)) m (s .log) o p q l log-here (M .few) t bit h eb
 
       inside : turn ≡ cond (any others) (stops (Race t (lowest others) (raceKind (s .log) i (lowest others) kind) i) s) (continues (madeAccess s t d i kind))
       unfolding tryAccess
@@ -98,10 +112,10 @@ module _ (n t : ℕ) (s : LockState) (regs cells log : List ℕ) (M : Memory n s
       size : length others ≡ n
       size = conflict-size n (length (s .cells)) (s .log) log (M .log-is) i (omega (arith, cells-size)) t kind
 
-      pub race-did : (u v : ℕ) (k : AccessKind) → v ≡ i → (w ≡ 0 → ⊥) → u ≡ trailingZeros 32 w → KindIs op (length cells) i u log k
+      pub race-did : (u v : ℕ) (k : AccessKind) → v ≡ i → (w ≡ 0 → ⊥) → u ≡ trailingZeros 32 w → k ≡ kindWord op (length cells) i u log
           → Did n (stepsOf turn) s turn (Stop (Race t u k v)) regs cells log
       race-did u v k ev ne eu K =
-          let ek : k ≡ raceKind (s .log) i u kind = K n (reg s t (x .a)) m (s .log) o log-here in
+          let ek : k ≡ raceKind (s .log) i u kind = K ∙ kind-means op (length cells) i log n (reg s t (x .a)) m (s .log) o p q l log-here u in
           let some : any others ≡ true = any-some others (λ e. ne (ew ∙ e)) in
           let low : u ≡ lowest others = eu ∙ ap (trailingZeros 32) ew ∙ lowest-is others 32 (omega (arith, size, M .few)) some in
           did (stops (Race t (lowest others) (raceKind (s .log) i (lowest others) kind) i) s) _ regs cells log (inside ∙ rw some)
@@ -147,10 +161,11 @@ module _ (n t : ℕ) (s : LockState) (regs cells log : List ℕ) (M : Memory n s
               (unfold cellAfter in (T .store-cells e ∙ ap₂ (λ y z. set y i z) (M .cells-are) (reg-is a j (x .a) ej ea la)))
 
       pub made-did : (regs′ cells′ log′ : List ℕ) → w ≡ 0 → Transferred op (d * 32 + j) (a * 32 + j) i regs cells regs′ cells′
-          → LoggedIs op (length cells) i t log log′ → Did n (stepsOf turn) s turn Done regs′ cells′ log′
+          → log′ ≡ enteredWords op (length cells) i bit log → Did n (stepsOf turn) s turn Done regs′ cells′ log′
       made-did regs′ cells′ log′ z T E =
           let G : LogIs n (length (s .cells)) (logged (s .log) i t kind) log′ =
-          subst (λ k. LogIs n k (logged (s .log) i t kind) log′) cells-size (E n (reg s t (x .a)) m (s .log) o (M .few) h log-here) in
+          subst₂ (λ k g. LogIs n k (logged (s .log) i t kind) g) cells-size (sym E)
+          (entered-means op (length cells) i log n (reg s t (x .a)) m (s .log) o p q l log-here (M .few) t bit h eb) in
           let none : any others ≡ false = any-none others (sym ew ∙ z) in
           did (continues (madeAccess s t d i kind)) _ regs′ cells′ log′ (inside ∙ rw none)
           (record {

@@ -2,7 +2,7 @@
 ghost use mathlib.Core.Path.{_≡_};
 ghost use Prim.Native.Nat.{_+_, _*_, _^_, _<_, _≤_};
 ghost use lib.ListN.{length};
-ghost use Rattle.layout.specs.Memory.{AccessAsks, AccessOne, AccessAll, Transferred, CellRegister};
+ghost use Rattle.layout.specs.Memory.{AccessAsks, AccessOne, AccessAll, InMemory, KeptBut, Transferred, CellRegister};
 
 fn index(x: u32) -> usize
     ensures { λ r. ⌜ r ≡ x ⌝ }
@@ -51,7 +51,7 @@ fn access_one(
 ) -> layout::Access
     requires { ⌜ (t < 32) × AccessAsks op d a (now cells) (now log) × (bit ≡ 2 ^ t) ⌝ }
     ensures { λ r. ⌜ AccessOne op t d a (now (regs .entry)) (now (cells .entry)) (now (log .entry)) r
-        (now (regs .exit)) (now (cells .exit)) (now (log .exit)) ⌝ }
+        (now (regs .exit)) (now (cells .exit)) (now (log .exit)) × KeptBut d (t + 1) (now (regs .entry)) (now (regs .exit)) ⌝ }
 {
     let j = index(t);
     let b = cell_register(op, d, a);
@@ -83,9 +83,9 @@ pub fn access_row(
     d: usize,
     a: usize,
 ) -> layout::Turns
-    requires { ⌜ (n ≤ 32) × AccessAsks op d a (now cells) (now log) ⌝ }
+    requires { ⌜ (mask < 2 ^ n) × AccessAsks op d a (now cells) (now log) × InMemory n (now regs) (now cells) (now log) ⌝ }
     ensures { λ r. ⌜ (r .steps ≤ 32) × AccessAll op n mask d a (now (regs .entry)) (now (cells .entry)) (now (log .entry)) r
-        (now (regs .exit)) (now (cells .exit)) (now (log .exit)) ⌝ }
+        (now (regs .exit)) (now (cells .exit)) (now (log .exit)) × KeptBut d n (now (regs .entry)) (now (regs .exit)) ⌝ }
 {
     let mut m = mask;
     let mut t: u32 = 0;

@@ -36,7 +36,7 @@ const REFUSALS: [Refusal; COUNT] = [
 // Reads the number lines, from line 2 on, up to the first that is refused.
 pub fn read_numbers(file: &[u8], numbers: &mut [u32; COUNT]) -> Admission
     requires { ⌜ length (now numbers) ≡ lineCount ⌝ }
-    ensures { λ r. ⌜ NumbersRead (now (file .entry)) (now (numbers .exit)) r ⌝ }
+    ensures { λ r. ⌜ NumbersRead (now (file .entry)) (now (numbers .entry)) (now (numbers .exit)) r ⌝ }
 {
     let mut rest = file;
     let mut i = 0;

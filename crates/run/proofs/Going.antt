@@ -263,11 +263,10 @@ module _ (table ends : List ℕ) (n limit : ℕ) (cells₀ : List ℕ) (s : Stat
                   ∙ top-cons _ _ ∙ p ∙ sym (G .rep .row-is),
             )
 
-    pub go-ready : 1 ≤ n → n ≤ 32 → limit ≤ 1000000 → length log ≡ 2 * length cells → length cells ≤ 1024 → Ready table n s cells log openers
-    go-ready o l lim lg lc =
+    pub go-ready : 1 ≤ n → limit ≤ 1000000 → length log ≡ 2 * length cells → length cells ≤ 1024 → Ready table ends n s regs cells log saved openers
+    go-ready o lim lg lc =
         record {
           some = o;
-          few = l;
           inside = row-inside table (s .row) inside;
           room = record {
             row-few = omega (arith, A .few, inside);
@@ -281,6 +280,8 @@ module _ (table ends : List ℕ) (n limit : ℕ) (cells₀ : List ℕ) (s : Stat
             inside = λ h k u. closes (which _ h k u);
             opens-while = loops;
           };
+          ends-right = A .ends-are (s .row) inside;
+          stands = record { state = G .here; rep = G .rep };
           twice = lg;
           cells-few = lc;
         }
@@ -298,18 +299,18 @@ module _ (table ends : List ℕ) (n limit : ℕ) (cells₀ : List ℕ) (s : Stat
     sims = row-done T (well-formed T (A .accepted)) L (G .here) (G .frames) (G .group) (G .sim) (at-row inside)
 
     module _ (len : length cells ≡ length cells₀) (r : Next) (regs′ cells′ log′ saved′ openers′ : List ℕ)
-        (S : Steps table ends n s regs cells log saved openers r regs′ cells′ log′ saved′ openers′) where
+        (S : Steps table n s regs cells log saved openers r regs′ cells′ log′ saved′ openers′) where
       stepped : After n done r regs′ cells′ log′ saved′ openers′
       stepped =
           subst (λ k. After n (runRow T (record { threads = n; cells = k }) (rowAt T (G .here .row)) (G .here) (rowAt T (G .here .row) .op)) r regs′
           cells′ log′ saved′ openers′) len
-          (S .1 (G .here) inside (A .ends-are (s .row) inside) (G .rep))
+          (S .done (G .here) (G .rep))
 
       pub go-next : (s′ : State) → r ≡ next.Go s′ → Going table n limit cells₀ s′ regs′ cells′ log′ saved′ openers′
       go-next s′ e = by done stepped sims came
         where
           counted : Counted s s′
-          counted = subst (Counts s) e (S .0)
+          counted = subst (Counts s) e (S .counts)
 
           by : (o : Step) → After n o r regs′ cells′ log′ saved′ openers′ → RowDone T L (G .here) (G .group) o
               → resultOf o (runFrom T L (limit - (s .rows + 1))) ≡ lockstep T n cells₀ limit
@@ -344,4 +345,4 @@ module _ (table ends : List ℕ) (n limit : ℕ) (cells₀ : List ℕ) (s : Stat
 
       -- where the row stops, its number still fits
       pub go-stop-row : (v : Verdict) (s′ : State) → r ≡ next.Stop v s′ → s′ .row ≤ 256
-      go-stop-row v s′ e = let q : s′ .row ≡ s .row = subst (Counts s) e (S .0) in omega (arith, go-row)
+      go-stop-row v s′ e = let q : s′ .row ≡ s .row = subst (Counts s) e (S .counts) in omega (arith, go-row)

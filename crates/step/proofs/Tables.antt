@@ -20,6 +20,9 @@ rowBytes t r = record { op = opOf (getD t (r * 4) 0); d = getD t (r * 4 + 1) 0; 
 pub row-inside : (t : List ℕ) (r : ℕ) → r < length (rowsOf t) → r * 4 + 3 < length t
 row-inside t r h = omega (arith, rows-length t)
 
+pub inside-row : (t : List ℕ) (r : ℕ) → r * 4 + 3 < length t → r < length (rowsOf t)
+inside-row t r h = omega (arith, rows-length t)
+
 -- Ops 1 to 14 compute.
 abbrev codes : List Calc
 codes = SET ∷ TID ∷ COUNT ∷ ADD ∷ SUB ∷ MUL ∷ AND ∷ OR ∷ XOR ∷ SHR ∷ SAR ∷ EQ ∷ LT ∷ SLT ∷ []

@@ -1,7 +1,7 @@
 // One row of the run: the op is told apart, and the row's own function does it.
 ghost use mathlib.Core.Path.{_≡_};
-ghost use Prim.Native.Nat.{_+_, _*_, _<_, _≤_};
-ghost use Rattle.layout.specs.Memory.{AccessAsks};
+ghost use Prim.Native.Nat.{_^_, _<_, _≤_};
+ghost use Rattle.layout.specs.Memory.{AccessAsks, InMemory, KeptBut};
 ghost use Rattle.layout.specs.Represents.{Room, accessed};
 ghost use Rattle.layout.specs.Running.{AccessDone, Ready, Steps};
 
@@ -9,14 +9,6 @@ fn index(x: u8) -> usize
     ensures { λ r. ⌜ (r ≡ x) × (r < 256) ⌝ }
 {
     x as usize
-}
-
-// The constant of a SET row.
-fn constant(a: usize, b: usize) -> u32
-    requires { ⌜ (a < 256) × (b < 256) ⌝ }
-    ensures { λ r. ⌜ r ≡ a + 256 * b ⌝ }
-{
-    (a + 256 * b) as u32
 }
 
 // The state after a row's accesses: on to the next row, or stopped at this one.
@@ -52,9 +44,9 @@ fn access_row(
     a: usize,
     s: layout::State,
 ) -> layout::Next
-    requires { ⌜ Room s × (n ≤ 32) × AccessAsks op d a (now cells) (now log) ⌝ }
+    requires { ⌜ Room s × (s .mask < 2 ^ n) × AccessAsks op d a (now cells) (now log) × InMemory n (now regs) (now cells) (now log) ⌝ }
     ensures { λ r. ⌜ AccessDone op n d a s (now (regs .entry)) (now (cells .entry)) (now (log .entry)) r
-        (now (regs .exit)) (now (cells .exit)) (now (log .exit)) ⌝ }
+        (now (regs .exit)) (now (cells .exit)) (now (log .exit)) × KeptBut d n (now (regs .entry)) (now (regs .exit)) ⌝ }
 {
     after_access(memory::access_row(regs, cells, log, n, s.mask, op, d, a), s)
 }
@@ -71,8 +63,8 @@ pub fn step(
     openers: &mut [usize; 8],
     s: layout::State,
 ) -> layout::Next
-    requires { ⌜ Ready (now table) n s (now cells) (now log) (now openers) ⌝ }
-    ensures { λ r. ⌜ Steps (now (table .entry)) (now (ends .entry)) n s
+    requires { ⌜ Ready (now table) (now ends) n s (now regs) (now cells) (now log) (now saved) (now openers) ⌝ }
+    ensures { λ r. ⌜ Steps (now (table .entry)) n s
         (now (regs .entry)) (now (cells .entry)) (now (log .entry)) (now (saved .entry)) (now (openers .entry)) r
         (now (regs .exit)) (now (cells .exit)) (now (log .exit)) (now (saved .exit)) (now (openers .exit)) ⌝ }
 {
@@ -82,7 +74,7 @@ pub fn step(
     let a = index(table[row * 4 + 2]);
     let b = index(table[row * 4 + 3]);
     if op < 16 {
-        compute::compute_row(regs, n, s.mask, op, d, a, b, constant(a, b));
+        compute::compute_row(regs, n, s.mask, op, d, a, b);
         return layout::Next::Go(constructs::moved(s, masks::count(s.mask)));
     }
     if op < 32 {

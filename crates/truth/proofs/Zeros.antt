@@ -12,7 +12,7 @@ use lib.Seq.{drop-cons}
 use Rattle.spec.specs.Mask.{Mask, maskWord, minus, holding, nonzero}
 use Rattle.masks.proofs.Bits.{one-bit}
 use Rattle.masks.proofs.Words.{word-lt, word-minus}
-use Rattle.layout.specs.Memory.{Regs, zeros, ZerosAre}
+use Rattle.layout.specs.Memory.{Regs, zeros, ZerosAre, holdingWord}
 
 snoc : (m : Mask) (c : Bool) → maskWord (m ++ (c ∷ [])) ≡ maskWord m + cond c (2 ^ length m) 0
 unfolding maskWord
@@ -92,10 +92,9 @@ module _ (a : ℕ) (regs : List ℕ) where
         (without on (suc i) k (omega arith) (omega arith))
         ∙ sym (ap (holding a (b ∷ on)) (drop-cons rs i [] (omega (arith, R .threads))))
 
-    pub held : (mask z r : ℕ) (on : Mask) → n ≤ 32 → mask ≡ maskWord on → length on ≡ n → ZerosAre a regs 32 z → r ≡ bitAnd mask (4294967295 - z)
-        → r ≡ maskWord (holding a on rs)
-    held mask z r on few em el Z e =
-        e
-        ∙ ap₂ (λ (x y : ℕ). bitAnd x (4294967295 - y)) em Z
+    pub holding-means : (mask : ℕ) (on : Mask) → n ≤ 32 → mask ≡ maskWord on → length on ≡ n → holdingWord mask a regs ≡ maskWord (holding a on rs)
+    unfolding holdingWord
+    holding-means mask on few em el =
+        ap (λ (x : ℕ). bitAnd x (4294967295 - maskWord (zeros a regs 0 32))) em
         ∙ word-minus on (zeros a regs 0 32) 32 (omega (arith, el)) (omega (arith, zeros-size 0 32))
         ∙ ap maskWord (without on 0 32 (omega (arith, el)) (omega (arith, el)))

@@ -1,6 +1,7 @@
 // Which threads find a register true.
+ghost use mathlib.Core.Path.{_≡_};
 ghost use Prim.Native.Nat.{_<_};
-ghost use Rattle.layout.specs.Memory.{ZerosAre, HoldingIs};
+ghost use Rattle.layout.specs.Memory.{ZerosAre, holdingWord};
 
 // The lanes in which register a is 0, as a word: a straight loop over all 32.
 fn zero_lanes(regs: &[u32; 512], a: usize) -> u32
@@ -21,7 +22,7 @@ fn zero_lanes(regs: &[u32; 512], a: usize) -> u32
 // Those of the mask whose register a is nonzero.
 pub fn holding(regs: &[u32; 512], mask: u32, a: usize) -> u32
     requires { ⌜ a < 16 ⌝ }
-    ensures { λ r. ⌜ HoldingIs mask a (now (regs .entry)) r ⌝ }
+    ensures { λ r. ⌜ r ≡ holdingWord mask a (now (regs .entry)) ⌝ }
 {
     masks::minus(mask, zero_lanes(regs, a))
 }

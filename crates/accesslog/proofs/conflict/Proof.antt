@@ -1,20 +1,20 @@
 -- `accesslog::conflict` meets its contract. By the op. Assumes nothing.
-use mathlib.Core.Path.{refl}
-use native.Mathlib.Omega.{arith}
-use Rattle.accesslog.proofs.LogTests.{conflict-by-load, conflict-by-store}
+use Rattle.accesslog.proofs.LogTests.{tested-by-load, tested-by-store, conflict-by}
 use borrow.Author.Needs.{needs}
 use Rattle.accesslog.proofs.conflict.Statement.{statement}
 use Rattle.accesslog.proofs.conflict.Tie as tie
 
 returns : tie.Need-returns
 returns c =
-    let start = c .before .before .before .before in
-    conflict-by-load _ _ _ _ (start .pre .inside) _ _ _ (c .before .if1 .taken) refl (c .minus .ensures)
+    let args = c .before .before .before .before .args in
+    conflict-by (args .op) (args .cells) (args .i) (args .log .now) (args .bit) _ _
+    (tested-by-load (args .op) (args .cells) (args .i) (args .log .now) (c .before .if1 .taken)) (c .minus .ensures)
 
 returns-2 : tie.Need-returns-2
 returns-2 c =
-    let pre = c .before .before .before .before .before .pre in
-    conflict-by-store _ _ _ _ (pre .inside) _ _ _ (omega (arith, pre .known, pre .small)) refl (c .minus2 .ensures)
+    let args = c .before .before .before .before .before .args in
+    conflict-by (args .op) (args .cells) (args .i) (args .log .now) (args .bit) _ _
+    (tested-by-store (args .op) (args .cells) (args .i) (args .log .now) (c .before .before .if1 .left)) (c .minus2 .ensures)
 
 pub conflict-spec : {M : Type 1} → statement M
 conflict-spec =

@@ -1,7 +1,7 @@
 -- `compute::lanes_of` gives the lanes of a register. Assumes nothing.
 use Prim.Native.Nat.{_-_}
 use Rattle.lanes.specs.Lanes.{Filled}
-use Rattle.compute.specs.RowLanes.{lane}
+use Rattle.layout.specs.Memory.{lane}
 use Rattle.lanes.proofs.Filling.{filling}
 use Rattle.compute.proofs.lanes_of.Statement.{statement}
 use Rattle.compute.proofs.lanes_of.Tie as tie

@@ -2,7 +2,8 @@
 use mathlib.Core.Path.{_∙_}
 use mathlib.Core.Logic.{⊎-elim}
 use Prim.Native.Nat.{_-_}
-use Rattle.compute.specs.RowLanes.{Puts, picked}
+use Rattle.layout.specs.Memory.{Puts}
+use Rattle.compute.specs.RowLanes.{picked}
 use Rattle.compute.proofs.Putting.{putting, puts-more, puts-old, given-on, given-off}
 use Rattle.compute.proofs.put.Statement.{statement}
 use Rattle.compute.proofs.put.Tie as tie
@@ -19,7 +20,7 @@ loop-again c =
     let args = c .before .before .before .before .args in
     let regs = args .regs .now in
     let F = picked (args .t3) (args .t4) (args .d) regs in
-    puts-more (args .d) F regs (turn .regs) (turn .t) (turn .inv) (c .if1 .regs) (search putting) (search putting)
+    puts-more (args .d) F regs (turn .regs) (turn .t) (turn .inv) (c .if1 .regs) (search putting) (search putting) (search putting)
     (⊎-elim
     (λ w. w .1 ∙ given-on _ (args .t3) (args .d) regs (turn .t) (w .0 .taken))
     (λ w. w .1 ∙ puts-old (args .d) F regs (turn .regs) (turn .t) (turn .inv) ∙ given-off _ (args .t3) (args .d) regs (turn .t) (w .0 .left))

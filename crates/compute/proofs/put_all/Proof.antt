@@ -1,7 +1,7 @@
 -- `compute::put_all` stores every lane. Assumes nothing.
 use Prim.Native.Nat.{_-_}
 use lib.ListN.{getD}
-use Rattle.compute.specs.RowLanes.{Puts}
+use Rattle.layout.specs.Memory.{Puts}
 use Rattle.compute.proofs.Putting.{putting}
 use Rattle.compute.proofs.put_all.Statement.{statement}
 use Rattle.compute.proofs.put_all.Tie as tie

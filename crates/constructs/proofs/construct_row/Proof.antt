@@ -2,7 +2,7 @@
 use mathlib.Core.Path.{_≡_}
 use Prim.Native.Nat.{ℕ, _≤_}
 use native.Mathlib.Omega.{arith}
-use Rattle.constructs.proofs.Arms.{if-arm, else-arm, endif-arm, while-arm, endwhile-arm, is-while}
+use Rattle.constructs.proofs.Words.{by-if, by-else, by-endif, by-while, by-endwhile}
 use Rattle.constructs.proofs.construct_row.Statement.{statement}
 use Rattle.constructs.proofs.construct_row.Tie as tie
 
@@ -42,60 +42,36 @@ endwhile-row-requires c κs =
 
 returns : tie.Need-returns
 returns c =
-    let arm = c .before .before .before .match in
     let args = c .before .before .before .before .args in
-    let o = c .if-row in (
-      o .ensures .0,
-      λ n cells log T L x z q ea ee R. if-arm n T L x z (args .op) q (args .regs .now) cells log (o .last .1 .0)
-          (o .last .1 .1 .0) (args .a) (o .result) (arm .keys1) ea (o .ensures .1 n cells log z R),
-    )
+    by-if (args .op) (args .a) (args .end) (args .regs .now) (args .s) (args .saved .now) (args .openers .now) (c .before .before .before .match .keys1)
+    (c .if-row .ensures)
 
 returns-2 : tie.Need-returns-2
 returns-2 c =
-    let arm = c .before .before .before .match in
     let args = c .before .before .before .before .args in
-    let regs = args .regs .now in
-    let o = c .else-row in (
-      (o .ensures regs) .0,
-      λ n cells log T L x z q ea ee R. else-arm n T L x z (args .op) q regs cells log (args .saved .now)
-          (o .last .1 .0) (o .result) (arm .keys2) ((o .ensures regs) .1 n cells log z R),
-    )
+    by-else (args .op) (args .a) (args .end) (args .regs .now) (args .s) (args .saved .now) (args .openers .now) (c .before .before .before .match .keys2)
+    (c .else-row .ensures)
 
 returns-3 : tie.Need-returns-3
 returns-3 c =
     let args = c .before .before .before .args in
-    let regs = args .regs .now in
-    let openers = args .openers .now in
-    let o = c .endif-row in (
-      (o .ensures regs openers) .0,
-      λ n cells log T L x z q ea ee R. endif-arm n T L x z (args .op) q regs cells log (args .saved .now)
-          openers (o .result) (c .before .before .match .keys3) ((o .ensures regs openers) .1 n cells log z R),
-    )
+    by-endif (args .op) (args .a) (args .end) (args .regs .now) (args .s) (args .saved .now) (args .openers .now) (c .before .before .match .keys3)
+    (c .endif-row .ensures)
 
 returns-4 : tie.Need-returns-4
 returns-4 c =
-    let arm = c .before .before .before .match in
     let args = c .before .before .before .before .args in
-    let o = c .while-row in (
-      o .ensures .0,
-      λ n cells log T L x z q ea ee R. while-arm n T L x z (args .op) q (args .regs .now) cells log (o .last .1 .0)
-          (o .last .1 .1 .0) (args .a) (o .result) (arm .keys4) ea (o .ensures .1 n T cells log z (ee (is-while (x .op) (args .op) q (arm .keys4))) R),
-    )
+    by-while (args .op) (args .a) (args .end) (args .regs .now) (args .s) (args .saved .now) (args .openers .now) (c .before .before .before .match .keys4)
+    (c .while-row .ensures)
 
 returns-5 : tie.Need-returns-5
 returns-5 c =
     let start = c .before .before .before in
     let args = start .args in
-    let regs = args .regs .now in
-    let saved = args .saved .now in
     let pre = start .pre in
-    let o = c .endwhile-row in
     let r = c .before .before .match .rest in
-    let e : args .op ≡ 36 = last (args .op) (pre .2) (pre .3) (r .0 .0 .0 .1) (r .0 .0 .1) (r .0 .1) (r .1) in (
-      (o .ensures regs saved) .0,
-      λ n cells log T L x z q ea ee R. endwhile-arm n T L x z (args .op) q regs cells log saved
-          (args .openers .now) (o .result) e ((o .ensures regs saved) .1 n cells log z R),
-    )
+    let e : args .op ≡ 36 = last (args .op) (pre .2) (pre .3) (r .0 .0 .0 .1) (r .0 .0 .1) (r .0 .1) (r .1) in
+    by-endwhile (args .op) (args .a) (args .end) (args .regs .now) (args .s) (args .saved .now) (args .openers .now) e (c .endwhile-row .ensures)
 
 pub construct-row-spec : {M : Type 1} → statement M
 construct-row-spec =

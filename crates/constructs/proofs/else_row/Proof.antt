@@ -1,7 +1,9 @@
 -- `constructs::else_row` meets its contract. Assumes nothing.
-use mathlib.Core.Path.{refl}
+use mathlib.Core.Path.{refl, ap₂}
+use Prim.Native.Nat.{_+_}
 use native.Mathlib.Omega.{arith}
-use Rattle.constructs.proofs.Rows.{else-done}
+use Rattle.layout.specs.Represents.{goneOn}
+use Rattle.layout.proofs.PlainRows.{counted-gone}
 use borrow.Author.Needs.{needs}
 use Rattle.constructs.proofs.else_row.Statement.{statement}
 use Rattle.constructs.proofs.else_row.Tie as tie
@@ -12,14 +14,10 @@ add-t17 c = omega (arith, c .before .before .before .before .before .pre .0, c .
 returns : tie.Need-returns
 returns c =
     let count = c .before .count in
-    let minus = c .before .before .before .minus in
-    let start = c .before .before .before .before .before in
-    let args = start .args in
-    let pre = start .pre in
-    λ regs. (
-      record { rows-one = refl; steps-some = omega (arith, count .ensures); barriers-one = omega arith },
-      λ n cells log z R. else-done n z (args .s) regs cells log (args .saved .now) (args .openers .now) R (minus .result) (count .result) (args .s .depth)
-          (args .s .row) (args .s .mask) _ refl refl refl (pre .1) (pre .2) refl (minus .ensures) (count .ensures .0),
+    let s = c .before .before .before .before .before .args .s in (
+      counted-gone s _ _ _ (count .result) (count .ensures .1),
+      ap₂ (λ h k. goneOn s (s .row + 1) h (s .depth) k) (c .before .before .before .minus .ensures) (count .ensures .0),
+      refl,
     )
 
 pub else-row-spec : {M : Type 1} → statement M

@@ -1,7 +1,9 @@
 -- `constructs::endif_row` meets its contract. Assumes nothing.
-use mathlib.Core.Path.{refl}
+use mathlib.Core.Path.{ap}
+use Prim.Native.Nat.{_+_, _-_}
 use native.Mathlib.Omega.{arith}
-use Rattle.constructs.proofs.Rows.{endif-done}
+use Rattle.layout.specs.Represents.{goneOn}
+use Rattle.layout.proofs.PlainRows.{counted-gone}
 use borrow.Author.Needs.{needs}
 use Rattle.constructs.proofs.endif_row.Statement.{statement}
 use Rattle.constructs.proofs.endif_row.Tie as tie
@@ -12,13 +14,8 @@ add-t11 c = omega (arith, c .before .before .before .before .before .pre .0, c .
 returns : tie.Need-returns
 returns c =
     let count = c .before .count in
-    let start = c .before .before .before .before .before in
-    let args = start .args in
-    λ regs openers. (
-      record { rows-one = refl; steps-some = omega (arith, count .ensures); barriers-one = omega arith },
-      λ n cells log z R. endif-done n z (args .s) regs cells log (args .saved .now) openers R (count .result) (args .s .depth) (args .s .row) _ refl refl
-          (start .pre .1) refl (count .ensures .0),
-    )
+    let s = c .before .before .before .before .before .args .s in
+    (counted-gone s _ _ _ (count .result) (count .ensures .1), ap (goneOn s (s .row + 1) _ (s .depth - 1)) (count .ensures .0))
 
 pub endif-row-spec : {M : Type 1} → statement M
 endif-row-spec =

@@ -1,5 +1,5 @@
 -- `constructs::enter_while` meets its contract. Assumes nothing.
-use mathlib.Core.Path.{_≡_, refl}
+use mathlib.Core.Path.{_≡_}
 use Prim.Native.Nat.{_<_, _-_}
 use native.Mathlib.Omega.{arith}
 use mathlib.Core.Logic.{⊎-elim}
@@ -48,7 +48,7 @@ add-result c = let l = new-room c in omega arith
 returns-2 : tie.Need-returns-2
 returns-2 c =
     let args = c .before .args in
-    enter-new (args .s) (args .saved .now) (args .openers .now) (args .s .depth) (args .s .mask) (args .s .row) refl refl refl (new-room c) (apart c)
+    enter-new (args .s) (args .saved .now) (args .openers .now) (new-room c) (apart c)
 
 pub enter-while-spec : {M : Type 1} → statement M
 enter-while-spec =

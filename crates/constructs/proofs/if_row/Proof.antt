@@ -1,7 +1,9 @@
 -- `constructs::if_row` meets its contract. Assumes nothing.
-use mathlib.Core.Path.{refl}
+use mathlib.Core.Path.{refl, ap₂}
+use Prim.Native.Nat.{_+_}
 use native.Mathlib.Omega.{arith}
-use Rattle.constructs.proofs.Rows.{if-done}
+use Rattle.layout.specs.Represents.{goneOn}
+use Rattle.layout.proofs.PlainRows.{counted-gone}
 use borrow.Author.Needs.{needs}
 use Rattle.constructs.proofs.if_row.Statement.{statement}
 use Rattle.constructs.proofs.if_row.Tie as tie
@@ -12,13 +14,11 @@ add-t18 c = omega (arith, c .before .before .before .before .pre .0, c .before .
 returns : tie.Need-returns
 returns c =
     let count = c .before .count in
-    let holding = c .before .before .before .holding in
-    let start = c .before .before .before .before in
-    let args = start .args in (
-      record { rows-one = refl; steps-some = omega (arith, count .ensures); barriers-one = omega arith },
-      λ n cells log z R. if-done n z (args .s) (args .regs .now) cells log (args .saved .now) (args .openers .now) R (args .a) (holding .result)
-          (count .result) (args .s .depth) (args .s .row) (args .s .mask) refl refl refl (start .pre .2)
-          (holding .ensures n (z .enabled) (z .regs) (R .memory .few) (R .enabled-is) (R .enabled-size) (R .memory .regs-are)) (count .ensures .0),
+    let s = c .before .before .before .before .args .s in (
+      counted-gone s _ _ _ (count .result) (count .ensures .1),
+      ap₂ (λ h k. goneOn s (s .row + 1) h (s .depth + 1) k) (c .before .before .before .holding .ensures) (count .ensures .0),
+      refl,
+      refl,
     )
 
 pub if-row-spec : {M : Type 1} → statement M

@@ -1,7 +1,7 @@
 -- `constructs::while_row` meets its contract. Assumes nothing.
-use mathlib.Core.Path.{refl}
 use native.Mathlib.Omega.{arith}
-use Rattle.constructs.proofs.Rows.{while-stays, while-leaves}
+use Rattle.layout.proofs.PlainRows.{counted-gone}
+use Rattle.constructs.proofs.Words.{while-left, while-stayed}
 use borrow.Author.Needs.{needs}
 use Rattle.constructs.proofs.while_row.Statement.{statement}
 use Rattle.constructs.proofs.while_row.Tie as tie
@@ -17,13 +17,13 @@ returns c =
     let none-stay = c .before .before .before .if1 .taken in
     let holding = c .before .before .before .before .holding in
     let count = c .before .before .before .before .before .count in
-    let enter-while = c .before .before .before .before .before .before .enter-while in
+    let E = c .before .before .before .before .before .before .enter-while .ensures in
     let args = c .before .before .before .before .before .before .before .before .before .args in (
-      record { rows-one = refl; steps-some = omega (arith, count .ensures); barriers-one = omega arith },
-      λ n T cells log z ee R. while-leaves n z (args .s) (args .regs .now) cells log (args .saved .now) (args .openers .now) R T (args .a)
-          (holding .result) (count .result) (enter-while .result) (args .s .mask) (enter-while .last .0) (enter-while .last .1 .0) (enter-while .ensures)
-          refl (holding .ensures n (z .enabled) (z .regs) (R .memory .few) (R .enabled-is) (R .enabled-size) (R .memory .regs-are))
-          (count .ensures .0) (args .end) _ ee none-stay refl,
+      counted-gone (args .s) _ _ _ (count .result) (count .ensures .1),
+      while-left (args .s) (args .saved .now) (args .openers .now) E (args .a) (args .end) (args .regs .now) (holding .result) (count .result)
+          (holding .ensures) (count .ensures .0) none-stay,
+      E .saved-are,
+      E .openers-are,
     )
 
 add-t24 : tie.Need-add-t24
@@ -36,13 +36,13 @@ returns-2 : tie.Need-returns-2
 returns-2 c =
     let holding = c .before .before .before .holding in
     let count = c .before .before .before .before .count in
-    let enter-while = c .before .before .before .before .before .enter-while in
+    let E = c .before .before .before .before .before .enter-while .ensures in
     let args = c .before .before .before .before .before .before .before .before .args in (
-      record { rows-one = refl; steps-some = omega (arith, count .ensures); barriers-one = omega arith },
-      λ n T cells log z ee R. while-stays n z (args .s) (args .regs .now) cells log (args .saved .now) (args .openers .now) R T (args .a)
-          (holding .result) (count .result) (enter-while .result) (args .s .mask) (enter-while .last .0) (enter-while .last .1 .0) (enter-while .ensures)
-          refl (holding .ensures n (z .enabled) (z .regs) (R .memory .few) (R .enabled-is) (R .enabled-size) (R .memory .regs-are))
-          (count .ensures .0) (args .s .row) refl (c .before .before .if1 .left),
+      counted-gone (args .s) _ _ _ (count .result) (count .ensures .1),
+      while-stayed (args .s) (args .saved .now) (args .openers .now) E (args .a) (args .end) (args .regs .now) (holding .result) (count .result)
+          (holding .ensures) (count .ensures .0) (c .before .before .if1 .left),
+      E .saved-are,
+      E .openers-are,
     )
 
 pub while-row-spec : {M : Type 1} → statement M

@@ -3,7 +3,7 @@ use mathlib.Core.Path.{_∙_, ap}
 use Prim.Native.Nat.{_-_}
 use native.Mathlib.Omega.{arith}
 use borrow.Author.Needs.{needs}
-use Rattle.filelines.specs.Values.{rowIn}
+use Rattle.filelines.specs.Values.{bytesIn}
 use Rattle.contents.proofs.RowLoop.{RowsGoing, rows-start, rows-more, rows-stop, rows-end}
 use Rattle.contents.proofs.read_rows.Statement.{statement}
 use Rattle.contents.proofs.read_rows.Tie as tie
@@ -22,7 +22,7 @@ returns c =
     let at-row-line = c .before .before in
     let in-loop = at-row-line .before in
     let at-loop = in-loop .before in
-    rows-stop (at-loop .loop .inv) (in-loop .loop-test .taken) (at-row-line .row-line .ensures ∙ ap rowIn (c .enum-told .given .1))
+    rows-stop (at-loop .loop .inv) (in-loop .loop-test .taken) (at-row-line .row-line .ensures ∙ ap bytesIn (c .enum-told .given .1))
 
 put-row-requires : tie.Need-put-row-requires Inv-loop μ-loop
 put-row-requires c κs = omega arith
@@ -42,7 +42,7 @@ loop-again c =
     let at-loop = in-loop .before in
     let start = at-loop .before .before in
     rows-more (at-loop .loop .inv) (start .pre .0) (in-loop .loop-test .taken) _ _ _ _
-    (at-row-line .row-line .ensures ∙ ap rowIn (at-op .op .given .1)) (at-put-row .put-row .ensures) (c .next .ensures)
+    (at-row-line .row-line .ensures ∙ ap bytesIn (at-op .op .given .1)) (at-put-row .put-row .ensures) (c .next .ensures)
 
 returns-2 : tie.Need-returns-2 Inv-loop μ-loop
 returns-2 c = rows-end (c .before .loop .inv) (c .loop-test .left)

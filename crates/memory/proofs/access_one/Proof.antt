@@ -1,7 +1,7 @@
 -- `memory::access_one` meets its contract. Assumes nothing.
-use mathlib.Core.Path.{sym}
+use mathlib.Core.Path.{refl, sym}
 use native.Mathlib.Omega.{arith}
-use Rattle.memory.proofs.Accesses.{outside-did, race-did, made-did}
+use Rattle.memory.proofs.Accesses.{transfer-keeps, outside-did, race-did, made-did}
 use borrow.Author.Needs.{needs}
 use Rattle.memory.proofs.access_one.Statement.{statement}
 use Rattle.memory.proofs.access_one.Tie as tie
@@ -13,12 +13,14 @@ returns c =
     let thread = c .before .before .before .before .index in
     let start = c .before .before .before .before .before .before .before in
     let args = start .args in
-    let pre = start .pre .1 in
-    λ n m x o h ed ea s M.
-    outside-did n (args .t) s (args .regs .now) (args .cells .now) (args .log .now) M h (args .op) (args .d) (args .a) (register .result)
-    (thread .result) (cell .result) m x o
-    (pre .known) (pre .small) (register .ensures) ed ea (pre .target) (pre .source) (thread .ensures) (cell .ensures)
-    _ (sym (cell .ensures)) (c .if1 .taken)
+    let pre = start .pre .1 in (
+      λ n m x o h ed ea s M.
+          outside-did n (args .t) s (args .regs .now) (args .cells .now) (args .log .now) M h (args .op) (args .d) (args .a) (register .result)
+          (thread .result) (cell .result) m x o
+          (pre .known) (pre .small) (register .ensures) ed ea (pre .target) (pre .source) (thread .ensures) (cell .ensures)
+          _ (sym (cell .ensures)) (c .if1 .taken),
+      λ i off. refl,
+    )
 
 returns-2 : tie.Need-returns-2
 returns-2 c =
@@ -31,13 +33,16 @@ returns-2 c =
     let thread = at-enter .before .before .before .before .before .before .before .before .before .index in
     let start = at-enter .before .before .before .before .before .before .before .before .before .before .before .before in
     let args = start .args in
-    let pre = start .pre in
-    λ n m x o h ed ea s M.
-    made-did n (args .t) s (args .regs .now) (args .cells .now) (args .log .now) M h (args .op) (args .d) (args .a) (register .result)
-    (thread .result) (cell .result) m x o
-    (pre .1 .known) (pre .1 .small) (register .ensures) ed ea (pre .1 .target) (pre .1 .source) (thread .ensures) (cell .ensures)
-    within (conflict .result) (conflict .ensures (args .t) (pre .0) (pre .2)) _ _ _ no-foe (c .before .before .transfer .ensures)
-    (at-enter .enter .ensures (args .t) (pre .0) (pre .2))
+    let pre = start .pre in (
+      λ n m x o h ed ea s M.
+          made-did n (args .t) s (args .regs .now) (args .cells .now) (args .log .now) M h (args .op) (args .d) (args .a) (register .result)
+          (thread .result) (cell .result) m x o
+          (pre .1 .known) (pre .1 .small) (register .ensures) ed ea (pre .1 .target) (pre .1 .source) (thread .ensures) (cell .ensures)
+          within (args .bit) (conflict .result) (pre .2) (conflict .ensures) _ _ _ no-foe (c .before .before .transfer .ensures)
+          (at-enter .enter .ensures),
+      transfer-keeps (args .op) (args .d) (args .t) (thread .result) _ (cell .result) (args .regs .now) (args .cells .now) _ _ (thread .ensures)
+          (c .before .before .transfer .ensures),
+    )
 
 race-kind-requires : tie.Need-race-kind-requires
 race-kind-requires c κs =
@@ -57,13 +62,15 @@ returns-3 c =
     let thread = c .before .before .before .before .before .before .before .before .before .before .index in
     let start = c .before .before .before .before .before .before .before .before .before .before .before .before .before in
     let args = start .args in
-    let pre = start .pre in
-    λ n m x o h ed ea s M.
-    race-did n (args .t) s (args .regs .now) (args .cells .now) (args .log .now) M h (args .op) (args .d) (args .a) (register .result)
-    (thread .result) (cell .result) m x o
-    (pre .1 .known) (pre .1 .small) (register .ensures) ed ea (pre .1 .target) (pre .1 .source) (thread .ensures) (cell .ensures)
-    within (conflict .result) (conflict .ensures (args .t) (pre .0) (pre .2)) _ _ _ (sym (cell .ensures)) a-foe
-    (c .before .before .lowest .ensures .0) (c .race-kind .ensures)
+    let pre = start .pre in (
+      λ n m x o h ed ea s M.
+          race-did n (args .t) s (args .regs .now) (args .cells .now) (args .log .now) M h (args .op) (args .d) (args .a) (register .result)
+          (thread .result) (cell .result) m x o
+          (pre .1 .known) (pre .1 .small) (register .ensures) ed ea (pre .1 .target) (pre .1 .source) (thread .ensures) (cell .ensures)
+          within (args .bit) (conflict .result) (pre .2) (conflict .ensures) _ _ _ (sym (cell .ensures)) a-foe
+          (c .before .before .lowest .ensures .0) (c .race-kind .ensures),
+      λ i off. refl,
+    )
 
 pub access-one-spec : {M : Type 1} → statement M
 access-one-spec =

@@ -1,16 +1,17 @@
 -- `memory::access_row` does the turns of the enabled threads, one after the other. Assumes nothing.
 use borrow.Author.Needs.{needs}
-use mathlib.Core.Path.{_≡_, refl, ap, _∙_, subst}
+use mathlib.Core.Path.{_≡_, refl, sym, ap, _∙_, subst}
 use mathlib.Core.Logic.{⊎-elim}
-use Prim.Native.Nat.{_-_, _^_, _≤_, _<_}
+use Prim.Native.Nat.{_+_, _-_, _^_, _≤_, _<_}
 use native.Mathlib.Omega.{arith}
 use lib.ListN.{length}
 use Rattle.spec.specs.Op.{Mem, MEM, opOf}
 use Rattle.spec.specs.Table.{Row}
 use Rattle.spec.specs.LockStep.{accessTurn}
-use Rattle.layout.specs.Memory.{OneTurn, shapeBy}
+use Rattle.layout.specs.Memory.{OneTurn, KeptBut, shapeBy}
 use Rattle.layout.proofs.Turning.{Turns, turn-start, turn-whole, go-in, go-out, go-stop}
 use Rattle.masks.proofs.Bits.{next-bit}
+use Rattle.memory.proofs.Accesses.{keeps-on}
 use Rattle.memory.proofs.access_row.Statement.{statement}
 use Rattle.memory.proofs.access_row.Tie as tie
 
@@ -19,7 +20,7 @@ Inv-loop regs₀ cells₀ log₀ n mask op d a m₀ t₀ k₀ bit₀ regs cells 
     (t ≤ n) × (k ≤ t) × (length cells ≡ length cells₀) × (length log ≡ length log₀)
     × ((y : Mem) (x : Row) → opOf op ≡ MEM y → x .d ≡ d → x .a ≡ a
     → Turns (accessTurn (shapeBy n cells₀) y x) n mask regs₀ cells₀ log₀ k t m regs cells log)
-    × (t < 32 → bit ≡ 2 ^ t)
+    × (t < 32 → bit ≡ 2 ^ t) × KeptBut d n regs₀ regs
 
 abbrev μ-loop : tie.MeasureT-loop
 μ-loop regs₀ cells₀ log₀ n mask op d a m₀ t₀ k₀ bit₀ regs cells log m t k bit = n - t
@@ -35,13 +36,14 @@ loop-holds c =
       λ y x o ed ea s e l M.
           turn-start (accessTurn (shapeBy (args .n) memory) y x) (args .n) s (args .mask) (args .regs .now) memory (args .log .now) e l M,
       λ h. refl,
+      λ i off. refl,
     )
 
 access-one-requires : tie.Need-access-one-requires Inv-loop μ-loop
 access-one-requires c κs =
     let turn = c .before .before .before .before .before .loop in
     let pre = c .before .before .before .before .before .before .before .before .pre in (
-      omega (arith, pre .0),
+      omega (arith, pre .2 .memory .few),
       record {
         known = pre .1 .known;
         small = pre .1 .small;
@@ -50,7 +52,7 @@ access-one-requires c κs =
         twice = omega (arith, turn .inv .2, turn .inv .3, pre .1 .twice);
         cells-few = omega (arith, turn .inv .2, pre .1 .cells-few);
       },
-      turn .inv .5 (omega (arith, pre .0)),
+      turn .inv .5 (omega (arith, pre .2 .memory .few)),
     )
 
 same-length : tie.Need-same-length Inv-loop μ-loop
@@ -74,14 +76,15 @@ returns c =
     let start = c .before .before .before .before .before .before .before .before .before .before .before .before .before .before .before .before in
     let args = start .args in
     let memory = args .cells .now in (
-      omega (arith, turn .inv .0, turn .inv .1, start .pre .0),
+      omega (arith, turn .inv .0, turn .inv .1, start .pre .2 .memory .few),
       λ y x o ed ea s e q M.
           go-stop (accessTurn (shapeBy (args .n) memory) y x) (args .n) s (turn .k) (turn .t) (turn .m) (turn .regs)
           (turn .cells) (turn .log) (turn .inv .4 y x o ed ea s e q M) (access-one .result) _ (access-one .last .0) (access-one .last .1 .0)
           (access-one .last .1 .1 .0) some-left enabled
           (subst (λ k. OneTurn (accessTurn (record { threads = args .n; cells = k }) y x) (args .n) (turn .t) (turn .regs) (turn .cells) (turn .log)
           (access-one .result) (access-one .last .0) (access-one .last .1 .0) (access-one .last .1 .1 .0)) (turn .inv .2)
-          (access-one .ensures (args .n) y x o some-left ed ea)) (c .before .v .given .1),
+          (access-one .ensures .0 (args .n) y x o some-left ed ea)) (c .before .v .given .1),
+      keeps-on (args .d) (args .n) (turn .t) (args .regs .now) (turn .regs) (access-one .last .0) some-left (turn .inv .6) (access-one .ensures .1),
     )
 
 loop-less : tie.Need-loop-less Inv-loop μ-loop
@@ -103,9 +106,11 @@ loop-again c =
           go-in (accessTurn (shapeBy (args .n) memory) y x) (args .n) s (turn .k) (turn .t) (turn .m) (turn .regs) (turn .cells)
           (turn .log) (turn .inv .4 y x o ed ea s e q M) (w .4 .result) (w .4 .last .0) (w .4 .last .1 .0) (w .4 .last .1 .1 .0) _ _ _ _ some-left (w .0 .taken)
           (subst (λ k. OneTurn (accessTurn (record { threads = args .n; cells = k }) y x) (args .n) (turn .t) (turn .regs) (turn .cells) (turn .log)
-          (w .4 .result) (w .4 .last .0) (w .4 .last .1 .0) (w .4 .last .1 .1 .0)) (turn .inv .2) (w .4 .ensures (args .n) y x o some-left ed ea))
+          (w .4 .result) (w .4 .last .0) (w .4 .last .1 .0) (w .4 .last .1 .1 .0)) (turn .inv .2) (w .4 .ensures .0 (args .n) y x o some-left ed ea))
           (w .10 .given .1) (w .11) (w .12) (w .13) (w .14),
       next-bit (turn .t) (turn .bit) (turn .inv .5),
+      keeps-on (args .d) (args .n) (turn .t) (args .regs .now) (turn .regs) (c .if1 .regs) some-left (turn .inv .6)
+          (subst (KeptBut (args .d) (turn .t + 1) (turn .regs)) (sym (w .11)) (w .4 .ensures .1)),
     ))
     (λ w. (
       omega (arith, some-left),
@@ -116,6 +121,7 @@ loop-again c =
           go-out (accessTurn (shapeBy (args .n) memory) y x) (args .n) s (turn .k) (turn .t) (turn .m) (turn .regs) (turn .cells)
           (turn .log) (turn .inv .4 y x o ed ea s e q M) _ _ _ _ some-left (w .0 .left) (w .1) (w .2) (w .3) (w .4),
       next-bit (turn .t) (turn .bit) (turn .inv .5),
+      subst (KeptBut (args .d) (args .n) (args .regs .now)) (sym (w .1)) (turn .inv .6),
     ))
     (c .if1 .came)
 
@@ -134,6 +140,7 @@ returns-2 c =
       λ y x o ed ea s e q M.
           turn-whole (accessTurn (shapeBy (args .n) memory) y x) (args .n) s (turn .k) (turn .t) (turn .m) (turn .regs)
           (turn .cells) (turn .log) (turn .inv .4 y x o ed ea s e q M) (args .mask) (c .count .result) e (c .count .ensures .0) (c .before .loop-test .left),
+      turn .inv .6,
     )
 
 pub access-row-spec : {M : Type 1} → statement M

@@ -9,7 +9,7 @@ use Rattle.numberlines.proofs.read_numbers.Statement.{statement}
 use Rattle.numberlines.proofs.read_numbers.Tie as tie
 
 abbrev Inv-loop : tie.InvT-loop
-Inv-loop file numbers₀ rest₀ i₀ t10 numbers rest i = NumbersGoing file numbers rest i
+Inv-loop file numbers₀ rest₀ i₀ t10 numbers rest i = NumbersGoing file numbers₀ numbers rest i
 
 abbrev μ-loop : tie.MeasureT-loop
 μ-loop file numbers₀ rest₀ i₀ t10 numbers rest i = lineCount - i

@@ -71,7 +71,7 @@ step-requires c κs =
     let args = start .args in
     let pre = start .pre in
     go-ready (args .table .now) (args .ends .now) (args .n) (args .limit) (args .cells .now) (turn .s) (turn .regs) (turn .cells) (turn .log)
-    (turn .saved) (turn .openers) going (pre .0) inside unspent (pre .1) (pre .2) (pre .3)
+    (turn .saved) (turn .openers) going (pre .0) inside unspent (pre .1) (pre .3)
     (omega (arith, turn .inv .0, turn .inv .1, clear .kept .0, pre .4)) (omega (arith, turn .inv .0, pre .5))
 
 loop-less : tie.Need-loop-less Inv-loop μ-loop
@@ -80,7 +80,7 @@ loop-less c =
     let unspent = at-step .before .before .before .before .before .before .if2 .left in
     let turn = at-step .before .before .before .before .before .before .before .before .before .before .loop in
     let going = turn .inv .2 in
-    let C = subst (Counts (turn .s)) (c .before .z .given .1) (at-step .step .ensures .0) in
+    let C = subst (Counts (turn .s)) (c .before .z .given .1) (at-step .step .ensures .counts) in
     omega (arith, C .rows-one, going .rows-most, unspent)
 
 loop-again : tie.Need-loop-again Inv-loop μ-loop

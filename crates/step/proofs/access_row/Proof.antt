@@ -16,13 +16,16 @@ returns c =
     let cells = args .cells .now in
     let pre = start .pre .2 in
     let m = mem-op (args .op) (pre .known) (pre .small) in (
-      counts-accessed (args .s) (c .after-access .result) (access-row .result .access) (access-row .result .steps) (c .after-access .ensures)
-          (access-row .ensures .0),
-      λ saved openers T x z q ed ea R.
-          access-after (args .n) z (args .s) (args .regs .now) cells (args .log .now) saved openers R T x (shapeBy (args .n) cells) (m .0)
-          (access-row .result .steps) (access-row .result .access) (c .after-access .result) (access-row .last .0) (access-row .last .1 .0)
-          (access-row .last .1 .1 .0)
-          (q ∙ m .1) (access-row .ensures .1 (m .0) x (m .1) ed ea z (R .enabled-is) (R .enabled-size) (R .memory)) (c .after-access .ensures),
+      (
+        counts-accessed (args .s) (c .after-access .result) (access-row .result .access) (access-row .result .steps) (c .after-access .ensures)
+            (access-row .ensures .0),
+        λ saved openers T x z q ed ea R.
+            access-after (args .n) z (args .s) (args .regs .now) cells (args .log .now) saved openers R T x (shapeBy (args .n) cells) (m .0)
+            (access-row .result .steps) (access-row .result .access) (c .after-access .result) (access-row .last .0) (access-row .last .1 .0)
+            (access-row .last .1 .1 .0)
+            (q ∙ m .1) (access-row .ensures .1 (m .0) x (m .1) ed ea z (R .enabled-is) (R .enabled-size) (R .memory)) (c .after-access .ensures),
+      ),
+      access-row .ensures .2,
     )
 
 pub access-row-spec : {M : Type 1} → statement M

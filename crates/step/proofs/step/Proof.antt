@@ -1,35 +1,56 @@
 -- `step::step` meets its contract. Assumes nothing.
-use mathlib.Core.Path.{_≡_, sym, ap, _∙_, subst}
-use Prim.Native.Nat.{_<_, _*_}
+use mathlib.Core.Path.{_≡_, sym, ap, _∙_, subst, subst₂}
+use mathlib.Core.Logic.{inl, inr}
+use Prim.Native.Nat.{_*_, _^_, _<_, _≤_}
 use native.Mathlib.Omega.{arith}
 use lib.ListN.{length, getD}
 use Rattle.spec.specs.Table.{rowsOf, rowAt, endOf}
+use Rattle.masks.proofs.Words.{word-lt}
 use Rattle.layout.proofs.PlainRows.{counted-moved}
+use Rattle.layout.proofs.Saving.{slots-kept}
 use Rattle.layout.specs.Memory.{shapeBy}
-use Rattle.constructs.proofs.Arms.{barrier-arm}
-use Rattle.step.proofs.Tables.{compute-op, compute-asks, row-here}
+use Rattle.layout.specs.Represents.{Counts}
+use Rattle.compute.proofs.Turns.{compute-did}
+use Rattle.constructs.proofs.Arms.{construct-after, barrier-after}
+use Rattle.constructs.proofs.Barrier.{barrier-counts}
+use Rattle.step.proofs.Tables.{compute-op, compute-asks, row-here, inside-row}
 use Rattle.step.proofs.Plain.{compute-after}
+use Rattle.step.proofs.Registers.{regs-computed, regs-accessed, regs-kept}
 use borrow.Author.Needs.{needs}
 use Rattle.step.proofs.step.Statement.{statement}
 use Rattle.step.proofs.step.Tie as tie
 
+-- The bounds that the state that stands gives.
+few : (c : tie.Start) → c .args .n ≤ 32
+few c = c .pre .stands .rep .memory .few
+
+mask-below : (c : tie.Start) → c .args .s .mask < 2 ^ c .args .n
+mask-below c =
+    let R = c .pre .stands .rep in
+    subst₂ (λ m k. m < 2 ^ k) (sym (R .enabled-is)) (R .enabled-size) (word-lt (c .pre .stands .state .enabled))
+
 compute-row-requires : tie.Need-compute-row-requires
 compute-row-requires c κs =
-    let b = c .before .before .before .index3 in
-    let a = c .before .before .before .before .before .index2 in
-    let d = c .before .before .before .before .before .before .before .index in
-    let pre = c .before .before .before .before .before .before .before .before .before .before .before .before .before .pre in
-    (pre .few, compute-asks _ _ _ _ _ _ _ (d .ensures .0) (a .ensures .0) (b .ensures .0) (pre .asks .computes (c .before .before .if1 .taken)))
+    let b = c .before .before .index3 in
+    let a = c .before .before .before .before .index2 in
+    let d = c .before .before .before .before .before .before .index in
+    let start = c .before .before .before .before .before .before .before .before .before .before .before .before in (
+      few start,
+      a .ensures .1,
+      b .ensures .1,
+      compute-asks _ _ _ _ _ _ _ (d .ensures .0) (a .ensures .0) (b .ensures .0) (start .pre .asks .computes (c .before .if1 .taken)),
+      start .pre .stands .rep .memory .regs-are .size,
+    )
 
 returns : tie.Need-returns
 returns c =
     let count = c .before .count in
-    let constant = c .before .before .before .constant in
-    let computes = c .before .before .before .before .before .if1 .taken in
-    let b = c .before .before .before .before .before .before .index3 in
-    let a = c .before .before .before .before .before .before .before .before .index2 in
-    let d = c .before .before .before .before .before .before .before .before .before .before .index in
-    let start = c .before .before .before .before .before .before .before .before .before .before .before .before .before .before .before .before in
+    let compute-row = c .before .before .compute-row in
+    let computes = c .before .before .before .before .if1 .taken in
+    let b = c .before .before .before .before .before .index3 in
+    let a = c .before .before .before .before .before .before .before .index2 in
+    let d = c .before .before .before .before .before .before .before .before .before .index in
+    let start = c .before .before .before .before .before .before .before .before .before .before .before .before .before .before .before in
     let args = start .args in
     let table = args .table .now in
     let regs = args .regs .now in
@@ -37,19 +58,28 @@ returns c =
     let log = args .log .now in
     let saved = args .saved .now in
     let openers = args .openers .now in
+    let code = getD table (args .s .row * 4) 0 in
     let asks = start .pre .asks .computes computes in
-    let op = compute-op (getD table (args .s .row * 4) 0) (asks .known) (asks .small) in (
-      counted-moved (args .s) (c .moved .result) (count .result) (c .moved .ensures) (count .ensures .1),
-      λ z h ee R.
-          let E = row-here table (args .n) z (args .s) regs cells log saved openers R h in
-          compute-after (args .n) z (args .s) regs cells log saved openers R (rowsOf table) (rowAt (rowsOf table) (z .row)) (length cells) (op .0)
-          (args .s .mask) (count .result) (c .moved .result) (c .before .before .compute-row .last .0) cells log
-          (ap (λ x. x .op) E ∙ op .1) (count .ensures .0)
-          (c .before .before .compute-row .ensures (op .0) (rowAt (rowsOf table) (z .row)) (op .1) (ap (λ x. x .d) E ∙ sym (d .ensures .0))
-          (ap (λ x. x .a) E ∙ sym (a .ensures .0)) (ap (λ x. x .b) E ∙ sym (b .ensures .0)) (constant .ensures) cells log z (R .enabled-is)
-          (R .enabled-size) (R .memory))
-          (c .moved .ensures),
-    )
+    let op = compute-op code (asks .known) (asks .small) in
+    let slots = slots-kept code (args .s) saved openers (inl (omega arith)) in
+    record {
+      counts = counted-moved (args .s) (c .moved .result) (count .result) (c .moved .ensures) (count .ensures .1);
+      done = λ z R.
+          let E = row-here table (args .n) z (args .s) regs cells log saved openers R (inside-row table (args .s .row) (start .pre .inside)) in
+          let x = rowAt (rowsOf table) (z .row) in
+          compute-after (args .n) z (args .s) regs cells log saved openers R (rowsOf table) x (length cells) (op .0)
+          (args .s .mask) (count .result) (c .moved .result) (compute-row .last .0) cells log (ap (λ y. y .op) E ∙ op .1) (count .ensures .0)
+          (compute-did code (args .n) (args .s .mask) (d .result) (a .result) (b .result) regs
+          (compute-asks _ _ _ _ _ _ _ (d .ensures .0) (a .ensures .0) (b .ensures .0) asks) (R .memory .regs-are .size) (op .0) (op .1) x
+          (ap (λ y. y .d) E ∙ sym (d .ensures .0))
+          (ap (λ y. y .a) E ∙ sym (a .ensures .0)) (ap (λ y. y .b) E ∙ sym (b .ensures .0)) cells log z (R .enabled-is) (R .enabled-size) (R .memory)
+          (compute-row .last .0) (compute-row .ensures))
+          (c .moved .ensures);
+      regs-are = regs-computed code (args .n) (args .s .mask) _ _ _ regs (d .result) (a .result) (b .result) (compute-row .last .0) computes
+          (d .ensures .0) (a .ensures .0) (b .ensures .0) (compute-row .ensures);
+      saved-are = slots .0;
+      openers-are = slots .1;
+    }
 
 access-row-requires : tie.Need-access-row-requires
 access-row-requires c κs =
@@ -57,10 +87,11 @@ access-row-requires c κs =
     let no-computing = c .before .before .before .before .if1 .left in
     let a = c .before .before .before .before .before .before .before .index2 in
     let d = c .before .before .before .before .before .before .before .before .before .index in
-    let pre = c .before .before .before .before .before .before .before .before .before .before .before .before .before .before .before .pre in
+    let start = c .before .before .before .before .before .before .before .before .before .before .before .before .before .before .before in
+    let pre = start .pre in
     let q = pre .asks .accesses no-computing accesses in (
       pre .room,
-      pre .few,
+      mask-below start,
       record {
         known = no-computing;
         small = q .0;
@@ -69,25 +100,37 @@ access-row-requires c κs =
         twice = pre .twice;
         cells-few = pre .cells-few;
       },
+      record { state = pre .stands .state; memory = pre .stands .rep .memory },
     )
 
 returns-2 : tie.Need-returns-2
 returns-2 c =
     let at-access-row = c .before .before .before .before in
     let access-row = at-access-row .access-row in
+    let accesses = at-access-row .before .before .before .before .if2 .taken in
+    let no-computing = at-access-row .before .before .before .before .before .if1 .left in
     let a = at-access-row .before .before .before .before .before .before .before .before .index2 in
     let at-index = at-access-row .before .before .before .before .before .before .before .before .before .before in
     let d = at-index .index in
-    let args = at-index .before .before .before .before .before .before .args in
+    let start = at-index .before .before .before .before .before .before in
+    let args = start .args in
     let table = args .table .now in
     let saved = args .saved .now in
-    let openers = args .openers .now in (
-      access-row .ensures .0,
-      λ z h ee R.
-          let E = row-here table (args .n) z (args .s) (args .regs .now) (args .cells .now) (args .log .now) saved openers R h in
-          access-row .ensures .1 saved openers (rowsOf table) (rowAt (rowsOf table) (z .row)) z (ap (λ x. x .op) E)
-          (ap (λ x. x .d) E ∙ sym (d .ensures .0)) (ap (λ x. x .a) E ∙ sym (a .ensures .0)) R,
-    )
+    let openers = args .openers .now in
+    let code = getD table (args .s .row * 4) 0 in
+    let slots = slots-kept code (args .s) saved openers (inl accesses) in
+    record {
+      counts = access-row .ensures .0 .0;
+      done = λ z R.
+          let E = row-here table (args .n) z (args .s) (args .regs .now) (args .cells .now) (args .log .now) saved openers R
+          (inside-row table (args .s .row) (start .pre .inside)) in
+          access-row .ensures .0 .1 saved openers (rowsOf table) (rowAt (rowsOf table) (z .row)) z (ap (λ x. x .op) E)
+          (ap (λ x. x .d) E ∙ sym (d .ensures .0)) (ap (λ x. x .a) E ∙ sym (a .ensures .0)) R;
+      regs-are = regs-accessed code (args .n) (args .s .mask) _ _ _ (args .regs .now) (d .result) (access-row .last .0) no-computing accesses
+          (d .ensures .0) (access-row .ensures .1);
+      saved-are = slots .0;
+      openers-are = slots .1;
+    }
 
 construct-row-requires : tie.Need-construct-row-requires
 construct-row-requires c κs =
@@ -109,20 +152,37 @@ construct-row-requires c κs =
 
 returns-3 : tie.Need-returns-3
 returns-3 c =
+    let end = c .before .index4 in
+    let constructs = c .before .before .before .before .before .before .if3 .taken in
+    let no-access = c .before .before .before .before .before .before .before .if2 .left in
     let at-index2 = c .before .before .before .before .before .before .before .before .before .before .before in
     let a = at-index2 .index2 in
-    let args = at-index2 .before .before .before .before .before .before .before .before .args in
+    let start = at-index2 .before .before .before .before .before .before .before .before in
+    let args = start .args in
+    let pre = start .pre in
     let table = args .table .now in
+    let regs = args .regs .now in
     let cells = args .cells .now in
     let log = args .log .now in
-    let o = c .construct-row in (
-      o .ensures .0,
-      λ z h ee R.
-          let E = row-here table (args .n) z (args .s) (args .regs .now) cells log (args .saved .now) (args .openers .now) R h in
-          o .ensures .1 (args .n) cells log (rowsOf table) (shapeBy (args .n) cells) (rowAt (rowsOf table) (z .row)) z (ap (λ x. x .op) E)
-          (ap (λ x. x .a) E ∙ sym (a .ensures .0))
-          (λ w. c .before .index4 .ensures .0 ∙ ee (ap (λ r. rowAt (rowsOf table) r .op) (R .row-is) ∙ w) ∙ ap (endOf (rowsOf table)) (R .row-is)) R,
-    )
+    let saved = args .saved .now in
+    let openers = args .openers .now in
+    let code = getD table (args .s .row * 4) 0 in
+    let o = c .construct-row in
+    record {
+      counts = o .ensures .counted;
+      done = λ z R.
+          let E = row-here table (args .n) z (args .s) regs cells log saved openers R (inside-row table (args .s .row) (pre .inside)) in
+          construct-after (args .n) z (args .s) regs cells log saved openers R (rowsOf table) (shapeBy (args .n) cells) (rowAt (rowsOf table) (z .row)) code
+          (ap (λ x. x .op) E) (a .result) (end .result) (ap (λ x. x .a) E ∙ sym (a .ensures .0))
+          (λ w. end .ensures .0 ∙ pre .ends-right (ap (λ r. rowAt (rowsOf table) r .op) (R .row-is) ∙ w) ∙ ap (endOf (rowsOf table)) (R .row-is)) (
+            (λ e. subst (λ k. k < 16) (sym (a .ensures .0)) (pre .asks .ifs e)),
+            (λ e. subst (λ k. k < 16) (sym (a .ensures .0)) (pre .asks .whiles e)),
+          )
+          (pre .depths) no-access (omega (arith, constructs)) (o .result) (o .last .1 .0) (o .last .1 .1 .0) (o .ensures);
+      regs-are = regs-kept code (args .n) (args .s .mask) _ _ _ regs no-access;
+      saved-are = o .ensures .saved-are;
+      openers-are = o .ensures .openers-are;
+    }
 
 returns-4 : tie.Need-returns-4
 returns-4 c =
@@ -134,15 +194,22 @@ returns-4 c =
     let table = args .table .now in
     let regs = args .regs .now in
     let cells = args .cells .now in
+    let log = args .log .now in
     let saved = args .saved .now in
     let openers = args .openers .now in
-    let e : getD table (args .s .row * 4) 0 ≡ 37 = omega (arith, no-construct, start .pre .asks .known) in (
-      barrier-row .ensures .0,
-      λ z h ee R.
-          let E = row-here table (args .n) z (args .s) regs cells (args .log .now) saved openers R h in
-          barrier-arm (args .n) (rowsOf table) (shapeBy (args .n) cells) (rowAt (rowsOf table) (z .row)) z (getD table (args .s .row * 4) 0)
-          (ap (λ x. x .op) E) regs cells (barrier-row .last .0) saved openers (barrier-row .result) e (barrier-row .ensures .1 regs cells saved openers z R),
-    )
+    let code = getD table (args .s .row * 4) 0 in
+    let e : code ≡ 37 = omega (arith, no-construct, start .pre .asks .known) in
+    let slots = slots-kept code (args .s) saved openers (inr (omega arith)) in
+    record {
+      counts = subst (Counts (args .s)) (sym (barrier-row .ensures .0)) (barrier-counts (args .n) (args .s));
+      done = λ z R.
+          let E = row-here table (args .n) z (args .s) regs cells log saved openers R (inside-row table (args .s .row) (start .pre .inside)) in
+          barrier-after (args .n) z (args .s) regs cells log saved openers R (rowsOf table) (shapeBy (args .n) cells) (rowAt (rowsOf table) (z .row)) code
+          (ap (λ x. x .op) E) (start .pre .some) e (barrier-row .result) (barrier-row .last .0) (barrier-row .ensures);
+      regs-are = regs-kept code (args .n) (args .s .mask) _ _ _ regs (omega arith);
+      saved-are = slots .0;
+      openers-are = slots .1;
+    }
 
 pub step-spec : {M : Type 1} → statement M
 step-spec =
@@ -150,7 +217,7 @@ step-spec =
     (tie.spec
     (λ c. search needs) (λ c. search needs) (λ c. search needs) (λ c. search needs) (λ c. search needs)
     (λ c κs. search needs) (λ c. search needs) (λ c. search needs) (λ c. search needs) (λ c κs. search needs)
-    (λ c. search needs) (λ c. search needs) (λ c. search needs) (λ c κs. search needs) (λ c κs. search needs)
+    (λ c. search needs) (λ c. search needs) (λ c. search needs) (λ c κs. search needs)
     compute-row-requires
     (λ c κs. search needs) (λ c κs. search needs)
     returns

@@ -1,15 +1,15 @@
 -- `truth::holding` meets its contract. Assumes nothing.
+use mathlib.Core.Path.{_∙_, ap}
+use Prim.Native.Nat.{ℕ, _-_}
+use lib.Bits.{bitAnd}
 use borrow.Author.Needs.{needs}
-use Rattle.truth.proofs.Zeros.{held}
+use Rattle.layout.specs.Memory.{holdingWord}
 use Rattle.truth.proofs.holding.Statement.{statement}
 use Rattle.truth.proofs.holding.Tie as tie
 
 returns : tie.Need-returns
-returns c =
-    let start = c .before .before in
-    let args = start .args in
-    λ n on rs few em el R. held (args .a) (args .regs .now) n rs R (start .pre) (args .mask) _ _ on few em el (c .before .zero-lanes .ensures)
-    (c .minus .ensures)
+unfolding holdingWord
+returns c = c .minus .ensures ∙ ap (λ (z : ℕ). bitAnd (c .before .before .args .mask) (4294967295 - z)) (c .before .zero-lanes .ensures)
 
 pub holding-spec : {M : Type 1} → statement M
 holding-spec =
