@@ -5,6 +5,7 @@ use Rattle.spec.specs.Access.{cellAfter, registersAfter, compatible, con
 use Rattle.spec.specs.Op.{opTable, opOf, form, formOf, isRegister, isUnused, operandsFit, value}
 use Rattle.spec.specs.Table.{rowOf, rowsOf, noRow, rowAt, cellByte, kindOf, role, openedBy, openBefore, scanRow, scan, endOf, pastElse, elseOf}
 use Rattle.spec.specs.Table.{startOf, innermost}
+use Rattle.spec.specs.Grammar.{bodyRows, constructRows, bodyDepth, constructDepth}
 use Rattle.spec.specs.TableCheck.{opener, isKnown, elseFits, endifFits, endwhileFits, fits, shallow, divided, openAfter, rowRefusal, leftOpen}
 use Rattle.spec.specs.TableCheck.{rowsRefusal, tableRefusal}
 use Rattle.spec.specs.Mask.{maskWord, has, membersFrom, members, any, full, minus, union, lowest, nonzero, holding}
@@ -29,6 +30,7 @@ use Rattle.spec.specs.Entries.{cellsReported, writerRefusal, writtenOf, 
 use Rattle.spec.specs.Entries.{launchReport, reportLength, fileAnswer, ifAccepted, fileCellsAfter, fileLogAfter, fileOutputAfter, printed}
 use Rattle.spec.specs.Entries.{checkPrints}
 use Rattle.spec.specs.Examples.{withNewlines, lines, examples}
+use Rattle.spec.specs.RunExamples.{runExamples}
 
 -- Whoever unfolds this unfolds them all.
 unfoldable pub computing : Unit {0}
@@ -37,6 +39,7 @@ unfolding refusalNumber refusalPlace unless orElse first
     cellAfter registersAfter compatible conflict
     opTable opOf form formOf isRegister isUnused operandsFit value
     rowOf rowsOf noRow rowAt cellByte kindOf role openedBy openBefore scanRow scan endOf pastElse elseOf startOf innermost
+    bodyRows constructRows bodyDepth constructDepth
     opener isKnown elseFits endifFits endwhileFits fits shallow divided openAfter rowRefusal leftOpen rowsRefusal tableRefusal
     maskWord has membersFrom members any full minus union lowest nonzero holding
     shapeOf total bound address
@@ -56,5 +59,5 @@ unfolding refusalNumber refusalPlace unless orElse first
     over bareNumbers bareLent bareRefusal bareRun answerOf keptIf bareAnswer bareCells bareLog cellsReported writerRefusal writtenOf
     writerAnswer writerBuffer fileLent andState fileChecked launchRun launchReport reportLength fileAnswer ifAccepted fileCellsAfter
     fileLogAfter fileOutputAfter printed checkPrints
-    withNewlines lines examples
+    withNewlines lines examples runExamples
 computing = tt

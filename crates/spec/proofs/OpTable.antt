@@ -1,8 +1,10 @@
--- The form of each of the 256 byte values, in document 01's order. Assumes nothing.
+-- The form and the op of each of the 256 byte values, in document 01's order. Assumes nothing.
 use mathlib.Core.Path.{_≡_, refl}
 use mathlib.Core.List.{List, [], _∷_, _++_, map}
 use Prim.Native.Nat.{ℕ, zero, suc}
 use lib.ListN.{length, replicate}
+use Rattle.spec.specs.Op.{CALC, MEM, IF, ELSE, ENDIF, WHILE, ENDWHILE, BARRIER, UNKNOWN, opOf}
+use Rattle.spec.specs.Op.{SET, TID, COUNT, ADD, SUB, MUL, AND, OR, XOR, SHR, SAR, EQ, LT, SLT, LOAD, STORE}
 use Rattle.spec.specs.Op.{setForm, dForm, dabForm, daForm, aForm, noForm, unknownForm, opTable, formOf}
 use Rattle.spec.proofs.Computing.{computing}
 
@@ -21,3 +23,12 @@ forms = refl
 pub op-table-size : length opTable ≡ 256
 unfolding computing
 op-table-size = refl
+
+-- The op itself of each byte value, and of 256, which is no byte.
+pub ops : map opOf (bytesFrom 0 257) ≡
+    UNKNOWN
+    ∷ map CALC (SET ∷ TID ∷ COUNT ∷ ADD ∷ SUB ∷ MUL ∷ AND ∷ OR ∷ XOR ∷ SHR ∷ SAR ∷ EQ ∷ LT ∷ SLT ∷ [])
+    ++ (UNKNOWN ∷ MEM LOAD ∷ MEM STORE ∷ replicate 14 UNKNOWN)
+    ++ (IF ∷ ELSE ∷ ENDIF ∷ WHILE ∷ ENDWHILE ∷ BARRIER ∷ replicate 219 UNKNOWN)
+unfolding computing bytesFrom
+ops = refl

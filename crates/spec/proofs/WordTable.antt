@@ -126,6 +126,43 @@ pub sar-table : tabulated amounts SAR ≡
 unfolding computing edges amounts tabulated
 sar-table = refl
 
+-- Shifts by 2 to 30 places of 0x9ABCDEF0, whose top bit is set, and of 0x12345678, whose is not.
+unfoldable pub between : List ℕ
+between = 2 ∷ 3 ∷ 4 ∷ 7 ∷ 8 ∷ 15 ∷ 16 ∷ 17 ∷ 28 ∷ 30 ∷ []
+
+unfoldable pub shifted : Calc → List (List ℕ)
+shifted c = map (λ x. map (λ y. value c 7 5 3 2 x y) between) (2596069104 ∷ 305419896 ∷ [])
+
+pub shr-between : shifted SHR ≡
+    (649017276 ∷ 324508638 ∷ 162254319 ∷ 20281789 ∷ 10140894 ∷ 79225 ∷ 39612 ∷ 19806 ∷ 9 ∷ 2 ∷ [])
+    ∷ (76354974 ∷ 38177487 ∷ 19088743 ∷ 2386092 ∷ 1193046 ∷ 9320 ∷ 4660 ∷ 2330 ∷ 1 ∷ 0 ∷ [])
+    ∷ []
+unfolding computing between shifted
+shr-between = refl
+
+pub sar-between : shifted SAR ≡
+    (3870242748 ∷ 4082605022 ∷ 4188786159 ∷ 4281694653 ∷ 4288330974 ∷ 4294915449 ∷ 4294941372 ∷ 4294954334 ∷ 4294967289 ∷ 4294967294 ∷ [])
+    ∷ (76354974 ∷ 38177487 ∷ 19088743 ∷ 2386092 ∷ 1193046 ∷ 9320 ∷ 4660 ∷ 2330 ∷ 1 ∷ 0 ∷ [])
+    ∷ []
+unfolding computing between shifted
+sar-between = refl
+
+-- Every op of two words that are no edges, 0x9ABCDEF0 and 0x12345678, both ways round.
+pub both-ways :
+    map (λ c. value c 7 5 3 2 2596069104 305419896 ∷ value c 7 5 3 2 305419896 2596069104 ∷ []) (ADD ∷ SUB ∷ MUL ∷ AND ∷ OR ∷ XOR ∷ EQ ∷ LT ∷ SLT ∷ []) ≡
+    (2901489000 ∷ 2901489000 ∷ [])
+    ∷ (2290649208 ∷ 2004318088 ∷ [])
+    ∷ (606937216 ∷ 606937216 ∷ [])
+    ∷ (305419888 ∷ 305419888 ∷ [])
+    ∷ (2596069112 ∷ 2596069112 ∷ [])
+    ∷ (2290649224 ∷ 2290649224 ∷ [])
+    ∷ (0 ∷ 0 ∷ [])
+    ∷ (0 ∷ 1 ∷ [])
+    ∷ (1 ∷ 0 ∷ [])
+    ∷ []
+unfolding computing
+both-ways = refl
+
 -- SET, TID and COUNT read no register.
 pub plain-values : (x y : ℕ) → map (λ c. value c 7 5 3 2 x y) (SET ∷ TID ∷ COUNT ∷ []) ≡ 515 ∷ 5 ∷ 7 ∷ []
 unfolding computing

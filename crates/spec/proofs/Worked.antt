@@ -6,6 +6,7 @@ use Rattle.spec.specs.Log.{logWords}
 use Rattle.spec.specs.LaunchFile.{Launch, Checked, refused, accepted, fileLaunch}
 use Rattle.spec.specs.Entries.{launchRun, printed}
 use Rattle.spec.specs.Examples.{Worked, examples}
+use Rattle.spec.specs.RunExamples.{runExamples}
 use Rattle.spec.proofs.Computing.{computing}
 
 unfoldable pub finalLog : Checked Launch → List ℕ
@@ -21,3 +22,7 @@ expected x = (x .report, x .log)
 pub worked : map computed examples ≡ map expected examples
 unfolding computing computed expected finalLog
 worked = refl
+
+pub worked-runs : map computed runExamples ≡ map expected runExamples
+unfolding computing computed expected finalLog
+worked-runs = refl

@@ -189,7 +189,15 @@ examples =
     ∷ record { file = lines "kernel=1/threads=1/cells=1/limit=1/rows=1/row=0,16,0,0/cell=0/end=kernel"; report = lines "refused=3/place=0/end=report"; log = [] }
     ∷ record { file = lines "kernel=1/threads=1/cells=1/limit=1/rows=1/row=2,16,0,0/cell=0/end=kernel"; report = lines "refused=4/place=0/end=report"; log = [] }
     ∷ record { file = lines "kernel=1/threads=1/cells=1/limit=1/rows=1/row=37,0,0,1/cell=0/end=kernel"; report = lines "refused=4/place=0/end=report"; log = [] }
-    ∷ record { file = lines "kernel=1/threads=1/cells=1/limit=1/rows=3/row=32,0,0,0/row=33,0,0,0/row=33,0,0,0/cell=0/end=kernel"; report = lines "refused=5/place=2/end=report"; log = [] }
-    ∷ record { file = lines "kernel=1/threads=1/cells=1/limit=1/rows=3/row=35,0,0,0/row=32,0,0,0/row=33,0,0,0/cell=0/end=kernel"; report = lines "refused=7/place=1/end=report"; log = [] }
+    ∷ record {
+      file = lines "kernel=1/threads=1/cells=1/limit=1/rows=3/row=32,0,0,0/row=33,0,0,0/row=33,0,0,0/cell=0/end=kernel";
+      report = lines "refused=5/place=2/end=report";
+      log = [];
+    }
+    ∷ record {
+      file = lines "kernel=1/threads=1/cells=1/limit=1/rows=3/row=35,0,0,0/row=32,0,0,0/row=33,0,0,0/cell=0/end=kernel";
+      report = lines "refused=7/place=1/end=report";
+      log = [];
+    }
     ∷ record { file = lines "kernel=1/threads=1/cells=1/limit=1/rows=0/cell=0/end=kernel/"; report = lines "refused=11/place=8/end=report"; log = [] }
     ∷ []

@@ -19,4 +19,5 @@ pub mod LaunchFile
 pub mod Report
 pub mod Entries
 pub mod Examples
+pub mod RunExamples
 pub mod Demands

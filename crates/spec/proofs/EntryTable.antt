@@ -1,0 +1,216 @@
+-- What the entries answer and what they leave in each lent buffer: limits from both sides, two faults at once, lengths, and what is kept. Assumes nothing.
+use mathlib.Core.Path.{_≡_, refl}
+use mathlib.Core.List.{List, [], _∷_, _++_, map}
+use Prim.Native.Nat.{ℕ, _-_}
+use lib.ListN.{replicate}
+use Rattle.spec.specs.Answers.{Answer, Passed, Race, WriteWrite, Subject, Written, LineNotDue}
+use Rattle.spec.specs.Answers.{CellsLength, LogLength, ReportCells, ReportTooLong, ThreadsOutOfRange}
+use Rattle.spec.specs.declared.Answer.the-variants as answer
+use Rattle.spec.specs.declared.Subject.the-variants as subject
+use Rattle.spec.specs.declared.Written.the-variants as written
+use Rattle.spec.specs.Entries.{over, bareNumbers, bareLent, bareRefusal, bareAnswer, bareCells, bareLog, writerAnswer, writerBuffer}
+use Rattle.spec.specs.Entries.{fileLent, fileAnswer, fileCellsAfter, fileLogAfter, fileOutputAfter, checkPrints}
+use Rattle.spec.specs.Text.{text}
+use Rattle.spec.specs.Examples.{lines}
+use Rattle.spec.proofs.RefusalTable.{told}
+use Rattle.spec.proofs.Computing.{computing}
+
+-- A bare launch's numbers, each on both sides of its limits: bytes, threads, cells, limit. The places are 0.
+pub bare-limits : map told
+    (bareNumbers 0 1 1 0
+    ∷ bareNumbers 1 1 1 0 ∷ bareNumbers 2 1 1 0 ∷ bareNumbers 3 1 1 0 ∷ bareNumbers 4 1 1 0
+    ∷ bareNumbers 1020 1 1 0 ∷ bareNumbers 1024 1 1 0 ∷ bareNumbers 1028 1 1 0
+    ∷ bareNumbers 0 0 1 0 ∷ bareNumbers 0 31 1 0 ∷ bareNumbers 0 32 1 0 ∷ bareNumbers 0 33 1 0
+    ∷ bareNumbers 0 1 0 0 ∷ bareNumbers 0 1 1023 0 ∷ bareNumbers 0 1 1024 0 ∷ bareNumbers 0 1 1025 0
+    ∷ bareNumbers 0 1 1 999999 ∷ bareNumbers 0 1 1 1000000 ∷ bareNumbers 0 1 1 1000001
+    ∷ [])
+    ≡ (0, 0)
+    ∷ (1, 0) ∷ (1, 0) ∷ (1, 0) ∷ (0, 0)
+    ∷ (0, 0) ∷ (0, 0) ∷ (2, 0)
+    ∷ (8, 0) ∷ (0, 0) ∷ (0, 0) ∷ (8, 0)
+    ∷ (9, 0) ∷ (0, 0) ∷ (0, 0) ∷ (9, 0)
+    ∷ (0, 0) ∷ (0, 0) ∷ (10, 0)
+    ∷ []
+unfolding computing told
+bare-limits = refl
+
+-- Two faults at once: 1 before 2, 2 before 8, 8 before 9, 9 before 10, and 1 before all.
+pub bare-order : map told
+    (bareNumbers 1029 1 1 0 ∷ bareNumbers 1028 0 1 0 ∷ bareNumbers 0 33 0 0 ∷ bareNumbers 0 1 1025 1000001 ∷ bareNumbers 1030 33 0 1000001 ∷ bareNumbers 0 0 0 1000001 ∷ [])
+    ≡ (1, 0) ∷ (2, 0) ∷ (8, 0) ∷ (9, 0) ∷ (1, 0) ∷ (8, 0) ∷ []
+unfolding computing told
+bare-order = refl
+
+-- The lent lengths of a launch of 3 cells: as many words as cells, twice as many for the log; 20 before 21.
+pub bare-lengths : map told (bareLent 3 3 6 ∷ bareLent 3 2 6 ∷ bareLent 3 4 6 ∷ bareLent 3 3 5 ∷ bareLent 3 3 7 ∷ bareLent 3 3 3 ∷ bareLent 3 2 5 ∷ bareLent 3 4 3 ∷ []) ≡
+    (0, 0) ∷ (20, 0) ∷ (20, 0) ∷ (21, 0) ∷ (21, 0) ∷ (21, 0) ∷ (20, 0) ∷ (20, 0) ∷ []
+unfolding computing told
+bare-lengths = refl
+
+-- Numbers before rows, rows before lent lengths: 10 and 3; 3 and 20; 7 and 21; 20 and 21.
+pub bare-stages : map told
+    (bareRefusal (0 ∷ 0 ∷ 0 ∷ 0 ∷ []) 1 1 1000001 (7 ∷ []) (7 ∷ 7 ∷ [])
+    ∷ bareRefusal (0 ∷ 0 ∷ 0 ∷ 0 ∷ []) 1 1 0 [] []
+    ∷ bareRefusal (37 ∷ 0 ∷ 0 ∷ 0 ∷ 32 ∷ 0 ∷ 0 ∷ 0 ∷ []) 1 1 0 (7 ∷ []) []
+    ∷ bareRefusal (37 ∷ 0 ∷ 0 ∷ 0 ∷ []) 1 1 0 [] []
+    ∷ bareRefusal (37 ∷ 0 ∷ 0 ∷ 0 ∷ []) 1 1 0 (7 ∷ []) []
+    ∷ bareRefusal (37 ∷ 0 ∷ 0 ∷ 0 ∷ []) 1 1 0 (7 ∷ []) (7 ∷ 7 ∷ [])
+    ∷ [])
+    ≡ (10, 0) ∷ (3, 0) ∷ (7, 1) ∷ (20, 0) ∷ (21, 0) ∷ (0, 0) ∷ []
+unfolding computing told
+bare-stages = refl
+
+-- A bare launch's answer, cells and log.
+unfoldable pub bareLaunch : (table : List ℕ) → (threads cells limit : ℕ) → (lentCells lentLog : List ℕ) → Answer × (List ℕ × List ℕ)
+bareLaunch table threads cells limit lentCells lentLog = (
+  bareAnswer table threads cells limit lentCells lentLog,
+  (bareCells table threads cells limit lentCells lentLog, bareLog table threads cells limit lentCells lentLog),
+)
+
+-- Three threads, TID, STORE of each thread's number: what was in the log is not read, and what was in the cells is the launch's.
+pub bare-passed : bareLaunch (2 ∷ 0 ∷ 0 ∷ 0 ∷ 17 ∷ 0 ∷ 0 ∷ 0 ∷ []) 3 4 2 (5 ∷ 6 ∷ 7 ∷ 8 ∷ []) (replicate 8 9) ≡ (
+  answer.Ran (record { verdict = Passed; row = 2; rows = 2; steps = 6; barriers = 0 }),
+  (0 ∷ 1 ∷ 2 ∷ 8 ∷ [], 0 ∷ 0 ∷ 0 ∷ 0 ∷ 1 ∷ 2 ∷ 4 ∷ 0 ∷ []),
+)
+unfolding computing bareLaunch
+bare-passed = refl
+
+-- Thread 1 stops at its STORE; thread 0's has been made.
+pub bare-race : bareLaunch (2 ∷ 1 ∷ 0 ∷ 0 ∷ 37 ∷ 0 ∷ 0 ∷ 0 ∷ 17 ∷ 0 ∷ 1 ∷ 0 ∷ []) 3 2 10 (5 ∷ 6 ∷ []) (replicate 4 9) ≡
+    (answer.Ran (record { verdict = Race 1 0 WriteWrite 0; row = 2; rows = 2; steps = 4; barriers = 1 }), (0 ∷ 6 ∷ [], 0 ∷ 0 ∷ 1 ∷ 0 ∷ []))
+unfolding computing bareLaunch
+bare-race = refl
+
+-- A refusal leaves both buffers.
+pub bare-refused : bareLaunch (2 ∷ 0 ∷ 0 ∷ 0 ∷ 17 ∷ 0 ∷ 0 ∷ 0 ∷ []) 0 2 10 (5 ∷ 6 ∷ []) (replicate 4 9) ≡
+    (answer.Refused (ThreadsOutOfRange 0), (5 ∷ 6 ∷ [], replicate 4 9))
+unfolding computing bareLaunch
+bare-refused = refl
+
+-- The most of everything: 256 rows, 32 threads, 1,024 cells, limit 1,000,000; and a row or a cell more.
+unfoldable pub tids : ℕ → List ℕ
+tids n = bytesOfRows (replicate n 2)
+  where
+    bytesOfRows : List ℕ → List ℕ
+    bytesOfRows [] = []
+    bytesOfRows (op ∷ ops) = op ∷ 0 ∷ 0 ∷ 0 ∷ bytesOfRows ops
+
+pub bare-most : map told
+    (bareRefusal (tids 256) 32 1024 1000000 (replicate 1024 7) (replicate 2048 7)
+    ∷ bareRefusal (tids 257) 32 1024 1000000 (replicate 1024 7) (replicate 2048 7)
+    ∷ bareRefusal [] 32 1025 1000000 (replicate 1025 7) (replicate 2050 7)
+    ∷ [])
+    ≡ (0, 0) ∷ (2, 0) ∷ (9, 0) ∷ []
+unfolding computing told tids
+bare-most = refl
+
+-- The report writer.
+unfoldable pub anOutcome : Subject
+anOutcome = subject.Ran (record { verdict = Passed; row = 3; rows = 3; steps = 6; barriers = 0 })
+
+unfoldable pub itsReport : List ℕ
+itsReport = lines "verdict=passed/row=-/thread=-/other=-/kind=-/at=-/rows=3/steps=6/barriers=0/cell=5/cell=17/end=report"
+
+-- Its answer and the buffer after it. That report needs 102 bytes: 101 are too short and left as they were, 102 are filled, of 104 the last two are kept.
+unfoldable pub wrote : Subject → (cells buffer : List ℕ) → Written × List ℕ
+wrote what cells buffer = (writerAnswer what cells buffer, writerBuffer what cells buffer)
+
+pub writer-lengths : map (λ n. wrote anOutcome (5 ∷ 17 ∷ []) (replicate n 7)) (0 ∷ 101 ∷ 102 ∷ 104 ∷ []) ≡
+    (written.Refused (ReportTooLong 102), [])
+    ∷ (written.Refused (ReportTooLong 102), replicate 101 7)
+    ∷ (written.Wrote 102, itsReport)
+    ∷ (written.Wrote 102, itsReport ++ (7 ∷ 7 ∷ []))
+    ∷ []
+unfolding computing anOutcome itsReport wrote
+writer-lengths = refl
+
+-- 23 goes before 22, and for a run only: 0 cells and 1,025 cells. With 1,024 cells of one digit the report has 87 + 1,024 * 7 bytes.
+pub writer-cells : map (λ n. writerAnswer anOutcome (replicate n 5) (replicate 5 7)) (0 ∷ 1 ∷ 1024 ∷ 1025 ∷ []) ≡
+    written.Refused ReportCells ∷ written.Refused (ReportTooLong 94) ∷ written.Refused (ReportTooLong 7255) ∷ written.Refused ReportCells ∷ []
+unfolding computing anOutcome
+writer-cells = refl
+
+pub writer-no-cells : wrote anOutcome [] (replicate 3 7) ∷ wrote anOutcome [] (replicate 200 7) ∷ [] ≡
+    (written.Refused ReportCells, replicate 3 7) ∷ (written.Refused ReportCells, replicate 200 7) ∷ []
+unfolding computing anOutcome wrote
+writer-no-cells = refl
+
+-- A refusal's report: `refused=22`, `place=98`, `end=report` need 31 bytes. Its cells, none or too many, do not matter.
+pub writer-refusal :
+    wrote (subject.Refused 22 98) [] (replicate 30 7)
+    ∷ wrote (subject.Refused 22 98) [] (replicate 32 7)
+    ∷ wrote (subject.Refused 22 98) (replicate 1025 1) (replicate 31 7)
+    ∷ []
+    ≡ (written.Refused (ReportTooLong 31), replicate 30 7)
+    ∷ (written.Wrote 31, lines "refused=22/place=98/end=report" ++ (7 ∷ []))
+    ∷ (written.Wrote 31, lines "refused=22/place=98/end=report")
+    ∷ []
+unfolding computing wrote
+writer-refusal = refl
+
+-- The whole-file entry. Lent lengths on both sides, 20 before 21 before 24; more output than 17,408 bytes is welcome.
+pub file-lengths : map told
+    (fileLent 1024 2048 17408 ∷ fileLent 1024 2048 17409
+    ∷ fileLent 1023 2048 17408 ∷ fileLent 1025 2048 17408 ∷ fileLent 0 2048 17408
+    ∷ fileLent 1024 2047 17408 ∷ fileLent 1024 2049 17408 ∷ fileLent 1024 2048 17407 ∷ fileLent 1024 2048 0
+    ∷ fileLent 1023 2047 17407 ∷ fileLent 1024 2047 17407 ∷ fileLent 1023 2048 17407
+    ∷ [])
+    ≡ (0, 0) ∷ (0, 0)
+    ∷ (20, 0) ∷ (20, 0) ∷ (20, 0)
+    ∷ (21, 0) ∷ (21, 0) ∷ (24, 0) ∷ (24, 0)
+    ∷ (20, 0) ∷ (21, 0) ∷ (20, 0)
+    ∷ []
+unfolding computing told
+file-lengths = refl
+
+-- Two threads store their numbers plus 1, each into its own of three cells, and load it again.
+unfoldable pub aFile : List ℕ
+aFile = lines "kernel=1/threads=2/cells=3/limit=9/rows=5/row=2,0,0,0/row=1,1,1,0/row=4,2,0,1/row=17,0,2,0/row=16,3,0,0/cell=256/cell=0/cell=4294967295/end=kernel"
+
+unfoldable pub printedFor : List ℕ
+printedFor = lines "verdict=passed/row=-/thread=-/other=-/kind=-/at=-/rows=5/steps=10/barriers=0/cell=1/cell=2/cell=4294967295/end=report"
+
+-- The report is written, 118 bytes; behind it, behind the three cells and behind the six words of the log all is kept.
+pub file-answer : map (λ n. fileAnswer aFile (replicate 1024 9) (replicate 2048 8) (replicate n 7)) (17408 ∷ 20000 ∷ []) ≡ written.Wrote 118 ∷ written.Wrote 118 ∷ []
+unfolding computing aFile
+file-answer = refl
+
+pub file-cells : fileCellsAfter aFile (replicate 1024 9) (replicate 2048 8) (replicate 17408 7) ≡ 1 ∷ 2 ∷ 4294967295 ∷ replicate 1021 9
+unfolding computing aFile
+file-cells = refl
+
+pub file-log : fileLogAfter aFile (replicate 1024 9) (replicate 2048 8) (replicate 17408 7) ≡ 1 ∷ 2 ∷ 0 ∷ 1 ∷ 2 ∷ 0 ∷ replicate 2042 8
+unfolding computing aFile
+file-log = refl
+
+pub file-output : fileOutputAfter aFile (replicate 1024 9) (replicate 2048 8) (replicate 17408 7) ≡ printedFor ++ replicate (17408 - 118) 7
+unfolding computing aFile printedFor
+file-output = refl
+
+pub file-prints : checkPrints aFile ∷ checkPrints (text "kernel=1") ∷ [] ≡ printedFor ∷ lines "refused=11/place=1/end=report" ∷ []
+unfolding computing aFile printedFor
+file-prints = refl
+
+-- A refusal from the state, and one from the input, which goes first: every buffer is left as it was lent.
+unfoldable pub fileAll : (file lentCells lentLog output : List ℕ) → Written × (List ℕ × (List ℕ × List ℕ))
+fileAll file lentCells lentLog output = (
+  fileAnswer file lentCells lentLog output,
+  (fileCellsAfter file lentCells lentLog output, (fileLogAfter file lentCells lentLog output, fileOutputAfter file lentCells lentLog output)),
+)
+
+pub file-refused :
+    fileAll aFile (replicate 4 9) (replicate 6 8) (replicate 17408 7)
+    ∷ fileAll aFile (replicate 1024 9) (replicate 6 8) (replicate 8 7)
+    ∷ fileAll (lines "kernel=2") (replicate 4 9) (replicate 6 8) (replicate 8 7)
+    ∷ []
+    ≡ (written.Refused CellsLength, (replicate 4 9, (replicate 6 8, replicate 17408 7)))
+    ∷ (written.Refused LogLength, (replicate 1024 9, (replicate 6 8, replicate 8 7)))
+    ∷ (written.Refused (LineNotDue 1), (replicate 4 9, (replicate 6 8, replicate 8 7)))
+    ∷ []
+unfolding computing aFile fileAll
+file-refused = refl
+
+-- What is written goes over the buffer's start.
+pub written-over : over (1 ∷ 2 ∷ []) (7 ∷ 8 ∷ 9 ∷ []) ∷ over [] (7 ∷ 8 ∷ []) ∷ over (1 ∷ 2 ∷ []) (7 ∷ 8 ∷ []) ∷ [] ≡ (1 ∷ 2 ∷ 9 ∷ []) ∷ (7 ∷ 8 ∷ []) ∷ (1 ∷ 2 ∷ []) ∷ []
+unfolding computing
+written-over = refl

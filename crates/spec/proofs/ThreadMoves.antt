@@ -1,0 +1,313 @@
+-- The threads' own machine move by move: where a thread goes, its loop counts and registers, what is recorded, and which moves are possible. Assumes nothing.
+use mathlib.Core.Path.{_≡_, refl}
+use mathlib.Core.List.{List, [], _∷_, _++_, map}
+use mathlib.Core.Bool.{Bool, true, false}
+use Prim.Native.Nat.{ℕ, _+_}
+use lib.ListN.{getD, take, replicate}
+use Rattle.spec.specs.Access.{load, store}
+use Rattle.spec.specs.Op.{CALC, SET, MEM, LOAD, IF, ELSE, ENDIF, WHILE, ENDWHILE, BARRIER, UNKNOWN}
+use Rattle.spec.specs.Table.{Table, rowOf}
+use Rattle.spec.specs.Shape.{Shape, shapeOf}
+use Rattle.spec.specs.Threads.{Thread, Group, Move, row, release, next, possible, atEnd, atOneBarrier, isBarrier, noThread, emptyRecord}
+use Rattle.spec.specs.Threads.{initialGroup, machine}
+use Rattle.spec.specs.Runs.{Machine, Run, many, after, shownTo}
+use Rattle.spec.specs.AllRuns.{startOfRuns, leaves, isRelease}
+use Rattle.spec.proofs.LockStepTable.{winding, circling}
+use Rattle.spec.proofs.MachineRuns.{isRun, played, of, racing, meeting, straying}
+use Rattle.spec.proofs.Computing.{computing}
+
+-- Thread t's row, and its counts of the loops at rows p and q.
+unfoldable pub place : ℕ → ℕ → ℕ → Group → List ℕ
+place t p q g = let th = getD (g .threads) t noThread in th .row ∷ getD (th .loops) p 0 ∷ getD (th .loops) q 0 ∷ []
+
+-- What is seen after each of these moves.
+unfoldable pub trail : Table → Shape → (Group → List ℕ) → Group → List Move → List (List ℕ)
+trail T L see g [] = []
+trail T L see g (m ∷ ms) = let h = next T L g m in see h ∷ trail T L see h ms
+
+unfoldable pub alone : Table → (n t p q moves : ℕ) → List (List ℕ)
+alone T n t p q moves = trail T (shapeOf n (7 ∷ 7 ∷ 7 ∷ [])) (place t p q) (startOfRuns T n (7 ∷ 7 ∷ 7 ∷ [])) (of moves t)
+
+-- Thread 0 of `winding`: IF false goes behind ELSE; in there IF true, and ELSE to ENDIF; the second loop twice; then it waits at the BARRIER.
+pub thread-0 : alone winding 3 0 3 13 17 ≡
+    (1 ∷ 0 ∷ 0 ∷ []) ∷ (2 ∷ 0 ∷ 0 ∷ []) ∷ (7 ∷ 0 ∷ 0 ∷ []) ∷ (8 ∷ 0 ∷ 0 ∷ []) ∷ (9 ∷ 0 ∷ 0 ∷ []) ∷ (11 ∷ 0 ∷ 0 ∷ [])
+    ∷ (12 ∷ 0 ∷ 0 ∷ []) ∷ (13 ∷ 0 ∷ 0 ∷ []) ∷ (14 ∷ 0 ∷ 1 ∷ []) ∷ (15 ∷ 0 ∷ 1 ∷ []) ∷ (13 ∷ 0 ∷ 1 ∷ []) ∷ (14 ∷ 0 ∷ 2 ∷ [])
+    ∷ (15 ∷ 0 ∷ 2 ∷ []) ∷ (13 ∷ 0 ∷ 2 ∷ []) ∷ (16 ∷ 0 ∷ 0 ∷ []) ∷ (17 ∷ 0 ∷ 0 ∷ []) ∷ (17 ∷ 0 ∷ 0 ∷ []) ∷ []
+unfolding computing of place trail alone winding
+thread-0 = refl
+
+-- Thread 2: the first loop twice, its count put back to 0; ELSE goes to ENDIF; the second loop not at all.
+pub thread-2 : alone winding 3 2 3 13 14 ≡
+    (1 ∷ 0 ∷ 0 ∷ []) ∷ (2 ∷ 0 ∷ 0 ∷ []) ∷ (3 ∷ 0 ∷ 0 ∷ []) ∷ (4 ∷ 1 ∷ 0 ∷ []) ∷ (5 ∷ 1 ∷ 0 ∷ []) ∷ (3 ∷ 1 ∷ 0 ∷ [])
+    ∷ (4 ∷ 2 ∷ 0 ∷ []) ∷ (5 ∷ 2 ∷ 0 ∷ []) ∷ (3 ∷ 2 ∷ 0 ∷ []) ∷ (6 ∷ 0 ∷ 0 ∷ []) ∷ (12 ∷ 0 ∷ 0 ∷ []) ∷ (13 ∷ 0 ∷ 0 ∷ [])
+    ∷ (16 ∷ 0 ∷ 0 ∷ []) ∷ (17 ∷ 0 ∷ 0 ∷ []) ∷ []
+unfolding computing of place trail alone winding
+thread-2 = refl
+
+-- A loop (5 to 7) in a loop (3 to 9): the inner count starts anew each time the inner loop is entered.
+unfoldable pub loopInLoop : Table
+loopInLoop =
+    rowOf 2 0 0 0
+    ∷ rowOf 1 1 1 0
+    ∷ rowOf 4 2 0 1
+    ∷ rowOf 35 0 2 0
+    ∷ rowOf 4 3 0 15
+    ∷ rowOf 35 0 3 0
+    ∷ rowOf 5 3 3 1
+    ∷ rowOf 36 0 0 0
+    ∷ rowOf 5 2 2 1
+    ∷ rowOf 36 0 0 0
+    ∷ []
+
+pub loops-anew : alone loopInLoop 2 1 3 5 20 ≡
+    (1 ∷ 0 ∷ 0 ∷ []) ∷ (2 ∷ 0 ∷ 0 ∷ []) ∷ (3 ∷ 0 ∷ 0 ∷ []) ∷ (4 ∷ 1 ∷ 0 ∷ []) ∷ (5 ∷ 1 ∷ 0 ∷ []) ∷ (6 ∷ 1 ∷ 1 ∷ []) ∷ (7 ∷ 1 ∷ 1 ∷ [])
+    ∷ (5 ∷ 1 ∷ 1 ∷ []) ∷ (8 ∷ 1 ∷ 0 ∷ []) ∷ (9 ∷ 1 ∷ 0 ∷ []) ∷ (3 ∷ 1 ∷ 0 ∷ []) ∷ (4 ∷ 2 ∷ 0 ∷ []) ∷ (5 ∷ 2 ∷ 0 ∷ []) ∷ (6 ∷ 2 ∷ 1 ∷ [])
+    ∷ (7 ∷ 2 ∷ 1 ∷ []) ∷ (5 ∷ 2 ∷ 1 ∷ []) ∷ (8 ∷ 2 ∷ 0 ∷ []) ∷ (9 ∷ 2 ∷ 0 ∷ []) ∷ (3 ∷ 2 ∷ 0 ∷ []) ∷ (10 ∷ 0 ∷ 0 ∷ []) ∷ []
+unfolding computing of place trail alone loopInLoop
+loops-anew = refl
+
+-- Each thread's row, its registers 0 to 4, and its loop counts by row.
+unfoldable pub stand : Thread → ℕ × (List ℕ × List ℕ)
+stand th = (th .row, (take 5 (th .regs), th .loops))
+
+unfoldable pub rounds : Thread → ℕ × List ℕ
+rounds th = (th .row, th .loops)
+
+-- P1 by both threads up to their STORE, and thread 0's STORE: what each then has, and what is recorded, the newest first.
+pub registers-of-threads : map stand (leaves racing 2 (4 ∷ 5 ∷ 6 ∷ []) (of 7 0 ++ of 6 1) .threads) ≡
+    (7, (0 ∷ 1 ∷ 1 ∷ 9 ∷ 4 ∷ [], replicate 7 0)) ∷ (6, (1 ∷ 1 ∷ 2 ∷ 11 ∷ 5 ∷ [], replicate 7 0)) ∷ []
+unfolding computing of racing stand
+registers-of-threads = refl
+
+pub recorded-accesses : map (leaves racing 2 (4 ∷ 5 ∷ 6 ∷ []) (of 7 0 ++ of 6 1) .made) (0 ∷ 1 ∷ 2 ∷ []) ≡
+    (record { cell = 0; kind = store 9 } ∷ record { cell = 0; kind = load } ∷ record { cell = 1; kind = load } ∷ [])
+    ∷ (record { cell = 1; kind = load } ∷ record { cell = 2; kind = load } ∷ [])
+    ∷ []
+    ∷ []
+unfolding computing of racing
+recorded-accesses = refl
+
+-- A release empties the record, and threads that end leave theirs.
+pub record-emptied : map (leaves meeting 2 (1 ∷ 1 ∷ 1 ∷ []) (of 4 1 ++ (of 4 0 ++ (release ∷ []))) .made) (0 ∷ 1 ∷ []) ≡ [] ∷ [] ∷ []
+unfolding computing of meeting
+record-emptied = refl
+
+-- Which of threads 0, 1, 2 and 3 may move, whether a release may be made, and whether the run has come to its end.
+unfoldable pub may : Table → ℕ → List ℕ → List Move → List Bool
+may T n cells ms =
+    let g = leaves T n cells ms in
+    map (λ t. possible T (shapeOf n cells) g (row t)) (0 ∷ 1 ∷ 2 ∷ 3 ∷ []) ++ (possible T (shapeOf n cells) g release ∷ atEnd T g ∷ [])
+
+-- P2 of two threads; there are no threads 2 and 3. At the start; one waits; both wait; released; one at the end, so that none is ended; both.
+pub two-threads : map (may meeting 2 (1 ∷ 1 ∷ 1 ∷ []))
+    ([]
+    ∷ of 4 0
+    ∷ (of 4 0 ++ of 4 1)
+    ∷ (of 4 0 ++ (of 4 1 ++ (release ∷ [])))
+    ∷ (of 4 0 ++ (of 4 1 ++ (release ∷ of 3 0)))
+    ∷ (of 4 0 ++ (of 4 1 ++ (release ∷ (of 3 1))))
+    ∷ (of 4 0 ++ (of 4 1 ++ (release ∷ (of 3 0 ++ of 3 1))))
+    ∷ [])
+    ≡ (true ∷ true ∷ false ∷ false ∷ false ∷ false ∷ [])
+    ∷ (false ∷ true ∷ false ∷ false ∷ false ∷ false ∷ [])
+    ∷ (false ∷ false ∷ false ∷ false ∷ true ∷ false ∷ [])
+    ∷ (true ∷ true ∷ false ∷ false ∷ false ∷ false ∷ [])
+    ∷ (false ∷ true ∷ false ∷ false ∷ false ∷ false ∷ [])
+    ∷ (true ∷ false ∷ false ∷ false ∷ false ∷ false ∷ [])
+    ∷ (false ∷ false ∷ false ∷ false ∷ false ∷ true ∷ [])
+    ∷ []
+unfolding computing of may meeting
+two-threads = refl
+
+-- P5: a BARRIER in each part of an IF. Both wait, each at its own: no release, and the run is stuck. All at rows that are no BARRIER: no release either.
+unfoldable pub parted : Table
+parted = rowOf 2 0 0 0 ∷ rowOf 32 0 0 0 ∷ rowOf 37 0 0 0 ∷ rowOf 33 0 0 0 ∷ rowOf 37 0 0 0 ∷ rowOf 34 0 0 0 ∷ []
+
+pub two-barriers : map (may parted 2 (0 ∷ [])) (of 2 0 ∷ of 2 1 ∷ (of 2 0 ++ of 2 1) ∷ (of 1 0 ++ of 1 1) ∷ []) ≡
+    (false ∷ true ∷ false ∷ false ∷ false ∷ false ∷ [])
+    ∷ (true ∷ false ∷ false ∷ false ∷ false ∷ false ∷ [])
+    ∷ (false ∷ false ∷ false ∷ false ∷ false ∷ false ∷ [])
+    ∷ (true ∷ true ∷ false ∷ false ∷ false ∷ false ∷ [])
+    ∷ []
+unfolding computing of may parted
+two-barriers = refl
+
+-- Three threads, TID, then IF R0: STORE R0 at cell 0, ELSE: LOAD cell 0. Whoever stores after another's access, or loads after another's store, ends
+-- the run badly, be it the first thread or the last; the bad access leaves the cells, and no move is possible after it.
+unfoldable pub crossing : Table
+crossing = rowOf 2 0 0 0 ∷ rowOf 32 0 0 0 ∷ rowOf 17 1 0 0 ∷ rowOf 33 0 0 0 ∷ rowOf 16 2 1 0 ∷ rowOf 34 0 0 0 ∷ []
+
+unfoldable pub comesTo : List Move → List ℕ × (List Bool × Bool)
+comesTo ms = let g = leaves crossing 3 (9 ∷ []) ms in (g .cells, (may crossing 3 (9 ∷ []) ms, g .bad))
+
+unfoldable pub nothing : List Bool
+nothing = false ∷ false ∷ false ∷ false ∷ false ∷ false ∷ []
+
+pub bad-ends : map comesTo (of 3 2 ∷ (of 3 2 ++ of 3 0) ∷ (of 3 2 ++ of 3 1) ∷ (of 3 1 ++ of 3 2) ∷ (of 3 0 ++ of 3 2) ∷ []) ≡
+    (2 ∷ [], (true ∷ true ∷ true ∷ false ∷ false ∷ false ∷ [], false))
+    ∷ (2 ∷ [], (nothing, true))
+    ∷ (2 ∷ [], (nothing, true))
+    ∷ (1 ∷ [], (nothing, true))
+    ∷ (9 ∷ [], (nothing, true))
+    ∷ []
+unfolding computing of may crossing comesTo nothing
+bad-ends = refl
+
+-- One thread's own accesses of one cell are no race.
+pub own-accesses : leaves (rowOf 16 1 0 0 ∷ rowOf 17 0 1 0 ∷ rowOf 16 1 0 0 ∷ rowOf 17 0 1 0 ∷ []) 2 (9 ∷ []) (of 4 1) .bad ≡ false
+unfolding computing of
+own-accesses = refl
+
+-- `circling` to its end: two releases in the loop and one behind it, and the cells just before each.
+pub three-releases : played circling 2 (9 ∷ 9 ∷ [])
+    (of 6 0 ++ (of 6 1 ++ (release ∷ (of 5 1 ++ (of 5 0 ++ (release ∷ (of 3 0 ++ (of 3 1 ++ (release ∷ []))))))))) ≡
+    record {
+      allPossible = true;
+      ended = true;
+      bad = false;
+      mayMove = false;
+      mayRelease = false;
+      cells = 1 ∷ 2 ∷ [];
+      atReleases = (2 ∷ 3 ∷ []) ∷ (1 ∷ 2 ∷ []) ∷ (1 ∷ 2 ∷ []) ∷ [];
+    }
+unfolding computing of played isRun circling
+three-releases = refl
+
+-- A release puts no loop count back: at the second one the count is 2.
+pub count-kept : map rounds (leaves circling 2 (9 ∷ 9 ∷ []) (of 6 0 ++ (of 6 1 ++ (release ∷ (of 5 0 ++ of 5 1)))) .threads) ≡
+    replicate 2 (6, 0 ∷ 0 ∷ 0 ∷ 2 ∷ 0 ∷ 0 ∷ 0 ∷ 0 ∷ 0 ∷ 0 ∷ [])
+unfolding computing of circling rounds
+count-kept = refl
+
+-- A BARRIER (7) in a loop (6) in a loop (3): thread 0 comes to it in its first round of the outer loop, thread 1 in its second. The inner counts are
+-- equal, the outer ones are not, and the run is stuck.
+unfoldable pub laterRound : Table
+laterRound =
+    rowOf 2 0 0 0
+    ∷ rowOf 1 1 1 0
+    ∷ rowOf 1 2 2 0
+    ∷ rowOf 35 0 2 0
+    ∷ rowOf 5 3 2 1
+    ∷ rowOf 9 4 3 0
+    ∷ rowOf 35 0 4 0
+    ∷ rowOf 37 0 0 0
+    ∷ rowOf 5 4 4 1
+    ∷ rowOf 36 0 0 0
+    ∷ rowOf 5 2 2 1
+    ∷ rowOf 36 0 0 0
+    ∷ []
+
+pub outer-counts : map rounds (leaves laterRound 2 (9 ∷ []) (of 7 0 ++ of 13 1) .threads) ≡
+    (7, 0 ∷ 0 ∷ 0 ∷ 1 ∷ 0 ∷ 0 ∷ 1 ∷ 0 ∷ 0 ∷ 0 ∷ 0 ∷ 0 ∷ []) ∷ (7, 0 ∷ 0 ∷ 0 ∷ 2 ∷ 0 ∷ 0 ∷ 1 ∷ 0 ∷ 0 ∷ 0 ∷ 0 ∷ 0 ∷ []) ∷ []
+unfolding computing of laterRound rounds
+outer-counts = refl
+
+pub outer-counts-stuck : may laterRound 2 (9 ∷ []) (of 7 0 ++ of 13 1) ≡ replicate 6 false
+unfolding computing of may laterRound
+outer-counts-stuck = refl
+
+-- Threads at rows of `laterRound`, with an outer and an inner count: together only at the same BARRIER row, with all counts equal, all three of them.
+unfoldable pub standing : (r outer inner : ℕ) → Thread
+standing r outer inner = record { row = r; regs = []; loops = 0 ∷ 0 ∷ 0 ∷ outer ∷ 0 ∷ 0 ∷ inner ∷ 0 ∷ 0 ∷ 0 ∷ 0 ∷ 0 ∷ [] }
+
+pub together : map (atOneBarrier laterRound)
+    ((standing 7 1 1 ∷ [])
+    ∷ (standing 6 1 1 ∷ [])
+    ∷ (standing 7 2 3 ∷ standing 7 2 3 ∷ standing 7 2 3 ∷ [])
+    ∷ (standing 7 2 3 ∷ standing 7 2 3 ∷ standing 7 2 4 ∷ [])
+    ∷ (standing 7 2 3 ∷ standing 7 1 3 ∷ standing 7 2 3 ∷ [])
+    ∷ (standing 7 2 3 ∷ standing 7 2 3 ∷ standing 6 2 3 ∷ [])
+    ∷ (standing 6 2 3 ∷ standing 7 2 3 ∷ standing 7 2 3 ∷ [])
+    ∷ (standing 6 2 3 ∷ standing 6 2 3 ∷ [])
+    ∷ (standing 12 0 0 ∷ standing 12 0 0 ∷ [])
+    ∷ []
+    ∷ [])
+    ≡ true ∷ false ∷ true ∷ false ∷ false ∷ false ∷ false ∷ false ∷ false ∷ false ∷ []
+unfolding computing laterRound standing
+together = refl
+
+-- After a bad end nothing is possible, not even a release of threads that stand together, and threads at the table's end have not come to theirs.
+unfoldable pub groupOf : List Thread → Bool → Group
+groupOf threads bad = record { threads = threads; cells = 9 ∷ []; made = emptyRecord; bad = bad }
+
+pub nothing-after-bad : map
+    (λ bad.
+    possible laterRound (shapeOf 2 (9 ∷ [])) (groupOf (standing 7 1 1 ∷ standing 7 1 1 ∷ []) bad) release
+    ∷ possible laterRound (shapeOf 2 (9 ∷ [])) (groupOf (standing 7 1 1 ∷ standing 6 1 1 ∷ []) bad) (row 1)
+    ∷ atEnd laterRound (groupOf (standing 12 0 0 ∷ standing 12 0 0 ∷ []) bad)
+    ∷ next laterRound (shapeOf 2 (9 ∷ [])) (groupOf (standing 7 1 1 ∷ standing 7 1 1 ∷ []) bad) release .bad
+    ∷ [])
+    (false ∷ true ∷ [])
+    ≡ (true ∷ true ∷ true ∷ false ∷ []) ∷ (false ∷ false ∷ false ∷ true ∷ []) ∷ []
+unfolding computing laterRound standing groupOf
+nothing-after-bad = refl
+
+-- A run has come to its end when all threads are behind the last row, not at it.
+pub behind-the-last-row : map (λ r. atEnd laterRound (groupOf (standing 12 0 0 ∷ standing r 0 0 ∷ []) false)) (0 ∷ 11 ∷ 12 ∷ []) ≡ false ∷ false ∷ true ∷ []
+unfolding computing laterRound standing groupOf
+behind-the-last-row = refl
+
+-- BARRIER is the one row of which a release is made.
+pub barrier-rows : map isBarrier (CALC SET ∷ MEM LOAD ∷ IF ∷ ELSE ∷ ENDIF ∷ WHILE ∷ ENDWHILE ∷ BARRIER ∷ UNKNOWN ∷ []) ≡
+    false ∷ false ∷ false ∷ false ∷ false ∷ false ∷ false ∷ true ∷ false ∷ []
+unfolding computing
+barrier-rows = refl
+
+-- COUNT beside TID and the number of cells, by thread 1 of three, with five cells; a load of its own cell, and cells beside it.
+pub count-of-threads : map (λ th. take 3 (th .regs))
+    (leaves (rowOf 2 0 0 0 ∷ rowOf 3 1 0 0 ∷ rowOf 16 2 0 0 ∷ []) 3 (10 ∷ 11 ∷ 12 ∷ 13 ∷ 14 ∷ []) (of 3 1 ++ of 3 2) .threads)
+    ≡ (0 ∷ 0 ∷ 0 ∷ []) ∷ (1 ∷ 3 ∷ 11 ∷ []) ∷ (2 ∷ 3 ∷ 12 ∷ []) ∷ []
+unfolding computing of
+count-of-threads = refl
+
+-- Address cells - 1 and address cells, of five cells, by LOAD and by STORE.
+pub edge-of-cells : map (λ x. leaves (rowOf 1 1 4 0 ∷ rowOf 1 2 5 0 ∷ x ∷ []) 1 (10 ∷ 11 ∷ 12 ∷ 13 ∷ 14 ∷ []) (of 3 0) .bad)
+    (rowOf 16 3 1 0 ∷ rowOf 16 3 2 0 ∷ rowOf 17 1 2 0 ∷ rowOf 17 2 1 0 ∷ [])
+    ≡ false ∷ true ∷ false ∷ true ∷ []
+unfolding computing of
+edge-of-cells = refl
+
+-- Of five moves two are releases.
+pub releases-counted : many isRelease (row 0 ∷ release ∷ row 1 ∷ release ∷ row 2 ∷ []) ≡ 2
+unfolding computing
+releases-counted = refl
+
+-- The machine as a whole. One thread, TID and BARRIER: its row and a release are a run, which has come to its end. A LOAD outside ends one badly.
+unfoldable pub short : Table
+short = rowOf 2 0 0 0 ∷ rowOf 37 0 0 0 ∷ []
+
+abbrev pub single : Shape
+single = record { threads = 1; cells = 2 }
+
+pub a-run : Run (machine short single) (initialGroup short single (5 ∷ 6 ∷ [])) (row 0 ∷ release ∷ [])
+unfolding computing short
+a-run = (refl, (refl, tt))
+
+pub its-end : machine short single .Ended (after (machine short single) (initialGroup short single (5 ∷ 6 ∷ [])) (row 0 ∷ release ∷ []))
+unfolding computing short
+its-end = refl
+
+pub a-bad-end : machine straying single .Bad (after (machine straying single) (initialGroup straying single (5 ∷ 6 ∷ [])) (row 0 ∷ row 0 ∷ []))
+unfolding computing straying
+a-bad-end = refl
+
+-- A machine that adds its moves up and shows each sum before the move: what is left, and what is shown, in its order.
+abbrev pub adder : Machine
+adder =
+    record {
+      State = ℕ;
+      Move = ℕ;
+      Observer = Unit {0};
+      Shown = ℕ;
+      Possible = λ s m. Unit {0};
+      next = λ s m. s + m;
+      shows = λ w s m. s ∷ [];
+      Ended = λ s. Unit {0};
+      Bad = λ s. Unit {0};
+    }
+
+pub sums-shown : _≡_ {A = List ℕ} (shownTo adder tt 1 (2 ∷ 3 ∷ 4 ∷ [])) (1 ∷ 3 ∷ 6 ∷ [])
+sums-shown = refl
+
+pub sum-left : _≡_ {A = ℕ} (after adder 1 (2 ∷ 3 ∷ 4 ∷ [])) 10
+sum-left = refl
