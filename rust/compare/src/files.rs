@@ -26,19 +26,19 @@ fn check(checker: &impl Checker, file: &[u8], before: &Lent) -> Left<usize> {
     })
 }
 
-/// Buffers full of junk, a wrong one in about one launch of eight.
+/// Buffers full of junk. In about one launch of six some of them are of a wrong size: one, two or all, each set as likely as
+/// another, so that the refusals' order is seen.
 fn lend(seed: u64) -> Lent {
     let mut rng = Rng::new(seed, 10);
     let mut sizes = [
         LENT_CELLS,
         LENT_LOG,
-        rng.pick(&[REPORT_ROOM, REPORT_ROOM, 20_000]),
+        rng.pick(&[REPORT_ROOM, REPORT_ROOM, REPORT_ROOM + 1, 20_000]),
     ];
-    if rng.one_in(8) {
-        // Mostly one that is wrong; now and then all, so that the refusals' order is seen.
-        let chosen = rng.index(4);
+    if rng.one_in(6) {
+        let wrong = rng.range(1, 7);
         for (which, size) in sizes.iter_mut().enumerate() {
-            if chosen == which || chosen == 3 {
+            if wrong >> which & 1 == 1 {
                 *size = wrong_size(&mut rng, which);
             }
         }
@@ -53,9 +53,9 @@ fn lend(seed: u64) -> Lent {
 
 fn wrong_size(rng: &mut Rng, which: usize) -> usize {
     match which {
-        0 => rng.pick(&[1_023, 1_025, 0]),
+        0 => rng.pick(&[1_023, 1_025, 0, 2_048]),
         1 => rng.pick(&[2_047, 2_049, 0, 1_024]),
-        _ => rng.pick(&[0, 1, 17_407]),
+        _ => rng.pick(&[0, 1, 17_407, 17_407, 1_024]),
     }
 }
 

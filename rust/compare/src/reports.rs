@@ -34,11 +34,12 @@ fn write(checker: &impl Checker, subject: Subject, cells: &[u32], before: &Lent)
     })
 }
 
-/// Exactly as long as the report, one byte shorter, empty, or longer.
+/// Exactly as long as the report, one byte shorter, empty, or longer. Where the cells are refused, mostly too short as well.
 fn room(rng: &mut Rng, checker: &impl Checker, subject: Subject, cells: &[u32]) -> usize {
     let mut output = vec![0; REPORT_ROOM];
-    let needed = checker.write_report(subject, cells, &mut output);
-    let needed = needed.unwrap_or(REPORT_ROOM);
+    let Ok(needed) = checker.write_report(subject, cells, &mut output) else {
+        return rng.pick(&[0, 1, 40, 1_024, REPORT_ROOM, 20_000]);
+    };
     match rng.below(8) {
         0..=2 => needed,
         3..=4 => needed - 1,
@@ -50,7 +51,7 @@ fn room(rng: &mut Rng, checker: &impl Checker, subject: Subject, cells: &[u32]) 
 
 fn subject(rng: &mut Rng) -> Subject {
     if rng.one_in(5) {
-        let (number, place) = (digits(rng), digits(rng));
+        let (number, place) = (digits(rng), digits(rng) * rng.below(2));
         return Subject::Refused(Refusal { number, place });
     }
     Subject::Ran(Outcome {

@@ -1,6 +1,6 @@
 //! The two checkers agree, and a checker with a fault is found out.
 
-use checker::{Outcome, Refusal, Subject};
+use checker::{Outcome, Refusal, Subject, LENT_LOG, REPORT_ROOM};
 use compare::{compare_all, compare_seed, Checker, Independent, Kind, Numbers};
 
 #[test]
@@ -40,6 +40,15 @@ enum Faulty {
     ChangesTheLastByte,
     CountsAStepTooMany,
     ClearsTheLogOnRefusal,
+    TellsTheOutputBeforeTheLog,
+    TellsTheLogBeforeTheCells,
+    TellsCellsBeforeThreads,
+    TellsTheBufferBeforeTheCells,
+}
+
+/// A refusal whose place is 0.
+fn refused<T>(number: u32) -> Result<T, Refusal> {
+    Err(Refusal { number, place: 0 })
 }
 
 impl Faulty {
@@ -81,6 +90,13 @@ impl Checker for Faulty {
         output: &mut [u8],
     ) -> Result<usize, Refusal> {
         let answer = Independent.check_file(file, cells, log, output);
+        let answer = match (self, answer.map_err(|refusal| refusal.number)) {
+            (Faulty::TellsTheOutputBeforeTheLog, Err(21)) if output.len() < REPORT_ROOM => {
+                refused(24)
+            }
+            (Faulty::TellsTheLogBeforeTheCells, Err(20)) if log.len() != LENT_LOG => refused(21),
+            _ => answer,
+        };
         self.spoil(answer, cells, log, output)
     }
 
@@ -92,6 +108,14 @@ impl Checker for Faulty {
         log: &mut [u32],
     ) -> Result<Outcome, Refusal> {
         let mut answer = Independent.bare_launch(table, numbers, cells, log);
+        let Numbers { cells: said, .. } = numbers;
+        answer = match (self, answer.map_err(|refusal| refusal.number)) {
+            (Faulty::TellsCellsBeforeThreads, Err(8)) if !(1..=1_024).contains(&said) => refused(9),
+            (Faulty::TellsTheLogBeforeTheCells, Err(20)) if log.len() != 2 * said as usize => {
+                refused(21)
+            }
+            _ => answer,
+        };
         if let (Faulty::CountsAStepTooMany, Ok(outcome)) = (self, &mut answer) {
             outcome.steps += 1;
         }
@@ -105,6 +129,11 @@ impl Checker for Faulty {
         output: &mut [u8],
     ) -> Result<usize, Refusal> {
         let answer = Independent.write_report(subject, cells, output);
+        let answer = match (self, answer.map_err(|refusal| refusal.number)) {
+            // A report has no fewer bytes than this.
+            (Faulty::TellsTheBufferBeforeTheCells, Err(23)) if output.len() < 50 => refused(22),
+            _ => answer,
+        };
         self.spoil(answer, &mut [], &mut [], output)
     }
 }
@@ -124,6 +153,8 @@ fn a_fault_in_files_is_found_out() {
         Faulty::ChangesTheLastLogWord,
         Faulty::ChangesTheLastByte,
         Faulty::ClearsTheLogOnRefusal,
+        Faulty::TellsTheOutputBeforeTheLog,
+        Faulty::TellsTheLogBeforeTheCells,
     ] {
         assert!(found_out(faulty, Kind::File));
     }
@@ -137,6 +168,8 @@ fn a_fault_in_bare_launches_is_found_out() {
         Faulty::ChangesTheLastLogWord,
         Faulty::CountsAStepTooMany,
         Faulty::ClearsTheLogOnRefusal,
+        Faulty::TellsTheLogBeforeTheCells,
+        Faulty::TellsCellsBeforeThreads,
     ] {
         assert!(found_out(faulty, Kind::Bare));
     }
@@ -144,7 +177,11 @@ fn a_fault_in_bare_launches_is_found_out() {
 
 #[test]
 fn a_fault_in_reports_is_found_out() {
-    for faulty in [Faulty::PlaceOffByOne, Faulty::ChangesTheLastByte] {
+    for faulty in [
+        Faulty::PlaceOffByOne,
+        Faulty::ChangesTheLastByte,
+        Faulty::TellsTheBufferBeforeTheCells,
+    ] {
         assert!(found_out(faulty, Kind::Report));
     }
 }

@@ -1,8 +1,11 @@
 //! Bare launches, with buffers and lengths right and wrong.
 
 use crate::damage::hurt_rows;
+use crate::headers::{out_of_range, LIMIT};
 use crate::plan::Plan;
 use crate::rng::Rng;
+use crate::slips::{small_faulty_plan, small_plan};
+use crate::tables::table;
 
 /// The arguments of a bare launch.
 #[derive(Clone, Debug, PartialEq, Eq)]
@@ -21,21 +24,41 @@ pub struct BareLaunch {
     pub lent_log: Vec<u32>,
 }
 
-/// Turns a plan into a bare launch, hurt in about half of the cases.
-pub fn bare_of(rng: &mut Rng, mut plan: Plan) -> BareLaunch {
-    if rng.one_in(4) {
-        plan = hurt_rows(rng, plan);
+/// A bare launch: sound, hurt in some way, with a small table that is turned
+/// back, or with one fault or two at once.
+pub fn bare(rng: &mut Rng, any_plan: impl FnOnce(&mut Rng) -> Plan) -> BareLaunch {
+    match rng.below(16) {
+        0..=9 => {
+            let plan = any_plan(rng);
+            hurt_or_not(rng, plan)
+        }
+        10..=12 => {
+            let plan = small_faulty_plan(rng);
+            of(rng, plan)
+        }
+        _ => one_or_two_faults(rng),
     }
+}
+
+fn of(rng: &mut Rng, plan: Plan) -> BareLaunch {
     let cells = plan.cells.len() as u32;
-    let mut launch = BareLaunch {
+    BareLaunch {
         table: plan.table(),
         threads: plan.threads,
         cells,
         limit: plan.limit,
         lent_cells: plan.cells,
         lent_log: (0..2 * cells).map(|_| rng.word()).collect(),
-    };
-    while rng.one_in(3) {
+    }
+}
+
+/// Hurt in about a third of the cases, in any way.
+fn hurt_or_not(rng: &mut Rng, mut plan: Plan) -> BareLaunch {
+    if rng.one_in(6) {
+        plan = hurt_rows(rng, plan);
+    }
+    let mut launch = of(rng, plan);
+    while rng.one_in(6) {
         hurt(rng, &mut launch);
     }
     launch
@@ -65,9 +88,54 @@ fn hurt(rng: &mut Rng, launch: &mut BareLaunch) {
     }
 }
 
-/// One word more, one fewer, none, or as many as the whole-file entry wants.
+/// Mostly one word more or one fewer; none, or as many as the whole-file entry
+/// wants.
 fn resize(rng: &mut Rng, words: &mut Vec<u32>) {
     let len = words.len();
-    let target = rng.pick(&[len + 1, len.saturating_sub(1), 0, 1_024, 2_048]);
+    let target = match rng.below(6) {
+        0 | 1 => len + 1,
+        2 | 3 => len.saturating_sub(1),
+        _ => rng.pick(&[0, 0, 1_024, 2_048]),
+    };
     words.resize(target, 7);
+}
+
+/// The faults of a bare launch that a refusal of their own is told for, in
+/// the order in which they are told.
+const FAULTS: [fn(&mut Rng, &mut BareLaunch, &Plan); 8] = [
+    |rng, launch, _| {
+        let more = rng.range(1, 3);
+        launch.table.extend((0..more).map(|_| 2));
+    },
+    |rng, launch, _| {
+        let part = launch.table.len() % 4;
+        launch
+            .table
+            .resize(rng.pick(&[1_028, 1_028, 1_032]) + part, 0);
+    },
+    |rng, launch, plan| launch.threads = out_of_range(rng, 0, plan),
+    |rng, launch, plan| launch.cells = out_of_range(rng, 1, plan),
+    |rng, launch, plan| launch.limit = out_of_range(rng, LIMIT, plan),
+    |rng, launch, _| {
+        let mut rows = table(rng).concat();
+        rows.extend(launch.table.split_off(launch.table.len() / 4 * 4));
+        launch.table = rows;
+    },
+    |rng, launch, _| resize(rng, &mut launch.lent_cells),
+    |rng, launch, _| resize(rng, &mut launch.lent_log),
+];
+
+/// One fault of a small launch, or two, often such as are told one after the
+/// other.
+fn one_or_two_faults(rng: &mut Rng) -> BareLaunch {
+    let plan = small_plan(rng);
+    let mut launch = of(rng, plan.clone());
+    let first = rng.index(FAULTS.len());
+    FAULTS[first](rng, &mut launch, &plan);
+    match rng.below(4) {
+        0 => {}
+        1 => FAULTS[(first + 1) % FAULTS.len()](rng, &mut launch, &plan),
+        _ => rng.pick(&FAULTS)(rng, &mut launch, &plan),
+    }
+    launch
 }

@@ -5,6 +5,8 @@ use checker::op;
 use crate::asm::*;
 use crate::plan::{join, Plan};
 use crate::rng::Rng;
+use crate::spelling::hurt_number;
+use crate::tables::wrong_row_in_frame;
 
 type Lines = Vec<Vec<u8>>;
 
@@ -47,7 +49,8 @@ pub fn noise(rng: &mut Rng) -> Vec<u8> {
 pub fn hurt_rows(rng: &mut Rng, mut plan: Plan) -> Plan {
     match rng.below(9) {
         0 => unknown_op(rng, &mut plan.rows),
-        1 | 2 => wrong_operand(rng, &mut plan.rows),
+        1 => wrong_operand(rng, &mut plan.rows),
+        2 => wrong_row(rng, &mut plan.rows),
         3 => stray_end(rng, &mut plan.rows),
         4 => left_open(rng, &mut plan.rows),
         5 => drop_a_bound(rng, &mut plan.rows),
@@ -91,6 +94,12 @@ fn wrong_operand(rng: &mut Rng, rows: &mut Vec<Row>) {
     let at = rng.index(rows.len());
     let byte = rng.range(1, 3) as usize;
     rows[at][byte] = rng.pick(&[1, 15, 16, 16, 17, 32, 128, 255]);
+}
+
+/// A row with one wrong byte, of any op.
+fn wrong_row(rng: &mut Rng, rows: &mut Vec<Row>) {
+    let at = rng.index(rows.len() + 1);
+    rows.splice(at..at, wrong_row_in_frame(rng));
 }
 
 fn stray_end(rng: &mut Rng, rows: &mut Vec<Row>) {
@@ -219,64 +228,11 @@ fn hurt_header(rng: &mut Rng, lines: &mut Lines) {
     lines[at] = format!("{key}={value}").into_bytes();
 }
 
-/// A number spelt wrong, or too big, somewhere in the line.
-fn hurt_number(rng: &mut Rng, line: &mut Vec<u8>) {
-    // The numbers of a line start behind `=` and each comma.
-    let starts: Vec<usize> = (0..line.len())
-        .filter(|&at| matches!(line[at], b'=' | b','))
-        .map(|at| at + 1)
-        .collect();
-    if starts.is_empty() {
-        return line.push(b'=');
-    }
-    let start = rng.pick(&starts);
-    let len = line[start..]
-        .iter()
-        .take_while(|&&byte| byte != b',')
-        .count();
-    let old = line[start..start + len].to_vec();
-    let fresh: &[&[u8]] = &[
-        b"",
-        b"4294967295",
-        b"4294967296",
-        b"18446744073709551615",
-        b"18446744073709551616",
-        b"340282366920938463463374607431768211456",
-        b"255",
-        b"256",
-        b"257",
-        b"00",
-        b"0x1",
-        b"1e1",
-        b"\xd9\xa1",
-    ];
-    let around: &[(&[u8], &[u8])] = &[
-        (b"0", b""),
-        (b"+", b""),
-        (b"-", b""),
-        (b" ", b""),
-        (b"", b" "),
-        (b"", b","),
-        (b"", b",0"),
-        (b"=", b""),
-        (b"", b"\0"),
-        (b"", b"\t"),
-        (b"", b"."),
-    ];
-    let new = if rng.one_in(2) {
-        rng.pick(fresh).to_vec()
-    } else {
-        let (before, behind) = rng.pick(around);
-        [before, &old, behind].concat()
-    };
-    line.splice(start..start + len, new);
-}
-
 /// Faults anywhere in the bytes, and faults of length.
 fn hurt_bytes(rng: &mut Rng, file: &mut Vec<u8>) {
     let byte = match rng.below(3) {
         0 => rng.byte(),
-        _ => rng.pick(b"\n\n\r\0 =,-+019"),
+        _ => rng.pick(b"\n\n\r\0 =,-+019:/"),
     };
     let at = rng.index(file.len());
     match rng.below(9) {
@@ -297,7 +253,7 @@ fn hurt_bytes(rng: &mut Rng, file: &mut Vec<u8>) {
 
 /// A file of 32,768 bytes, of 32,769, or longer. No sound file is as long, so
 /// the bytes are put where a fault of its own is found, or behind the end.
-fn stretch(rng: &mut Rng, file: &mut Vec<u8>) {
+pub fn stretch(rng: &mut Rng, file: &mut Vec<u8>) {
     let target = rng.pick(&[32_767, 32_768, 32_769, 32_769, 32_769, 40_000]);
     let missing = usize::saturating_sub(target, file.len());
     let filler = rng.pick(b"0019 x\n\0=");

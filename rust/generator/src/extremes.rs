@@ -3,9 +3,18 @@
 use crate::asm::*;
 use crate::plan::Plan;
 use crate::rng::Rng;
+use crate::words::shift_count;
 
-const EXTREMES: [fn(&mut Rng) -> Plan; 5] =
-    [word_table, built_words, full_table, all_cells, nearly_empty];
+const EXTREMES: [fn(&mut Rng) -> Plan; 8] = [
+    word_table,
+    built_words,
+    full_table,
+    straight_table,
+    all_cells,
+    nearly_empty,
+    long_loop,
+    long_loop,
+];
 
 /// One of the extremes.
 pub fn extreme(rng: &mut Rng) -> Plan {
@@ -53,7 +62,7 @@ fn built_words(rng: &mut Rng) -> Plan {
         add(1, 1, 2), // low + 2^16 * high
     ];
     for _ in 0..rng.range(1, 8) {
-        let shift = rng.pick(&[0, 1, 30, 31, 32, 33, 65_535]);
+        let shift = shift_count(rng);
         let op = rng.pick(&[10, 11]);
         rows.push(set(4, shift));
         if rng.one_in(3) {
@@ -86,6 +95,34 @@ fn full_table(rng: &mut Rng) -> Plan {
     table.extend([set(2, 1), sub(1, 1, 2), ENDWHILE]);
     let cells = edge_words(rng, threads);
     Plan::new(rng, threads, table, cells)
+}
+
+/// Plain rows to the last row there may be, at which the run stops or ends.
+fn straight_table(rng: &mut Rng) -> Plan {
+    let threads = rng.threads();
+    let mut rows = vec![tid(0), set(1, 1), begin_if(0)];
+    while rows.len() < 254 {
+        rows.push([
+            rng.range(4, 14) as u8,
+            rng.range(2, 15) as u8,
+            rng.below(16) as u8,
+            1,
+        ]);
+    }
+    // Row 255 is due, stops the run, or is its last.
+    match rng.below(4) {
+        0 => rows.splice(253.., [BARRIER, sub(1, 15, 1), ENDIF]),
+        1 => rows.splice(253.., [ENDIF, sub(2, 15, 1), load(3, 2)]),
+        2 => rows.splice(253.., [ENDIF, tid(2), store(15, 0)]),
+        _ => rows.splice(253.., [ENDIF, tid(2), tid(3)]),
+    }
+    .for_each(drop);
+    let cells = edge_words(rng, threads);
+    let mut plan = Plan::new(rng, threads, rows, cells);
+    if rng.one_in(2) {
+        plan.limit = rng.pick(&[254, 255, 255, 256]);
+    }
+    plan
 }
 
 /// 1,024 cells, each written by one thread in a strided loop.
@@ -122,4 +159,23 @@ fn nearly_empty(rng: &mut Rng) -> Plan {
     };
     let cells = edge_words(rng, 1);
     Plan::new(rng, threads, rows, cells)
+}
+
+/// A loop without an end, run until a count is past 8 or 16 bits: barriers,
+/// steps, or now and then rows as well.
+fn long_loop(rng: &mut Rng) -> Plan {
+    let (threads, limit) = match rng.below(10) {
+        0 => (rng.range(1, 2), rng.range(196_620, 200_000)),
+        1..=4 => (32, rng.range(2_060, 2_400)),
+        _ => (rng.range(1, 8), rng.range(800, 1_600)),
+    };
+    let inside = if threads == 32 { tid(2) } else { BARRIER };
+    let rows = vec![set(1, 1), begin_while(1), inside, ENDWHILE];
+    let cells = edge_words(rng, 1);
+    Plan {
+        threads,
+        limit,
+        rows,
+        cells,
+    }
 }

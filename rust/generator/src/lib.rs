@@ -5,11 +5,16 @@ mod asm;
 mod bare;
 mod damage;
 mod extremes;
+mod headers;
 mod patterns;
 mod plan;
 mod random;
 mod rng;
+mod slips;
 mod small;
+mod spelling;
+mod tables;
+mod words;
 
 pub use bare::BareLaunch;
 pub use plan::Plan;
@@ -17,15 +22,19 @@ pub use rng::Rng;
 pub use small::SmallLaunch;
 
 /// The bytes of one launch file: a structured kernel, a random one, one at the
-/// edges, a damaged file, or noise.
+/// edges, a damaged file, a small one with a slip or two, or noise.
 pub fn launch(seed: u64) -> Vec<u8> {
     let mut rng = Rng::new(seed, 1);
     match rng.below(100) {
         0..=1 => damage::noise(&mut rng),
-        2..=34 => {
+        2..=13 => {
             let plan = any_plan(&mut rng);
             damage::damaged(&mut rng, plan)
         }
+        14..=28 => slips::misspelt(&mut rng),
+        29..=31 => slips::hurt_bytes(&mut rng),
+        32..=37 => slips::headers(&mut rng),
+        38..=50 => slips::faulty_table(&mut rng),
         _ => any_plan(&mut rng).file(),
     }
 }
@@ -37,9 +46,7 @@ pub fn plan(seed: u64) -> Plan {
 
 /// One bare launch, with right and wrong buffers.
 pub fn bare(seed: u64) -> BareLaunch {
-    let mut rng = Rng::new(seed, 3);
-    let plan = any_plan(&mut rng);
-    bare::bare_of(&mut rng, plan)
+    bare::bare(&mut Rng::new(seed, 3), any_plan)
 }
 
 /// One small launch for the explorer.
@@ -49,8 +56,9 @@ pub fn small(seed: u64) -> SmallLaunch {
 
 fn any_plan(rng: &mut Rng) -> Plan {
     match rng.below(100) {
-        0..=44 => patterns::pattern(rng),
-        45..=84 => random::random(rng),
-        _ => extremes::extreme(rng),
+        0..=41 => patterns::pattern(rng),
+        42..=72 => random::random(rng),
+        73..=84 => extremes::extreme(rng),
+        _ => words::words(rng),
     }
 }

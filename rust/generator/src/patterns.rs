@@ -6,7 +6,7 @@ use crate::asm::*;
 use crate::plan::Plan;
 use crate::rng::Rng;
 
-const PATTERNS: [fn(&mut Rng) -> Plan; 12] = [
+const PATTERNS: [fn(&mut Rng) -> Plan; 14] = [
     reduction,
     scan,
     stencil,
@@ -19,6 +19,8 @@ const PATTERNS: [fn(&mut Rng) -> Plan; 12] = [
     guarded_barrier,
     reaching_the_end,
     rotating_counters,
+    one_after_the_other,
+    one_after_the_other,
 ];
 
 /// One of the patterns.
@@ -351,5 +353,52 @@ fn rotating_counters(rng: &mut Rng) -> Plan {
     rows.extend(barrier_unless(rng, 4));
     rows.extend([add(4, 4, 1), and(4, 4, 3), sub(2, 2, 1), ENDWHILE]);
     let cells = cells(rng, threads);
+    Plan::new(rng, threads, rows, cells)
+}
+
+/// One thread loads a cell, stores it or both; then another does, or all the
+/// others do, mostly without a barrier between.
+fn one_after_the_other(rng: &mut Rng) -> Plan {
+    let threads = match rng.below(2) {
+        0 => 32,
+        _ => rng.threads().max(2),
+    };
+    // Often the first or the last thread, the mask's edges.
+    let [first, second] = std::array::from_fn(|_| match rng.below(4) {
+        0 => 0,
+        1 | 2 => threads - 1,
+        _ => rng.below(threads),
+    });
+    let accesses = |rng: &mut Rng| {
+        let (read, write) = (load(4, 5), store(5, 0));
+        rng.pick(&[
+            [read, write],
+            [write, read],
+            [read, read],
+            [write, write],
+            [read, tid(4)],
+            [write, tid(4)],
+        ])
+    };
+    let mut rows = vec![
+        tid(0),
+        set(2, first),
+        set(3, second),
+        eq(6, 0, 2),
+        begin_if(6),
+    ];
+    rows.extend(accesses(rng));
+    rows.push(ENDIF);
+    if rng.one_in(4) {
+        rows.push(BARRIER);
+    }
+    if rng.one_in(2) {
+        rows.extend([eq(7, 0, 3), begin_if(7)]);
+    } else {
+        rows.extend([eq(7, 6, 15), begin_if(7)]);
+    }
+    rows.extend(accesses(rng));
+    rows.push(ENDIF);
+    let cells = cells(rng, 1);
     Plan::new(rng, threads, rows, cells)
 }

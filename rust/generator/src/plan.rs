@@ -67,7 +67,9 @@ impl Plan {
                 0 => rows.saturating_sub(1),
                 1 | 2 => rows,
                 3..=6 => rows + 1,
-                7 => rng.below(rows + 1),
+                7 if rng.one_in(2) => rng.below(rows + 1),
+                // A narrower reading of it would be too small.
+                7 => 65_536 + rng.below(rows + 1),
                 8 => rng.below(2),
                 9..=12 => rows + rng.below(1_000),
                 13..=15 => 1_000_000,

@@ -32,7 +32,7 @@ struct Writer<'r> {
 
 /// A random kernel.
 pub fn random(rng: &mut Rng) -> Plan {
-    if rng.one_in(8) {
+    if rng.one_in(6) {
         return tower(rng);
     }
     let threads = rng.threads();
@@ -210,13 +210,23 @@ impl Writer<'_> {
 
 /// Constructs nested 6 to 9 deep, straight down and up again.
 fn tower(rng: &mut Rng) -> Plan {
-    let threads = rng.threads();
-    let depth = rng.pick(&[6, 7, 7, 8, 8, 8, 8, 9]);
+    // At each level one thread more may be left behind.
+    let narrowing = rng.one_in(2);
+    let threads = if narrowing {
+        rng.range(9, 32)
+    } else {
+        rng.threads()
+    };
+    let depth = rng.pick(&[6, 7, 8, 8, 8, 8, 8, 9]);
     let loops: Vec<bool> = (0..depth).map(|_| rng.one_in(2)).collect();
     let mut rows = vec![tid(0), set(1, 1)];
     for (level, &is_loop) in loops.iter().enumerate() {
         let counter = 8 + level as u8 % 8;
         let start = match rng.below(8) {
+            0..=6 if narrowing => {
+                rows.push(set(3, level as u32));
+                lt(counter, 3, 0)
+            }
             0 => tid(counter),
             1 => set(counter, 0),
             2 => set(counter, 2),
@@ -235,7 +245,7 @@ fn tower(rng: &mut Rng) -> Plan {
             rows.extend([sub(counter, counter, 1), ENDWHILE]);
             continue;
         }
-        if rng.one_in(3) {
+        if rng.one_in(2) {
             rows.extend([ELSE, add(3, 3, 1)]);
         }
         rows.push(ENDIF);

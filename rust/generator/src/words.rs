@@ -1,0 +1,214 @@
+//! Kernels over words at the edges: shifts, comparisons, truth values and
+//! addresses. Each thread has words of its own, so that one launch tries many.
+
+use crate::asm::*;
+use crate::plan::Plan;
+use crate::rng::Rng;
+
+const KERNELS: [fn(&mut Rng) -> Plan; 7] = [
+    shifts,
+    shifts,
+    comparisons,
+    truths,
+    truths,
+    addresses,
+    addresses,
+];
+
+/// One of the kernels.
+pub fn words(rng: &mut Rng) -> Plan {
+    rng.pick(&KERNELS)(rng)
+}
+
+/// Shift counts of 34 and more at which some narrower reading has its edge.
+const FAR: [u32; 16] = [
+    63,
+    64,
+    65,
+    95,
+    96,
+    127,
+    128,
+    255,
+    256,
+    257,
+    65_535,
+    65_536,
+    65_537,
+    (1 << 31) - 1,
+    1 << 31,
+    u32::MAX,
+];
+
+/// Words that are true, though not by their lowest bits or as signed ones.
+const TRUE: [u32; 10] = [
+    1 << 31, // twice
+    1,
+    2,
+    256,
+    1 << 16,
+    1 << 24,
+    (1 << 31) - 1,
+    1 << 31,
+    (1 << 31) + 1,
+    u32::MAX,
+];
+
+/// A count to shift by, mostly 0 to 33.
+pub fn shift_count(rng: &mut Rng) -> u32 {
+    match rng.below(8) {
+        0 => rng.pick(&[0, 1, 31, 32, 33]),
+        1 => rng.pick(&FAR),
+        2 => rng.pick(&FAR).wrapping_add(rng.below(32)),
+        _ => rng.below(34),
+    }
+}
+
+/// A word to shift, mostly with the top bit set.
+fn shifted_word(rng: &mut Rng) -> u32 {
+    let word = rng.word();
+    if rng.one_in(4) {
+        word
+    } else {
+        word | 1 << 31
+    }
+}
+
+/// A word, and one that is equal, close, or as far off as can be.
+fn pair(rng: &mut Rng) -> [u32; 2] {
+    let x = rng.word();
+    let y = match rng.below(8) {
+        0 => x,
+        1 => x.wrapping_add(1),
+        2 => x ^ 1 << 31,
+        3 => x ^ 1 << rng.below(32),
+        4 => x.wrapping_add(1 << 31).wrapping_sub(1),
+        5 => !x,
+        _ => rng.edge(),
+    };
+    if rng.one_in(2) {
+        [x, y]
+    } else {
+        [y, x]
+    }
+}
+
+/// Both shifts of each thread's words by its counts, by all threads or by
+/// some, put back over the word and the count.
+fn shifts(rng: &mut Rng) -> Plan {
+    let threads = rng.threads();
+    let rounds = rng.range(1, 3);
+    let some_only = rng.one_in(3);
+    let both = [[10, 5, 2, 3], [11, 6, 2, 3]];
+    let mut rows = vec![tid(0), count(1), set(7, 1), and(7, 0, 7)];
+    for _ in 0..rounds {
+        rows.extend([load(2, 0), add(4, 0, 1), load(3, 4)]);
+        if some_only {
+            rows.push(begin_if(7));
+            rows.extend(both);
+            rows.push(ENDIF);
+        } else {
+            rows.extend(both);
+        }
+        rows.extend([store(0, 5), store(4, 6), add(0, 4, 1)]);
+    }
+    let mut cells = vec![];
+    for _ in 0..rounds {
+        cells.extend((0..threads).map(|_| shifted_word(rng)));
+        cells.extend((0..threads).map(|_| shift_count(rng)));
+    }
+    Plan::new(rng, threads, rows, cells)
+}
+
+/// EQ, LT and SLT of two words of each thread.
+fn comparisons(rng: &mut Rng) -> Plan {
+    let threads = rng.threads();
+    let rows = vec![
+        tid(0),
+        count(1),
+        add(4, 0, 1),
+        add(8, 4, 1),
+        load(2, 0),
+        load(3, 4),
+        eq(5, 2, 3),
+        lt(6, 2, 3),
+        [14, 7, 2, 3],
+        store(0, 5),
+        store(4, 6),
+        store(8, 7),
+    ];
+    let pairs: Vec<[u32; 2]> = (0..threads).map(|_| pair(rng)).collect();
+    let mut cells: Vec<u32> = pairs.iter().map(|pair| pair[0]).collect();
+    cells.extend(pairs.iter().map(|pair| pair[1]));
+    cells.extend((0..threads).map(|_| rng.word()));
+    Plan::new(rng, threads, rows, cells)
+}
+
+/// IF and WHILE on a word of each thread, by all threads or by some.
+fn truths(rng: &mut Rng) -> Plan {
+    let threads = rng.threads();
+    let tests = [
+        begin_if(2),
+        add(5, 5, 1),
+        ELSE,
+        sub(5, 5, 1),
+        ENDIF,
+        begin_while(2),
+        add(5, 5, 5),
+        sub(2, 2, 2),
+        ENDWHILE,
+    ];
+    let mut rows = vec![tid(0), set(1, rng.range(1, 3)), set(5, 3), load(2, 0)];
+    if rng.one_in(3) {
+        rows.extend(tests);
+    } else {
+        rows.extend([and(3, 0, 1), begin_if(3)]);
+        rows.extend(tests);
+        rows.push(ENDIF);
+    }
+    rows.push(store(0, 5));
+    let truth = |rng: &mut Rng| match rng.below(4) {
+        0 => 0,
+        _ => rng.pick(&TRUE),
+    };
+    let cells = (0..threads).map(|_| truth(rng)).collect();
+    Plan::new(rng, threads, rows, cells)
+}
+
+/// LOAD or STORE at an address that stands in the thread's own cell: mostly
+/// its own number, otherwise the last cell, the one behind it, or a number
+/// whose low bits are a cell's.
+fn addresses(rng: &mut Rng) -> Plan {
+    let threads = rng.threads();
+    let count = match rng.below(4) {
+        0 => rng.pick(&[1_023, 1_024]),
+        1 => threads,
+        _ => threads + rng.below(8),
+    };
+    let mut rows = vec![tid(0), load(2, 0), BARRIER];
+    rows.push(if rng.one_in(2) {
+        load(3, 2)
+    } else {
+        store(2, 0)
+    });
+    rows.extend([add(3, 3, 0), store(0, 3)]);
+    let mut cells: Vec<u32> = (0..count).map(|_| rng.word()).collect();
+    for (thread, cell) in (0..threads).zip(&mut cells) {
+        *cell = thread;
+    }
+    let odd = rng.index(threads as usize);
+    let inside = if rng.one_in(2) {
+        odd as u32
+    } else {
+        rng.below(count)
+    };
+    cells[odd] = match rng.below(8) {
+        0 => count + rng.pick(&[0, 0, 1]),
+        1 => rng.pick(&[1_023, 1_024, u32::MAX]),
+        2 => (1 << 16) + inside,
+        3 | 5 => (1 << 31) + inside,
+        4 => rng.pick(&[1 << 8, 1 << 10, 1 << 24, 1 << 30]) + inside,
+        _ => count - 1,
+    };
+    Plan::new(rng, threads, rows, cells)
+}

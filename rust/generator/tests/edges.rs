@@ -1,0 +1,444 @@
+//! The edges that few launches would have by chance: each occurs often enough
+//! among the first few thousand seeds.
+
+use std::collections::BTreeMap;
+
+use checker::{bare_launch, op, Refusal, MAX_FILE, MAX_LIMIT, MAX_ROWS};
+use generator::{BareLaunch, Plan};
+
+const SEEDS: u64 = 4_000;
+
+#[derive(Default)]
+struct Counts(BTreeMap<String, usize>);
+
+impl Counts {
+    fn see(&mut self, name: impl Into<String>, seen: bool) {
+        *self.0.entry(name.into()).or_default() += usize::from(seen);
+    }
+
+    /// Fails for each edge that was looked for and seen fewer than `least`
+    /// times.
+    fn expect(&self, least: usize) {
+        println!("{:#?}", self.0);
+        let rare: Vec<_> = self.0.iter().filter(|(_, &n)| n < least).collect();
+        assert!(rare.is_empty(), "fewer than {least} times: {rare:?}");
+    }
+}
+
+/// Whether some line of a file has this key and a value of this kind.
+fn has(file: &[u8], key: &str, value: impl Fn(&[u8]) -> bool) -> bool {
+    file.split(|&byte| byte == b'\n').any(|line| {
+        line.strip_prefix(key.as_bytes())
+            .and_then(|rest| rest.strip_prefix(b"="))
+            .is_some_and(&value)
+    })
+}
+
+const KEYS: [&str; 6] = ["threads", "cells", "limit", "rows", "row", "cell"];
+
+fn only(value: &[u8], more: &[u8]) -> bool {
+    let fits = |byte: &u8| byte.is_ascii_digit() || b",".contains(byte) || more.contains(byte);
+    value.iter().all(fits) && more.iter().any(|byte| value.contains(byte))
+}
+
+#[test]
+fn spellings_of_numbers() {
+    let (mut by_key, mut by_fault) = (Counts::default(), Counts::default());
+    for file in (0..SEEDS).map(generator::launch) {
+        for key in KEYS {
+            let seen = |value: &dyn Fn(&[u8]) -> bool| has(&file, key, value);
+            by_fault.see("colon", seen(&|v| only(v, b":")));
+            by_fault.see("slash", seen(&|v| only(v, b"/")));
+            by_fault.see("equals", seen(&|v| v.contains(&b'=')));
+            by_fault.see("carriage return", seen(&|v| v.ends_with(b"\r")));
+            let mut see = |name: &str, found: bool| by_key.see(format!("{key}: {name}"), found);
+            see("leading zero", seen(&|v| v.len() > 1 && v[0] == b'0'));
+            see("empty", seen(&|v| v.is_empty()));
+            if key != "row" {
+                see("2^32 - 1", seen(&|v| v == b"4294967295"));
+                see("2^32", seen(&|v| v == b"4294967296"));
+            }
+        }
+    }
+    by_key.expect(2);
+    by_fault.expect(15);
+}
+
+#[test]
+fn spellings_of_rows() {
+    let mut counts = Counts::default();
+    for file in (0..SEEDS).map(generator::launch) {
+        for parts in [3, 5] {
+            let seen = has(&file, "row", |value| {
+                only(value, b",") && value.split(|&b| b == b',').count() == parts
+            });
+            counts.see(format!("{parts} values"), seen);
+        }
+        for byte in ["255", "256"] {
+            let seen = has(&file, "row", |value| {
+                value.split(|&b| b == b',').any(|v| v == byte.as_bytes())
+            });
+            counts.see(byte, seen);
+        }
+        let other = has(&file, "row", |value| only(value, b";") || only(value, b" "));
+        counts.see("another separator", other);
+        let none = has(&file, "row", |value| {
+            only(value, b",") && value.split(|&b| b == b',').any(<[u8]>::is_empty)
+        });
+        counts.see("an empty value", none);
+    }
+    counts.expect(8);
+}
+
+#[test]
+fn keys_and_values_that_are_almost_right() {
+    let lines: [&[u8]; 14] = [
+        b"kernel=",
+        b"kernel=2",
+        b"kernel=11",
+        b"kernel1",
+        b"kerne=1",
+        b"kernels=1",
+        b"Kernel=1",
+        b"kernel==1",
+        b"end=kerne",
+        b"end=kernels",
+        b"end=kernelkernel",
+        b"end=KERNEL",
+        b"en=kernel",
+        b"end",
+    ];
+    let mut counts = Counts::default();
+    for file in (0..SEEDS).map(generator::launch) {
+        let of_file: Vec<&[u8]> = file.split(|&byte| byte == b'\n').collect();
+        for line in lines {
+            counts.see(line.escape_ascii().to_string(), of_file.contains(&line));
+        }
+        for behind in [b'\n', 0, b' '] {
+            let end = [b"\nend=kernel\n".as_slice(), &[behind]].concat();
+            counts.see(format!("byte {behind} behind"), file.ends_with(&end));
+        }
+    }
+    // Each spelling alone is rare; together they aren't.
+    println!("{:#?}", counts.0);
+    let missing = counts.0.values().filter(|&&count| count == 0).count();
+    let all: usize = counts.0.values().sum();
+    assert!(missing <= 2 && all >= 60, "{missing} missing, {all} in all");
+}
+
+/// The header's numbers that can be read, 0 to 2^32 - 1.
+fn header(file: &[u8]) -> [Option<u32>; 4] {
+    let mut lines = file.split(|&byte| byte == b'\n').skip(1);
+    ["threads=", "cells=", "limit=", "rows="].map(|key| {
+        let value = lines.next()?.strip_prefix(key.as_bytes())?;
+        let number = std::str::from_utf8(value).ok()?.parse().ok()?;
+        (!value.starts_with(b"+")).then_some(number)
+    })
+}
+
+fn bad(number: Option<u32>, low: u32, high: u32) -> bool {
+    number.is_some_and(|number| !(low..=high).contains(&number))
+}
+
+#[test]
+fn both_sides_of_every_limit() {
+    let mut counts = Counts::default();
+    for file in (0..SEEDS).map(generator::launch) {
+        let [threads, cells, limit, rows] = header(&file);
+        for edge in [0, 1, 32, 33] {
+            counts.see(format!("threads {edge}"), threads == Some(edge));
+        }
+        for edge in [0, 1, 1_024, 1_025] {
+            counts.see(format!("cells {edge}"), cells == Some(edge));
+        }
+        for edge in [0, 1, MAX_LIMIT, MAX_LIMIT + 1] {
+            counts.see(format!("limit {edge}"), limit == Some(edge));
+        }
+        for edge in [0, 255, 256, 257] {
+            counts.see(format!("rows {edge}"), rows == Some(edge));
+        }
+        for edge in [MAX_FILE, MAX_FILE + 1] {
+            counts.see(format!("{edge} bytes"), file.len() == edge);
+        }
+        counts.see(
+            "threads as a byte",
+            threads.is_some_and(|n| n % 256 < 33 && n > 255),
+        );
+        counts.see(
+            "cells as 16 bits",
+            cells.is_some_and(|n| n % 65_536 < 1_025 && n > 65_535),
+        );
+        counts.see(
+            "rows as 16 bits",
+            rows.is_some_and(|n| n % 65_536 < 257 && n > 65_535),
+        );
+    }
+    counts.expect(5);
+}
+
+#[test]
+fn two_faults_in_a_header() {
+    let mut counts = Counts::default();
+    for file in (0..SEEDS).map(generator::launch) {
+        let numbers = header(&file);
+        let [threads, cells, limit, rows] = numbers;
+        let out = [
+            bad(threads, 1, 32),
+            bad(cells, 1, 1_024),
+            bad(limit, 0, MAX_LIMIT),
+            bad(rows, 0, MAX_ROWS as u32),
+        ];
+        for first in 0..3 {
+            let next = first + 1;
+            counts.see(format!("{first} and {next}"), out[first] && out[next]);
+            let misspelt = out[first] && numbers[next].is_none();
+            counts.see(format!("{first}, and {next} misspelt"), misspelt);
+        }
+    }
+    counts.expect(4);
+}
+
+/// What the row checks say of a table, with all else in order.
+fn rows_refused(table: &[u8]) -> Option<Refusal> {
+    bare_launch(table, 1, 1, 0, &mut [0], &mut [0, 0]).err()
+}
+
+/// The four bytes of a `row=` line that is spelt right.
+fn row_of(line: &[u8]) -> Option<[u8; 4]> {
+    let value = std::str::from_utf8(line.strip_prefix(b"row=")?).ok()?;
+    let bytes: Vec<u8> = value.split(',').map_while(|v| v.parse().ok()).collect();
+    bytes.try_into().ok()
+}
+
+/// The tables of the first launches, four files for each bare launch, as far
+/// as they have whole rows and not too many.
+fn tables() -> impl Iterator<Item = Vec<u8>> {
+    let of_files = (0..SEEDS).map(|seed| {
+        let file = generator::launch(seed);
+        let lines = file.split(|&byte| byte == b'\n');
+        lines.filter_map(row_of).flatten().collect()
+    });
+    let of_bare = (0..SEEDS / 4).map(|seed| generator::bare(seed).table);
+    of_files
+        .chain(of_bare)
+        .filter(|table: &Vec<u8>| table.len().is_multiple_of(4) && table.len() <= 4 * MAX_ROWS)
+}
+
+#[test]
+fn two_faults_in_the_rows() {
+    let mut counts = Counts::default();
+    for mut table in tables() {
+        let Some(Refusal { number, place }) = rows_refused(&table) else {
+            continue;
+        };
+        let at = 4 * place as usize;
+        let row: [u8; 4] = table[at..at + 4].try_into().unwrap();
+        counts.see("3 and 4", number == 3 && row[1] > 15);
+        // Without its first fault, the row may have another.
+        let mended = match number {
+            4 => [row[0], 0, 0, 0],
+            _ => [op::TID, 0, 0, 0],
+        };
+        table[at..at + 4].copy_from_slice(&mended);
+        let then = rows_refused(&table);
+        let same = then.is_some_and(|then| then.place == place);
+        let then = then.map_or(0, |then| then.number);
+        counts.see("4 and 5", number == 4 && same && then == 5);
+        counts.see("4 and 6", number == 4 && same && then == 6);
+        counts.see("5 and later 7", number == 5 && then == 7);
+        counts.see("3 and later 4", number == 3 && !same && then == 4);
+        counts.see("4 and later 3", number == 4 && !same && then == 3);
+        counts.see("5 and later 3", number == 5 && !same && then == 3);
+    }
+    counts.expect(4);
+}
+
+#[test]
+fn each_byte_of_each_op_is_wrong_alone() {
+    let mut counts = Counts::default();
+    for table in tables() {
+        let refused = rows_refused(&table);
+        for known in (1..=14).chain(16..=17).chain(32..=37) {
+            for byte in 1..4 {
+                if known == op::SET && byte > 1 {
+                    continue;
+                }
+                let seen = refused.is_some_and(|Refusal { number, place }| {
+                    let row = &table[4 * place as usize..];
+                    let mut mended = [row[0], row[1], row[2], row[3]];
+                    mended[byte] = 0;
+                    let framed = [32, 0, 0, 0].into_iter().chain(mended).collect::<Vec<u8>>();
+                    let alone = rows_refused(&framed).is_none_or(|then| then.number != 4);
+                    number == 4 && row[0] == known && row[byte] != 0 && alone
+                });
+                counts.see(format!("op {known}, byte {byte}"), seen);
+            }
+        }
+    }
+    counts.expect(2);
+}
+
+/// How many constructs of a table are open at once, and of how many kinds.
+fn nesting(table: &[u8]) -> (usize, usize) {
+    let (mut open, mut deepest) = (vec![], (0, 0));
+    for row in table.chunks_exact(4) {
+        match row[0] {
+            op::IF | op::WHILE => open.push(row[0]),
+            op::ENDIF | op::ENDWHILE => {
+                open.pop();
+            }
+            _ => {}
+        }
+        let kinds = [op::IF, op::WHILE]
+            .iter()
+            .filter(|kind| open.contains(kind));
+        deepest = deepest.max((open.len(), kinds.count()));
+    }
+    deepest
+}
+
+#[test]
+fn eight_and_nine_constructs_of_both_kinds() {
+    let mut counts = Counts::default();
+    for table in tables() {
+        let refused = rows_refused(&table);
+        let (deepest, kinds) = nesting(&table);
+        counts.see("8", refused.is_none() && (deepest, kinds) == (8, 2));
+        let ninth = refused.is_some_and(|refusal| refusal.number == 6);
+        counts.see("9", ninth && kinds == 2);
+    }
+    counts.expect(20);
+}
+
+/// The refusals that a bare launch earns, each by itself.
+fn faults(launch: &BareLaunch) -> Vec<&'static str> {
+    let table = &launch.table;
+    let (cells, log) = (launch.lent_cells.len(), launch.lent_log.len());
+    let said = launch.cells as usize;
+    let few = table.len() / 4 <= MAX_ROWS;
+    [
+        ("1", !table.len().is_multiple_of(4)),
+        ("2", !few),
+        ("8", bad(Some(launch.threads), 1, 32)),
+        ("9", bad(Some(launch.cells), 1, 1_024)),
+        ("10", bad(Some(launch.limit), 0, MAX_LIMIT)),
+        (
+            "rows",
+            few && rows_refused(&table[..table.len() / 4 * 4]).is_some(),
+        ),
+        ("20", cells != said),
+        ("21", log != 2 * said),
+    ]
+    .into_iter()
+    .filter_map(|(name, earned)| earned.then_some(name))
+    .collect()
+}
+
+#[test]
+fn two_faults_of_a_bare_launch() {
+    let mut counts = Counts::default();
+    let names = ["1", "2", "8", "9", "10", "rows", "20", "21"];
+    for launch in (0..SEEDS).map(generator::bare) {
+        let found = faults(&launch);
+        for (at, first) in names.iter().enumerate() {
+            for second in &names[at + 1..] {
+                if (*first, *second) == ("2", "rows") {
+                    continue; // told apart by no one: the rows aren't read
+                }
+                // The first that is told, and the other behind it.
+                let seen = found.first() == Some(first) && found.contains(second);
+                counts.see(format!("{first} and {second}"), seen);
+            }
+        }
+        let (cells, lent) = (launch.cells as usize, launch.lent_cells.len());
+        let log = launch.lent_log.len();
+        counts.see("one cell more", found == ["20"] && lent == cells + 1);
+        counts.see("one cell fewer", found == ["20"] && lent + 1 == cells);
+        counts.see("one log word more", found == ["21"] && log == 2 * cells + 1);
+        counts.see(
+            "one log word fewer",
+            found == ["21"] && log + 1 == 2 * cells,
+        );
+    }
+    counts.expect(5);
+}
+
+/// Sound launches with these rows among theirs.
+fn plans_with(rows: &'static [[u8; 4]]) -> impl Iterator<Item = Plan> {
+    (0..SEEDS)
+        .map(generator::plan)
+        .filter(move |plan| plan.rows.windows(rows.len()).any(|some| some == rows))
+}
+
+#[test]
+fn shifts_of_words_with_the_top_bit_set() {
+    let mut counts = Counts::default();
+    let far = [63, 64, 1 << 31, u32::MAX];
+    for plan in plans_with(&[[op::SHR, 5, 2, 3], [op::SAR, 6, 2, 3]]) {
+        // Words and counts take turns, one of each for every thread.
+        let blocks: Vec<&[u32]> = plan.cells.chunks(plan.threads as usize).collect();
+        for pair in blocks.chunks_exact(2) {
+            for (word, &count) in pair[0].iter().zip(pair[1]) {
+                for shift in (0..34).chain(far) {
+                    let name = format!("{shift:10}");
+                    counts.see(name, shift == count && word >> 31 == 1);
+                }
+            }
+        }
+    }
+    counts.expect(15);
+}
+
+#[test]
+fn truth_values_from_2_31_on() {
+    let mut counts = Counts::default();
+    for plan in plans_with(&[[op::IF, 0, 2, 0], [op::ADD, 5, 5, 1]]) {
+        let some_only = plan.rows.contains(&[op::AND, 3, 0, 1]);
+        for &word in &plan.cells {
+            for truth in [1 << 31, (1 << 31) + 1, u32::MAX, 1 << 16] {
+                counts.see(format!("{truth}, some {some_only}"), word == truth);
+            }
+        }
+    }
+    counts.expect(15);
+}
+
+#[test]
+fn addresses_at_the_end_and_behind_it() {
+    let mut counts = Counts::default();
+    for access in [op::LOAD, op::STORE] {
+        for plan in plans_with(&[[op::LOAD, 2, 0, 0], [op::BARRIER, 0, 0, 0]]) {
+            if !plan
+                .rows
+                .iter()
+                .any(|row| row[0] == access && row[1..].contains(&2))
+            {
+                continue;
+            }
+            let count = plan.cells.len() as u32;
+            let own = &plan.cells[..plan.threads as usize];
+            let mut see = |name: &str, found: bool| counts.see(format!("{access}: {name}"), found);
+            see("the last cell", own.contains(&(count - 1)));
+            see("the cell behind it", own.contains(&count));
+            see(
+                "2^16 on",
+                own.iter()
+                    .any(|&at| at % (1 << 16) < count && at >= 1 << 16),
+            );
+            see(
+                "2^31 on",
+                own.iter().any(|&at| at >> 31 == 1 && at << 1 >> 1 < count),
+            );
+        }
+    }
+    counts.expect(4);
+}
+
+#[test]
+fn the_number_of_threads_is_seldom_that_of_cells() {
+    let differ = (0..SEEDS).map(generator::plan).filter(|plan| {
+        let counted = plan.rows.iter().any(|row| row[0] == op::COUNT);
+        counted && plan.cells.len() != plan.threads as usize
+    });
+    assert!(differ.count() > 400);
+}
