@@ -42,7 +42,9 @@ enum {
 /* A log has a word of readers for each cell, and behind these a word of writers for each cell: bit t is thread t. */
 
 /* Checks a launch file and writes its report to the start of the output. Answers the report's length, and 0 where the file is
- * refused: then refusal has the number and the place, and the other buffers are as they were. Otherwise refusal is 0, 0. */
+ * refused: then refusal has the number and the place, and the other buffers are as they were. Otherwise refusal is 0, 0.
+ * A report that begins with the line verdict=passed speaks for every run of the launch's threads, by its own lines; its last line, and
+ * no other, is end=report. */
 size_t sekufoyi_check_file(const uint8_t *file, size_t file_length, uint32_t *cells, size_t cells_length, uint32_t *log,
                            size_t log_length, uint8_t *output, size_t output_length, uint32_t refusal[2]);
 

@@ -38,8 +38,10 @@ static bool is(struct line line, const char *text)
     return line.length == strlen(text) && memcmp(line.bytes, text, line.length) == 0;
 }
 
-/* The whole decision: the first line is `verdict=passed`, the last is `end=report` with its newline, and nothing stands behind it.
- * Only the first line may speak of a verdict, so that the pieces of two reports are not taken for one. */
+/* The whole decision, by the reading that the promises go by (crates/spec/specs/Reading.antt, `installs`): a line is what a newline ends, the
+ * first line is `verdict=passed`, and lines are read until `end=report`. Of every report it is proved that this installs what has
+ * passed, and nothing by a part of one. Beyond it, what is no report of one run is refused: bytes behind the end, and a verdict in a
+ * line but the first, so that the pieces of two reports are not taken for one. */
 static bool installs(const uint8_t *report, size_t length)
 {
     static const char verdict[] = "verdict=";

@@ -10,7 +10,7 @@ use borrow.Author.Tests.{eq-eqb}
 use lib.ListN.{length, getD, length-map}
 use Rattle.spec.specs.AllRuns.{isRelease}
 use Rattle.spec.specs.Lists.{equalList, every}
-use Rattle.spec.specs.LockStep.{elseRow, endifRow, endwhileRow, LockState, accessTurn, advance, barrierRow, computeTurn, continues, countedAt}
+use Rattle.spec.specs.LockStep.{elseRow, endifRow, endwhileRow, LockState, accessTurn, advance, barrierRow, computeTurn, continues}
 use Rattle.spec.specs.LockStep.{passBarrier, runRow, stops}
 use Rattle.spec.specs.Mask.{Mask, any, full, has, lowest}
 use Rattle.spec.specs.Op.{BARRIER, CALC, ELSE, ENDIF, ENDWHILE, IF, MEM, Op, UNKNOWN, WHILE, value}
@@ -21,6 +21,7 @@ use Rattle.spec.specs.Threads.{Group, Thread, atOneBarrier, isBarrier, machine,
 use Rattle.spec.specs.declared.Verdict.{Verdict}
 use Rattle.spec.specs.declared.Verdict.the-variants.{Diverged}
 use Rattle.spec.specs.Threads as own
+use Rattle.allruns.proofs.Counts.{passes, passedAt}
 use Rattle.allruns.proofs.Lists.{getD-map-at}
 use Rattle.allruns.proofs.LogRecord.{log-cleared}
 use Rattle.allruns.proofs.Bools.{and-left, and-right, and-make}
@@ -124,7 +125,7 @@ module _ (T : Table) (w : WellFormed T) (L : Shape) (s : LockState) (fs : List F
         };
         counted = omega arith;
         released = unfold isRelease in (omega arith);
-        sees = sym (unfold countedAt in (ap (λ o. countedAt o s) q ∙ ap (λ b. cond (b && full (s .enabled)) (s .cells ∷ []) []) a));
+        sees = sym (unfold passedAt passes in (ap (λ o. passedAt o s) q ∙ ap (λ b. cond (b && full (s .enabled)) (s .cells ∷ []) []) a));
       }
 
   diverges : any (s .enabled) ≡ true → full (s .enabled) ≡ false → (a : ℕ) × (u : ℕ) × Blocked T g a u
@@ -203,11 +204,11 @@ module _ (T : Table) (w : WellFormed T) (L : Shape) (s : LockState) (fs : List F
               ≡ body (record { row = suc (s .row); loops = loopsOf T fs }) (getD (s .regs) t [])
           pass t = unfold own.pastBarrier own.goto in refl
 
-      counts : countedAt BARRIER s ≡ s .cells ∷ []
-      counts = unfold countedAt in (ap₂ (λ a b. cond (a && b) (s .cells ∷ []) []) p f)
+      counts : passedAt BARRIER s ≡ s .cells ∷ []
+      counts = unfold passedAt passes in (ap₂ (λ a b. cond (a && b) (s .cells ∷ []) []) p f)
 
-      saw : shownTo (machine T L) tt g (release ∷ []) ≡ countedAt (rowAt T (s .row) .op) s
-      saw = unfold own.shown in (ap (λ c. c ∷ []) (S .match .cells) ∙ sym (ap (λ o. countedAt o s) q ∙ counts))
+      saw : shownTo (machine T L) tt g (release ∷ []) ≡ passedAt (rowAt T (s .row) .op) s
+      saw = unfold own.shown in (ap (λ c. c ∷ []) (S .match .cells) ∙ sym (ap (λ o. passedAt o s) q ∙ counts))
 
   pub barrier-row : RowDone T L s g (barrierRow s)
   unfolding barrierRow
@@ -281,14 +282,14 @@ module _ (T : Table) (w : WellFormed T) (L : Shape) (s : LockState) (fs : List F
       (λ t P z h i e m.
       subst (λ r. One T L onw here t P h (computeTurn (rowAt T r) (λ t a b. value c (L .threads) t (rowAt T r .a) (rowAt T r .b) a b) z t)) (ap (λ p. p .row) e)
       (calc-one T L t P z h i m (rw e l) here onw c (ap (λ p. rowAt T (p .row) .op) e ∙ q) (sym (ap (λ p. record { row = suc (p .row); loops = p .loops }) e))))
-      (after-plain (CALC c) q (unfold isWhile in refl) (unfold role in refl)) (unfold countedAt in (ap (λ o. countedAt o s) q))
+      (after-plain (CALC c) q (unfold isWhile in refl) (unfold role in refl)) (unfold passedAt passes in (ap (λ o. passedAt o s) q))
   done (MEM m) q =
       plain-row T L s fs g S l (accessTurn L m (rowAt T (s .row))) (keeps-touch L m _)
       (λ t P z h i e k.
       subst (λ r. One T L onw here t P h (accessTurn L m (rowAt T r) z t)) (ap (λ p. p .row) e)
       (touch-one T L t P z h i k (rw e l) here onw m (ap (λ p. rowAt T (p .row) .op) e ∙ q)
       (sym (ap (λ p. record { row = suc (p .row); loops = p .loops }) e))))
-      (after-plain (MEM m) q (unfold isWhile in refl) (unfold role in refl)) (unfold countedAt in (ap (λ o. countedAt o s) q))
+      (after-plain (MEM m) q (unfold isWhile in refl) (unfold role in refl)) (unfold passedAt passes in (ap (λ o. passedAt o s) q))
   done IF q = if-row T w L s fs g S l q
   done ELSE q =
       else-of T w L s fs g S l q

@@ -1,10 +1,11 @@
--- Spent is said only at the limit, and the counted barriers are as many as `barriers` says. For every table. Assumes nothing.
-use mathlib.Core.Path.{_≡_, refl, _∙_, ap}
-use mathlib.Core.List.{List, [], _∷_, _++_}
+-- Spent is said only at the limit; the counted barriers are those that all threads pass, as many as `barriers` says. For every table. Assumes nothing.
+use mathlib.Core.Path.{_≡_, refl, _∙_, ap, subst}
+use mathlib.Core.List.{List, [], _∷_}
 use mathlib.Core.Bool.{Bool, true, false, cond, _&&_}
 use Prim.Native.Nat.{ℕ, zero, suc, _+_}
 use native.Mathlib.Omega.{arith}
-use lib.Dec.{leb}
+use borrow.Author.Tests.{lt-ltb, le-ltb}
+use lib.Dec.{leb, ltb}
 use lib.ListN.{length, length-append}
 use Rattle.spec.specs.declared.Verdict.{Verdict}
 use Rattle.spec.specs.declared.Verdict.the-variants.{Passed, Race, Outside, Diverged, Spent}
@@ -18,6 +19,21 @@ use Rattle.spec.specs.LockStep.{Saved, LockState, Step, continues, stops, andTh
 use Rattle.spec.specs.LockStep.{accessTurn, forEnabled, countSteps, topMask, pop}
 use Rattle.spec.specs.LockStep.{ifRow, elseRow, endifRow, leaveOrStay, whileRow, endwhileRow, passBarrier, barrierRow, runRow, LockResult, resultOf}
 use Rattle.spec.specs.LockStep.{runFrom, initialState, lockstep, countedAt, countedAfter, countedFrom, countedBarriers}
+
+-- A row at which barriers grows, by the row alone: a BARRIER that all threads come to. And the cells there.
+unfoldable pub passes : Op → LockState → Bool
+passes (CALC c) s = false
+passes (MEM m) s = false
+passes IF s = false
+passes ELSE s = false
+passes ENDIF s = false
+passes WHILE s = false
+passes ENDWHILE s = false
+passes BARRIER s = any (s .enabled) && full (s .enabled)
+passes UNKNOWN s = false
+
+unfoldable pub passedAt : Op → LockState → List (List ℕ)
+passedAt o s = cond (passes o s) (s .cells ∷ []) []
 
 isSpent : Verdict → ℕ
 isSpent Passed = 0
@@ -94,24 +110,24 @@ leaves-while T s v m = by (any m)
     by false = (refl, refl)
 
 leaves-barrier : (s : LockState) (a f : Bool) (v : Verdict) → isSpent v ≡ 0
-    → Leaves (suc (s .rows)) (s .barriers + length (cond (a && f) (s .cells ∷ []) [])) (s .barriers + length (cond (a && f) (s .cells ∷ []) []))
+    → Leaves (suc (s .rows)) (s .barriers + length (cond (a && f) (s .cells ∷ []) [])) (s .barriers)
     (cond a (cond f (continues (passBarrier s)) (stops v s)) (continues (advance (suc (s .row)) (s .enabled) (s .saved) s)))
 unfolding passBarrier advance
 leaves-barrier s true true v h = (refl, omega arith)
-leaves-barrier s true false v h = (h, omega arith)
+leaves-barrier s true false v h = (h, refl)
 leaves-barrier s false f v h = (refl, omega arith)
 
 -- The barriers after a row.
 grown : LockState → Op → ℕ
-grown s o = s .barriers + length (countedAt o s)
+grown s o = s .barriers + length (passedAt o s)
 
 -- A row that counts no barrier.
-uncounted : (r b : ℕ) (x : Step) → Leaves r b b x → Leaves r (b + 0) (b + 0) x
+uncounted : (r b : ℕ) (x : Step) → Leaves r b b x → Leaves r (b + 0) b x
 uncounted r b (continues z) h = let p = h .1 in (h .0, omega (arith, p))
-uncounted r b (stops v z) h = let p = h .1 in (h .0, omega (arith, p))
+uncounted r b (stops v z) h = h
 
-leaves-row : (T : Table) (L : Shape) (x : Row) (s : LockState) (o : Op) → Leaves (suc (s .rows)) (grown s o) (grown s o) (runRow T L x s o)
-unfolding grown runRow countedAt advance countSteps barrierRow isSpent ifRow elseRow endifRow whileRow endwhileRow
+leaves-row : (T : Table) (L : Shape) (x : Row) (s : LockState) (o : Op) → Leaves (suc (s .rows)) (grown s o) (s .barriers) (runRow T L x s o)
+unfolding grown runRow passedAt passes advance countSteps barrierRow isSpent ifRow elseRow endifRow whileRow endwhileRow
 leaves-row T L x s (CALC c) =
     uncounted (suc (s .rows)) (s .barriers) (runRow T L x s (CALC c)) (leaves-enabled _ (keeps-compute x (λ t p q. value c (L .threads) t (x .a) (x .b) p q)) s)
 leaves-row T L x s (MEM m) = uncounted (suc (s .rows)) (s .barriers) (runRow T L x s (MEM m)) (leaves-enabled _ (keeps-access L m x) s)
@@ -123,25 +139,37 @@ leaves-row T L x s ENDWHILE = uncounted (suc (s .rows)) (s .barriers) (runRow T 
 leaves-row T L x s BARRIER = leaves-barrier s (any (s .enabled)) (full (s .enabled)) _ refl
 leaves-row T L x s UNKNOWN = uncounted (suc (s .rows)) (s .barriers) (runRow T L x s UNKNOWN) (refl, refl)
 
+-- A row at which barriers grows is one that all threads pass: their number tells which.
+by-growth : (c : List ℕ) (b : Bool) (x y : ℕ) → y ≡ x + length (cond b (c ∷ []) []) → cond (ltb x y) (c ∷ []) [] ≡ cond b (c ∷ []) []
+by-growth c true x y e = rw (lt-ltb x y (omega arith)) refl
+by-growth c false x y e = rw (le-ltb x y (omega arith)) refl
+
+counted-by : (s z : LockState) (o : Op) → z .barriers ≡ grown s o → countedAt s z ≡ passedAt o s
+unfolding grown countedAt passedAt
+counted-by s z o e = by-growth (s .cells) (passes o s) (s .barriers) (z .barriers) e
+
+pub counted-is : (T : Table) (L : Shape) (x : Row) (s z : LockState) (o : Op) → runRow T L x s o ≡ continues z → countedAt s z ≡ passedAt o s
+counted-is T L x s z o e = counted-by s z o (subst (Leaves (suc (s .rows)) (grown s o) (s .barriers)) e (leaves-row T L x s o) .1)
+
 -- What a run with `left` rows to go says in its counts, its result being o and its counted barriers bs.
 record Counted (left : ℕ) (s : LockState) (o : LockResult) (bs : List (List ℕ)) : Type 0 where
   pub atLimit : isSpent (o .verdict) ≡ 1 → o .state .rows ≡ s .rows + left
   pub barriers : length bs + s .barriers ≡ o .state .barriers
 
-counted-on : (T : Table) (L : Shape) (left : ℕ) (s : LockState) (o : Op) (x : Step) → Leaves (suc (s .rows)) (grown s o) (grown s o) x
+counted-on : (T : Table) (L : Shape) (left : ℕ) (s : LockState) (o : Op) (x : Step) → Leaves (suc (s .rows)) (grown s o) (s .barriers) x
     → ((z : LockState) → Counted left z (runFrom T L left z) (countedFrom T L left z))
-    → Counted (suc left) s (resultOf x (runFrom T L left)) (countedAt o s ++ countedAfter x (countedFrom T L left))
+    → Counted (suc left) s (resultOf x (runFrom T L left)) (countedAfter s x (countedFrom T L left))
 unfolding resultOf countedAfter grown isSpent
 counted-on T L left s o (continues z) h f =
-    let l = length-append (countedAt o s) (countedFrom T L left z) in
+    let l = length-append (countedAt s z) (countedFrom T L left z) in
+    let m = ap length (counted-by s z o (h .1)) in
     let p = h .0 in
     let q = h .1 in
     let w = f z .barriers in
-    record { atLimit = λ e. let v = f z .atLimit e in omega (arith, v, p); barriers = omega (arith, l, q, w) }
+    record { atLimit = λ e. let v = f z .atLimit e in omega (arith, v, p); barriers = omega (arith, l, m, q, w) }
 counted-on T L left s o (stops v z) h f =
-    let l = length-append (countedAt o s) [] in
     let q = h .1 in
-    record { atLimit = λ e. let p = h .0 in absurd (omega (arith, e, p)); barriers = omega (arith, l, q) }
+    record { atLimit = λ e. let p = h .0 in absurd (omega (arith, e, p)); barriers = omega (arith, q) }
 
 counted-run : (T : Table) (L : Shape) (left : ℕ) (s : LockState) → Counted left s (runFrom T L left s) (countedFrom T L left s)
 unfolding runFrom countedFrom isSpent
@@ -155,7 +183,7 @@ counted-run T L (suc left) s =
     out = resultOf (runRow T L (rowAt T (s .row)) s (rowAt T (s .row) .op)) (runFrom T L left)
 
     bars : List (List ℕ)
-    bars = countedAt (rowAt T (s .row) .op) s ++ countedAfter (runRow T L (rowAt T (s .row)) s (rowAt T (s .row) .op)) (countedFrom T L left)
+    bars = countedAfter s (runRow T L (rowAt T (s .row)) s (rowAt T (s .row) .op)) (countedFrom T L left)
 
     by : (b : Bool) → Counted (suc left) s out bars
         → Counted (suc left) s (elim b as (λ c. LockResult) [ true ↦ record { verdict = Passed; state = s } | false ↦ out ])

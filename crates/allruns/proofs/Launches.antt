@@ -14,8 +14,10 @@ use Rattle.spec.specs.Answers.{first}
 use Rattle.spec.specs.Table.{rowsOf}
 use Rattle.spec.specs.TableCheck.{tableRefusal}
 use Rattle.spec.specs.LaunchFile.{Launch, Checked, refused, accepted, Read, stop, read, unlessRefused, checkedTable, launchLines, fileLaunch}
-use Rattle.spec.specs.Entries.{bareRefusal}
-use Rattle.spec.specs.Demands.{BareDemand3, FileDemand3}
+use Rattle.spec.specs.LockStep.{LockResult, outcomeOf}
+use Rattle.spec.specs.AllRuns.{Demand3}
+use Rattle.spec.specs.Entries.{bareRefusal, bareRun, answerOf, keptIf, bareAnswer, bareCells, launchRun}
+use Rattle.spec.specs.Demands.{BareDemand3}
 use Rattle.structure.proofs.Refusals.{orElse-none}
 use Rattle.structure.proofs.Acceptance.{well-formed}
 use Rattle.allruns.proofs.Theorem.{demand3}
@@ -26,9 +28,25 @@ pub bare-table : (table : List ℕ) (threads cells limit : ℕ) (lentCells lentL
 unfolding bareRefusal first
 bare-table table threads cells limit lentCells lentLog e = orElse-none _ _ .0 (orElse-none _ _ .0 e .1) .0
 
-pub bare-demand3 : (table : List ℕ) (threads cells limit : ℕ) (lentCells lentLog : List ℕ) → BareDemand3 table threads cells limit lentCells lentLog
-bare-demand3 table threads cells limit lentCells lentLog e =
-    demand3 (rowsOf table) (well-formed (rowsOf table) (bare-table table threads cells limit lentCells lentLog e)) threads lentCells limit
+-- A bare launch, of its answer and of the cells that it leaves.
+module _ (table : List ℕ) (threads cells limit : ℕ) (lentCells lentLog : List ℕ) where
+  ran-demand3 : bareRefusal table threads cells limit lentCells lentLog ≡ none
+      → Demand3 (rowsOf table) threads lentCells limit (outcomeOf (bareRun table threads limit lentCells)) (bareRun table threads limit lentCells .state .cells)
+  unfolding bareRun
+  ran-demand3 e = demand3 (rowsOf table) (well-formed (rowsOf table) (bare-table table threads cells limit lentCells lentLog e)) threads lentCells limit
+
+  pub bare-demand3 : BareDemand3 table threads limit lentCells (bareAnswer table threads cells limit lentCells lentLog)
+      (bareCells table threads cells limit lentCells lentLog)
+  unfolding bareAnswer bareCells answerOf keptIf
+  bare-demand3 = by (bareRefusal table threads cells limit lentCells lentLog) refl
+    where
+      run : LockResult
+      run = bareRun table threads limit lentCells
+
+      by : (x : Option Refusal) → bareRefusal table threads cells limit lentCells lentLog ≡ x
+          → BareDemand3 table threads limit lentCells (answerOf x (outcomeOf run)) (keptIf x lentCells (run .state .cells))
+      by none e = ran-demand3 e
+      by (some why) e = tt
 
 -- The table of an accepted file is not refused.
 never : {A : Type 0} (r : Refusal) (launch : Launch) → refused r ≡ accepted launch → A
@@ -54,5 +72,9 @@ file-table file launch = by (leb (length file) maxFile)
     by true e = lines-table (launchLines 1 file) launch e
     by false e = never FileTooLong launch e
 
-pub file-demand3 : (file : List ℕ) → FileDemand3 file
-file-demand3 file launch e = demand3 (launch .table) (well-formed (launch .table) (file-table file launch e)) (launch .threads) (launch .cells) (launch .limit)
+-- An accepted launch, of its run.
+pub launch-demand3 : (file : List ℕ) (launch : Launch) → fileLaunch file ≡ accepted launch
+    → Demand3 (launch .table) (launch .threads) (launch .cells) (launch .limit) (outcomeOf (launchRun launch)) (launchRun launch .state .cells)
+unfolding launchRun
+launch-demand3 file launch e =
+    demand3 (launch .table) (well-formed (launch .table) (file-table file launch e)) (launch .threads) (launch .cells) (launch .limit)

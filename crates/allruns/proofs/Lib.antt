@@ -20,4 +20,5 @@ pub mod Launches
 pub mod Invariants
 pub mod LoopCounts
 pub mod StuckAtBarrier
+pub mod ElseThreads
 pub mod WordBounds

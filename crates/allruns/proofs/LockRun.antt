@@ -9,7 +9,7 @@ use lib.Dec.{leb}
 use borrow.Author.Tests.{leb-true, leb-false, le-leb}
 use lib.ListN.{getD-replicate, length, getD, replicate, length-replicate, List·getD-eq-default}
 use Rattle.spec.specs.AllRuns.{isRelease}
-use Rattle.spec.specs.LockStep.{LockResult, LockState, Step, continues, countedAfter, countedAt, countedFrom, initialState, resultOf, runFrom, runRow, stops}
+use Rattle.spec.specs.LockStep.{LockResult, LockState, Step, continues, countedAfter, countedFrom, initialState, resultOf, runFrom, runRow, stops}
 use Rattle.spec.specs.Mask.{has}
 use Rattle.spec.specs.Runs.{Run, after, many, shownTo}
 use Rattle.spec.specs.Shape.{Shape, shapeOf, total}
@@ -17,6 +17,7 @@ use Rattle.spec.specs.Table.{Table, WellFormed, noRow, openBefore, rowAt}
 use Rattle.spec.specs.Threads.{Group, Move, atEnd, initialGroup, machine, noThread, released, row}
 use Rattle.spec.specs.declared.Verdict.{Verdict}
 use Rattle.spec.specs.declared.Verdict.the-variants.{Diverged, Outside, Passed, Race, Spent}
+use Rattle.allruns.proofs.Counts.{passedAt, counted-is}
 use Rattle.allruns.proofs.Descent.{many-append, run-append, after-append, seen-append}
 use Rattle.allruns.proofs.LogRecord.{log-empty}
 use Rattle.allruns.proofs.Bools.{and-make}
@@ -83,7 +84,7 @@ complete-here T w L s fs g S l o e =
     }
 
 complete-on : (T : Table) (L : Shape) (s z : LockState) (g : Group) (o : LockResult) (bs : List (List ℕ)) (h : Advanced T L s g z)
-    → Completes T L z (after (machine T L) g (h .moves)) o bs → Completes T L s g o (countedAt (rowAt T (s .row) .op) s ++ bs)
+    → Completes T L z (after (machine T L) g (h .moves)) o bs → Completes T L s g o (passedAt (rowAt T (s .row) .op) s ++ bs)
 complete-on T L s z g o bs h t =
     record {
       moves = h .moves ++ t .moves;
@@ -106,7 +107,7 @@ failed-on T L s z g v h f =
     }
 
 simulates-on : (T : Table) (L : Shape) (s z : LockState) (g : Group) (o : LockResult) (bs : List (List ℕ)) (h : Advanced T L s g z) (v : Verdict)
-    → Simulates T L z (after (machine T L) g (h .moves)) o bs v → Simulates T L s g o (countedAt (rowAt T (s .row) .op) s ++ bs) v
+    → Simulates T L z (after (machine T L) g (h .moves)) o bs v → Simulates T L s g o (passedAt (rowAt T (s .row) .op) s ++ bs) v
 simulates-on T L s z g o bs h Passed t = complete-on T L s z g o bs h t
 simulates-on T L s z g o bs h (Race t u k a) f = failed-on T L s z g (Race t u k a) h f
 simulates-on T L s z g o bs h (Outside t a) f = failed-on T L s z g (Outside t a) h f
@@ -139,26 +140,25 @@ simulates T w L (suc k) s fs g S = by (leb (length T) (s .row)) refl (simulates 
     out b = elim b [ true ↦ record { verdict = Passed; state = s } | false ↦ resultOf st (runFrom T L k) ]
 
     bars : Bool → List (List ℕ)
-    bars b = elim b [ true ↦ [] | false ↦ countedAt (rowAt T (s .row) .op) s ++ countedAfter st (countedFrom T L k) ]
+    bars b = elim b [ true ↦ [] | false ↦ countedAfter s st (countedFrom T L k) ]
 
     by : (b : Bool) → leb (length T) (s .row) ≡ b
         → ((z : LockState) (fs : List Frame) (g : Group) → Sim T L z fs g → Simulates T L z g (runFrom T L k z) (countedFrom T L k z)
         (runFrom T L k z .verdict))
         → Simulates T L s g (out b) (bars b) (out b .verdict)
     by true q ih = complete-here T w L s fs g S (leb-true _ _ q) (record { verdict = Passed; state = s }) refl
-    by false q ih = at st (row-done T w L s fs g S (leb-false _ _ q))
+    by false q ih = at st refl (row-done T w L s fs g S (leb-false _ _ q))
       where
-        at : (o : Step) → RowDone T L s g o
-            → Simulates T L s g (resultOf o (runFrom T L k)) (countedAt (rowAt T (s .row) .op) s ++ countedAfter o (countedFrom T L k))
-            (resultOf o (runFrom T L k) .verdict)
-        at (continues z) h =
+        at : (o : Step) → st ≡ o → RowDone T L s g o
+            → Simulates T L s g (resultOf o (runFrom T L k)) (countedAfter s o (countedFrom T L k)) (resultOf o (runFrom T L k) .verdict)
+        at (continues z) e h =
             unfold resultOf countedAfter in
+            (subst (λ bs. Simulates T L s g (runFrom T L k z) (bs ++ countedFrom T L k z) (runFrom T L k z .verdict))
+            (sym (counted-is T L (rowAt T (s .row)) s z (rowAt T (s .row) .op) e))
             (simulates-on T L s z g (runFrom T L k z) (countedFrom T L k z) h (runFrom T L k z .verdict)
-            (ih z (h .frames) (after (machine T L) g (h .moves)) (h .sim)))
-        at (stops v z) h =
-            unfold resultOf in
-            (simulates-fail T L s g (record { verdict = v; state = z })
-            (countedAt (rowAt T (s .row) .op) s ++ countedAfter (stops v z) (countedFrom T L k)) v h)
+            (ih z (h .frames) (after (machine T L) g (h .moves)) (h .sim))))
+        at (stops v z) e h =
+            unfold resultOf in (simulates-fail T L s g (record { verdict = v; state = z }) (countedAfter s (stops v z) (countedFrom T L k)) v h)
 
 pub start-sim : (T : Table) → WellFormed T → (n : ℕ) (cells : List ℕ)
     → Sim T (shapeOf n cells) (initialState n cells) [] (initialGroup T (shapeOf n cells) cells)

@@ -12,7 +12,7 @@ use lib.Seq.{getD-set-other, getD-set-same, set-set, set-getD}
 use Rattle.spec.specs.Access.{Kind}
 use Rattle.spec.specs.AllRuns.{isRelease}
 use Rattle.spec.specs.LockStep.{ifRow, elseRow, endifRow, whileRow, endwhileRow, LockState, Saved, Step, accessTurn, advance, andThen, computeTurn}
-use Rattle.spec.specs.LockStep.{continues, countSteps, countedAt, forEnabled, inTurn, leaveOrStay, madeAccess, pop, reg, savedAtWhile, setReg, stops}
+use Rattle.spec.specs.LockStep.{continues, countSteps, forEnabled, inTurn, leaveOrStay, madeAccess, pop, reg, savedAtWhile, setReg, stops}
 use Rattle.spec.specs.LockStep.{topMask, topOpener, tryAccess}
 use Rattle.spec.specs.Log.{conflictMask, raceKind}
 use Rattle.spec.specs.Mask.{Mask, any, has, holding, lowest, members, membersFrom, minus, nonzero}
@@ -25,6 +25,7 @@ use Rattle.spec.specs.declared.Verdict.{Verdict}
 use Rattle.spec.specs.declared.Verdict.the-variants.{Diverged, Outside, Passed, Race, Spent}
 use Rattle.spec.specs.Threads as own
 use Rattle.spec.proofs.Laws.{zeros, minus-size, holding-size}
+use Rattle.allruns.proofs.Counts.{passes, passedAt}
 use Rattle.allruns.proofs.Bools.{and-left}
 use Rattle.allruns.proofs.Turns.{One, Turned, turn-all, quiet-all, act-is}
 use Rattle.allruns.proofs.Blocked.{Blocked}
@@ -73,7 +74,7 @@ pub record Advanced (T : Table) (L : Shape) (s : LockState) (g : Group) (z : Loc
   pub sim : Sim T L z frames (after (machine T L) g moves)
   pub counted : z .steps ≡ many isRow moves + s .steps
   pub released : many isRelease moves + s .barriers ≡ z .barriers
-  pub sees : shownTo (machine T L) tt g moves ≡ countedAt (rowAt T (s .row) .op) s
+  pub sees : shownTo (machine T L) tt g moves ≡ passedAt (rowAt T (s .row) .op) s
 
 pub record Failed (T : Table) (L : Shape) (g : Group) (v : Verdict) : Type 0 where
   pub stopping : Stopping v
@@ -155,7 +156,7 @@ control : (T : Table) (L : Shape) (s : LockState) (g : Group) (m : Mask) (P new 
     → Match T L P s g → length m ≡ (L .threads) → ((t : ℕ) → has m t ≡ true → P t ≡ here)
     → ((t : ℕ) → has m t ≡ true → effect T L t (body here (getD (s .regs) t [])) ≡ own.goes (body (new t) (getD (s .regs) t [])))
     → ((t : ℕ) → t < (L .threads) → cond (has m t) (new t) (P t) ≡ place T q on fs t)
-    → Nested (L .threads) on fs → length on ≡ (L .threads) → Sized (L .threads) fs → Framed T q fs → q ≤ length T → countedAt (rowAt T (s .row) .op) s ≡ []
+    → Nested (L .threads) on fs → length on ≡ (L .threads) → Sized (L .threads) fs → Framed T q fs → q ≤ length T → passedAt (rowAt T (s .row) .op) s ≡ []
     → Advanced T L s g (advance q on (savedOf fs) (countSteps m s))
 unfolding members advance countSteps
 control T L s g m P new here q on fs h len at acts to nest size sized framed within none =
@@ -264,7 +265,7 @@ module _ (T : Table) (w : WellFormed T) (L : Shape) (s : LockState) (fs : List F
       (holding-size (x .a) (s .enabled) (s .regs) ∙ S .onSize) (S .onSize, S .sized)
       (fresh (ap (λ os. s .row ∷ os) (framed-fresh T (s .row) fs (loop-if _ q) (S .framed))
       ∙ (unfold openBefore in (sym (ap (λ o. openedBy (role o) (s .row) (openBefore T (s .row))) q ∙ (unfold role openedBy in refl))))))
-      (omega arith) (unfold countedAt in (ap (λ o. countedAt o s) q)))
+      (omega arith) (unfold passedAt passes in (ap (λ o. passedAt o s) q)))
     where
       f : Frame
       f = record { opener = s .row; mask = s .enabled; rounds = 0 }
@@ -326,7 +327,7 @@ module _ (T : Table) (w : WellFormed T) (L : Shape) (s : LockState) (f : Frame) 
       (S .match) (S .sized .0) (λ t h. stand t h (has (s .enabled) t) refl)
       (λ t h. act-is T L t (body (record { row = s .row; loops = loopsOf T fs }) (getD (s .regs) t [])) ENDIF l q ∙ (unfold effectOf own.goto in refl))
       (λ t k. to t k (has (f .mask) t) refl)
-      (S .nested .1) (S .sized .0) (S .sized .1) (fresh later) (omega arith) (unfold countedAt in (ap (λ o. countedAt o s) q))))
+      (S .nested .1) (S .sized .0) (S .sized .1) (fresh later) (omega arith) (unfold passedAt passes in (ap (λ o. passedAt o s) q))))
     where
       stand : (t : ℕ) → has (f .mask) t ≡ true → (b : Bool) → has (s .enabled) t ≡ b
           → place T (s .row) (s .enabled) (f ∷ fs) t ≡ record { row = s .row; loops = loopsOf T fs }
@@ -369,7 +370,7 @@ module _ (T : Table) (w : WellFormed T) (L : Shape) (s : LockState) (f : Frame) 
       (λ t h. act-is T L t (body (record { row = s .row; loops = loopsOf T (f ∷ fs) }) (getD (s .regs) t [])) ELSE l q ∙ (unfold effectOf own.goto in refl))
       (λ t k. to t k)
       ((λ t h. and-left _ _ (sym (minus-has (f .mask) (s .enabled) t) ∙ h)), S .nested .1)
-      (minus-size (f .mask) (s .enabled) ∙ S .sized .0) (S .sized) (fresh later) (omega arith) (unfold countedAt in (ap (λ o. countedAt o s) q))))
+      (minus-size (f .mask) (s .enabled) ∙ S .sized .0) (S .sized) (fresh later) (omega arith) (unfold passedAt passes in (ap (λ o. passedAt o s) q))))
     where
       e : Frame
       e = record { opener = s .row; mask = f .mask; rounds = 0 }
@@ -421,7 +422,7 @@ module _ (T : Table) (w : WellFormed T) (L : Shape) (s : LockState) (f : Frame) 
       (S .match) (S .onSize) (λ t h. place-in T (s .row) (s .enabled) (f ∷ fs) t h)
       (λ t h. act-is T L t (body (record { row = s .row; loops = loopsOf T (f ∷ fs) }) (getD (s .regs) t [])) ENDWHILE l q ∙ acts t)
       (λ t k. to t k (has (s .enabled) t) refl)
-      (S .nested) (S .onSize) (S .sized) (again refl is-while isOutside) (omega (arith, it .above)) (unfold countedAt in (ap (λ o. countedAt o s) q))))
+      (S .nested) (S .onSize) (S .sized) (again refl is-while isOutside) (omega (arith, it .above)) (unfold passedAt passes in (ap (λ o. passedAt o s) q))))
     where
       it : Opened T (s .row) 0 (f .opener) (openersOf fs)
       it = innermost-at T w (s .row) (f .opener) (openersOf fs) (omega arith) o
@@ -535,7 +536,7 @@ module _ (T : Table) (w : WellFormed T) (L : Shape) (s : LockState) (k : Mask) (
         h size (λ t b. place-in T (s .row) (s .enabled) (wf c ∷ fs) t b) (λ t b. wacts t) to
         ((λ t b. sub t (and-left _ _ (sym (holding-has (rowAt T (s .row) .a) (s .enabled) (s .regs) t) ∙ b))), nest)
         (holding-size (rowAt T (s .row) .a) (s .enabled) (s .regs) ∙ size) (ksize, fsize)
-        (fresh later) (omega arith) (unfold countedAt in (ap (λ o. countedAt o s) q))
+        (fresh later) (omega arith) (unfold passedAt passes in (ap (λ o. passedAt o s) q))
       where
         later : s .row ∷ openersOf fs ≡ openBefore T (suc (s .row))
         later = unfold openBefore in (sym (ap₂ (λ z os. openedBy (role z) (s .row) os) q (sym o) ∙ (unfold role openedBy in refl)))
@@ -561,7 +562,7 @@ module _ (T : Table) (w : WellFormed T) (L : Shape) (s : LockState) (k : Mask) (
         control T L s g (s .enabled) (place T (s .row) (s .enabled) (wf c ∷ fs)) (λ t. wnew (wval t))
         (record { row = s .row; loops = loopsOf T (wf c ∷ fs) }) (suc (endOf T (s .row))) k fs
         h size (λ t b. place-in T (s .row) (s .enabled) (wf c ∷ fs) t b) (λ t b. wacts t) to nest ksize fsize
-        (fresh (o ∙ sym (gone .leaves))) (gone .within) (unfold countedAt in (ap (λ o. countedAt o s) q))
+        (fresh (o ∙ sym (gone .leaves))) (gone .within) (unfold passedAt passes in (ap (λ o. passedAt o s) q))
       where
         gone : Left T (endOf T (s .row)) (openBefore T (s .row))
         gone = after-end T w (s .row) l (unfold role in (ap role q))
@@ -663,7 +664,7 @@ keeps-then k s (continues z) f h ih = by (f z) (ih z)
           barriersSame = u .barriersSame ∙ h .barriersSame;
         }
 
-keeps-all : (f : LockState → ℕ → Step) → ((s : LockState) (t : ℕ) → Keeps 1 s (f s t)) → (ts : List ℕ) (s : LockState) → Keeps (length ts) s (inTurn f ts s)
+pub keeps-all : (f : LockState → ℕ → Step) → ((s : LockState) (t : ℕ) → Keeps 1 s (f s t)) → (ts : List ℕ) (s : LockState) → Keeps (length ts) s (inTurn f ts s)
 unfolding inTurn
 keeps-all f one [] s = record { rowSame = refl; onSame = refl; savedSame = refl; stepsMore = omega arith; barriersSame = refl }
 keeps-all f one (t ∷ ts) s = keeps-then (length ts) s (f s t) (inTurn f ts) (one s t) (keeps-all f one ts)
@@ -695,7 +696,7 @@ pub plain-row : (T : Table) (L : Shape) (s : LockState) (fs : List Frame) (g : G
     → ((s : LockState) (t : ℕ) → Keeps 1 s (f s t))
     → ((t : ℕ) (P : ℕ → Pos) (z : LockState) (g : Group) → t < (L .threads) → P t ≡ record { row = s .row; loops = loopsOf T fs } → Match T L P z g
     → One T L (λ u. record { row = suc (s .row); loops = loopsOf T fs }) (record { row = s .row; loops = loopsOf T fs }) t P g (f z t))
-    → openersOf fs ≡ openBefore T (suc (s .row)) → countedAt (rowAt T (s .row) .op) s ≡ []
+    → openersOf fs ≡ openBefore T (suc (s .row)) → passedAt (rowAt T (s .row) .op) s ≡ []
     → RowDone T L s g (forEnabled f s)
 unfolding forEnabled andThen members
 plain-row T L s fs g S l f keep one later none =

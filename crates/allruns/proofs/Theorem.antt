@@ -12,7 +12,7 @@ use Rattle.spec.specs.Shape.{Shape, shapeOf}
 use Rattle.spec.specs.Table.{Table, WellFormed}
 use Rattle.spec.specs.Threads as own
 use Rattle.spec.specs.Threads.{Group, Move, row, release, next, machine}
-use Rattle.spec.specs.LockStep.{LockState, LockResult, initialState, lockstep, countedBarriers}
+use Rattle.spec.specs.LockStep.{LockState, LockResult, initialState, lockstep, outcomeOf, countedBarriers}
 use Rattle.spec.specs.AllRuns.{machineOf, startOfRuns, isRelease, EveryRunEndsWell, PassedSays, Demand3}
 use Rattle.allruns.proofs.Descent.{Same, descent}
 use Rattle.allruns.proofs.Diamond.{laws}
@@ -78,7 +78,7 @@ module _ (T : Table) (w : WellFormed T) (n : ℕ) (cells : List ℕ) (limit : �
   unfolding initialState
   barriers-are k h = omega arith
 
-  says : result .verdict ≡ Passed → PassedSays T n cells result bars
+  says : result .verdict ≡ Passed → PassedSays T n cells (result .state .steps) (result .state .barriers) (result .state .cells) bars
   says p =
       record {
         moves = λ ms r.
@@ -93,7 +93,8 @@ module _ (T : Table) (w : WellFormed T) (n : ℕ) (cells : List ℕ) (limit : �
         some-run = (complete p .moves, (complete p .run, complete p .ended));
       }
 
-  pub demand3 : Demand3 T n cells limit
+  pub demand3 : Demand3 T n cells limit (outcomeOf result) (result .state .cells)
+  unfolding outcomeOf
   demand3 =
       record {
         exactly = λ ns. (well, back (result .verdict) refl simulated ns);

@@ -1,2 +1,3 @@
 -- Laws of answers as words. Assumes nothing.
 pub mod Words
+pub mod Back

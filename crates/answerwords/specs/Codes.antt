@@ -1,4 +1,5 @@
 -- Answers as words: a length with a refusal's number and place beside it, and an outcome as nine words. Assumes nothing.
+use mathlib.Core.Path.{_≡_}
 use mathlib.Core.List.{List, [], _∷_, map}
 use mathlib.Core.Bool.{Bool, true, false, cond}
 use Prim.Native.Nat.{ℕ}
@@ -16,6 +17,8 @@ use Rattle.spec.specs.declared.Written.the-variants as written
 use Rattle.spec.specs.declared.Value.{Value}
 use Rattle.spec.specs.declared.Value.the-variants as value
 use Rattle.refusals.specs.Words.{refusalWords}
+use Rattle.spec.specs.Table.{rowsOf}
+use Rattle.spec.specs.AllRuns.{Demand3}
 use Rattle.spec.specs.Report.{Line, headLines}
 
 -- A length with a refusal's number and place beside it; 0, and two zeros, where there is none.
@@ -82,3 +85,7 @@ outcomeFrom ws =
       steps = getD ws 7 0;
       barriers = getD ws 8 0;
     }
+
+-- Demand 3 of a bare launch, of the words that its caller is handed: the flag that it ran, the outcome's words and the cells that are left.
+abbrev pub RanDemand3 : (table : List ℕ) → (threads limit : ℕ) → (lentCells : List ℕ) → (ran : Bool) → (outcome left : List ℕ) → Type 0
+RanDemand3 table threads limit lentCells ran outcome left = ran ≡ true → Demand3 (rowsOf table) threads lentCells limit (outcomeFrom outcome) left

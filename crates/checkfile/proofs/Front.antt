@@ -9,11 +9,6 @@ use Rattle.spec.specs.Entries.{over}
 pub front-length : (k : ℕ) (xs : List ℕ) → k ≤ length xs → k ≡ length (take k xs)
 front-length k xs h = sym (length-take-le k xs h)
 
--- What was written is the front.
-pub front-of : (w xs l : List ℕ) → l ≡ over w xs → take (length w) l ≡ w
-unfolding over
-front-of w xs l e = ap (take (length w)) e ∙ take-at w (drop (length w) xs) (length w) refl
-
 pub front-kept : (k : ℕ) (ys rest : List ℕ) → length ys ≡ k → take k (ys ++ rest) ≡ ys
 front-kept k ys rest e = take-at ys rest k e
 

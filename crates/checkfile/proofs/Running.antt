@@ -15,12 +15,13 @@ use Rattle.spec.specs.LockStep.{LockResult, lockstep, outcomeOf}
 use Rattle.spec.specs.LaunchFile.{Launch}
 use Rattle.spec.specs.Report.{runReport, reportOf}
 use Rattle.spec.specs.Entries.{over, launchRun, launchReport, writerRefusal, writerAnswer, writerBuffer, writtenOf, keptIf}
+use Rattle.spec.proofs.Laws.{front-of}
 use Rattle.layout.specs.Running.{RunIs}
 use Rattle.report.specs.Subjects.{ran, FitsOutput}
 use Rattle.report.proofs.Entry.{cells-right, fitting}
 use Rattle.reportlines.proofs.Writing.{over-length}
 use Rattle.checkfile.specs.Reported.{Asks, launchOf, ReportedLaunch}
-use Rattle.checkfile.proofs.Front.{front-of, front-kept, given-back, given-back-over}
+use Rattle.checkfile.proofs.Front.{front-kept, given-back, given-back-over}
 
 -- The writer has room for the report of as many cells as a launch has.
 accepted : (o : Outcome) (cells output : List ℕ) → 1 ≤ length cells → length cells ≤ 1024 → 17408 ≤ length output → FitsOutput (ran o) cells
@@ -53,22 +54,22 @@ module _ (table ends : List ℕ) (threads limit : ℕ) (words cells log output :
     front = take (length words) (ys ++ drop (length words) placed)
 
     pub reported : RunIs (lockstep (rowsOf table) threads (take (length words) placed) limit) o ys zs
-        → (r ≡ writerAnswer (ran o) front output) × ((out ≡ writerBuffer (ran o) front output) × FitsOutput (ran o) front)
+        → r ≡ writerAnswer (ran o) front output → out ≡ writerBuffer (ran o) front output → FitsOutput (ran o) front
         → ReportedLaunch launch cells log output r (ys ++ drop (length words) placed) (zs ++ drop (2 * length words) log) out
     unfolding launchRun launchReport
-    reported run report =
+    reported run answer buffer fits =
         let same : lockstep (rowsOf table) threads (take (length words) placed) limit ≡ launchRun launch = ap
         (λ (w : List ℕ). lockstep (rowsOf table) threads w limit) (front-of words cells placed p) in
         let kept : front ≡ ys = front-kept (length words) ys _ ly in
         let few : length front ≡ length words = ap length kept ∙ ly in
-        let none = accepted o front output (omega (arith, few, asks .someCell)) (omega (arith, few, asks .fewCells)) (asks .outputLent) (report .1 .1) in
+        let none = accepted o front output (omega (arith, few, asks .someCell)) (omega (arith, few, asks .fewCells)) (asks .outputLent) fits in
         let whole : runReport o front ≡ launchReport launch = ap₂ runReport (run .outcome-is ∙ ap outcomeOf same)
         (kept ∙ run .cells-are ∙ ap (λ (x : LockResult). x .state .cells) same) in
         record {
-          answered = report .0 ∙ wrote o front output none ∙ ap (λ (w : List ℕ). Wrote (length w)) whole;
+          answered = answer ∙ wrote o front output none ∙ ap (λ (w : List ℕ). Wrote (length w)) whole;
           cells-left = given-back-over words ys cells placed p ly
               ∙ ap (λ (w : List ℕ). over w cells) (run .cells-are ∙ ap (λ (x : LockResult). x .state .cells) same);
           log-left = given-back (2 * length words) zs log lz
               ∙ ap (λ (w : List ℕ). over w log) (run .log-is ∙ ap (λ (x : LockResult). logWords (x .state .log)) same);
-          report-written = report .1 .0 ∙ written o front output none ∙ ap (λ (w : List ℕ). over w output) whole;
+          report-written = buffer ∙ written o front output none ∙ ap (λ (w : List ℕ). over w output) whole;
         }

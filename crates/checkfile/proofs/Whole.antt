@@ -1,5 +1,5 @@
 -- The whole-file entry: what its tests leave known, and its answer. Assumes nothing.
-use mathlib.Core.Path.{_≡_, refl, sym, ap, ap₂, _∙_}
+use mathlib.Core.Path.{_≡_, refl, sym, ap, ap₂, subst, _∙_}
 use mathlib.Core.List.{List}
 use mathlib.Core.Option.{Option, none, some, Option·none-ne-some, Option·some-injective}
 use Prim.Native.Nat.{ℕ, _*_, _%_, _<_, _≤_}
@@ -12,16 +12,17 @@ use Rattle.spec.specs.declared.Refusal.{Refusal}
 use Rattle.spec.specs.declared.Written.{Written}
 use Rattle.spec.specs.declared.Written.the-variants as written
 use Rattle.admission.specs.Refusing.{refusalOf}
-use Rattle.spec.specs.Answers.{first}
+use Rattle.spec.specs.Answers.{first, told, toldIn}
 use Rattle.spec.specs.Table.{rowsOf}
 use Rattle.spec.specs.TableCheck.{tableRefusal}
 use Rattle.spec.specs.Log.{logWords}
-use Rattle.spec.specs.LaunchFile.{Launch, Read, stop, read, refused, accepted, unlessRefused, checkedTable, fileLaunch}
+use Rattle.spec.specs.LaunchFile.{Launch, Checked, Read, stop, read, refused, accepted, unlessRefused, checkedTable, fileLaunch}
 use Rattle.spec.specs.Entries.{fileLent, andState, fileChecked, launchRun, launchReport, reportLength, ifAccepted, fileAnswer, fileCellsAfter}
-use Rattle.spec.specs.Entries.{fileLogAfter, fileOutputAfter}
-use Rattle.spec.specs.Demands.{FileDemand3}
+use Rattle.spec.specs.Entries.{fileLogAfter, fileOutputAfter, checkedRefusal, over, checkPrints}
+use Rattle.spec.specs.Demands.{ReportDemand3, FileReadable, OfWritten}
+use Rattle.spec.proofs.Laws.{front-of}
 use Rattle.structure.proofs.Refusals.{unless-none, orElse-none}
-use Rattle.allruns.proofs.Launches.{file-demand3}
+use Rattle.readback.proofs.Runs.{file-readable, launch-printed, report-demand3}
 use Rattle.reader.specs.Answer.{endAt}
 use Rattle.launch.proofs.Ready.{runnable}
 use Rattle.launchfile.specs.declared.Parsed.{Parsed}
@@ -113,28 +114,60 @@ lent-is held logged room e =
     (eqb-true _ _ (unless-none _ _ .0 (a .0)), (eqb-true _ _ (unless-none _ _ .0 (b .0)), leb-true _ _ (unless-none _ _ .0 (c .0))))
 
 module _ (file cells log output : List ℕ) where
-  -- The answer and the buffers.
+  -- The answer, by its case and by number and place, the buffers, and what may be read from the report.
   abbrev pub Entry : Written → (cells′ log′ output′ : List ℕ) → Type 0
   Entry r cells′ log′ output′ =
       (r ≡ fileAnswer file cells log output)
+      × ((toldIn r ≡ told (checkedRefusal (fileChecked file cells log output)))
       × ((cells′ ≡ fileCellsAfter file cells log output)
-      × ((log′ ≡ fileLogAfter file cells log output) × ((output′ ≡ fileOutputAfter file cells log output) × FileDemand3 file)))
+      × ((log′ ≡ fileLogAfter file cells log output)
+      × ((output′ ≡ fileOutputAfter file cells log output)
+      × (OfWritten (FileReadable file) r output′ × OfWritten (ReportDemand3 file) r output′)))))
 
   abbrev byState : Option Refusal
   byState = fileLent (length cells) (length log) (length output)
 
+  told-in : (x : Checked Launch) → toldIn (reportLength x) ≡ told (checkedRefusal x)
+  unfolding reportLength toldIn told checkedRefusal
+  told-in (refused why) = refl
+  told-in (accepted launch) = refl
+
+  -- A launch that is run is the file's.
+  checked-launch : (x : Checked Launch) (state : Option Refusal) (launch : Launch) → andState x state ≡ accepted launch → x ≡ accepted launch
+  unfolding andState unlessRefused checkedRefusal
+  checked-launch (refused why) state launch e = e
+  checked-launch (accepted l) none launch e = e
+  checked-launch (accepted l) (some why) launch e = absurd (Option·none-ne-some why (sym (ap checkedRefusal e)))
+
+  -- What is written is what `check` prints.
+  of-written : (P : List ℕ → Type 0) → P (checkPrints file) → OfWritten P (fileAnswer file cells log output) (fileOutputAfter file cells log output)
+  unfolding fileAnswer fileOutputAfter fileChecked reportLength ifAccepted
+  of-written P h = by (fileChecked file cells log output) refl
+    where
+      by : (x : Checked Launch) → fileChecked file cells log output ≡ x → OfWritten P (reportLength x) (ifAccepted x output launchReport)
+      by (refused why) e = tt
+      by (accepted launch) e =
+          rw (front-of (launchReport launch) output (over (launchReport launch) output) refl)
+          (subst P (launch-printed file launch (checked-launch (fileLaunch file) byState launch e)) h)
+
+  entry : (r : Written) (cells′ log′ output′ : List ℕ) → r ≡ fileAnswer file cells log output → cells′ ≡ fileCellsAfter file cells log output
+      → log′ ≡ fileLogAfter file cells log output → output′ ≡ fileOutputAfter file cells log output → Entry r cells′ log′ output′
+  unfolding fileAnswer
+  entry r cells′ log′ output′ a c l o =
+      let written : (P : List ℕ → Type 0) → P (checkPrints file) → OfWritten P r output′ = λ P h. rw (a, o) (of-written P h) in (
+        a,
+        (
+          ap toldIn a ∙ told-in (fileChecked file cells log output),
+          (c, (l, (o, (written (FileReadable file) (file-readable file), written (ReportDemand3 file) (report-demand3 file))))),
+        ),
+      )
+
   turned-back : (why : Refusal) → fileChecked file cells log output ≡ refused why → Entry (written.Refused why) cells log output
   unfolding fileAnswer fileCellsAfter fileLogAfter fileOutputAfter reportLength ifAccepted
-  turned-back why e = (
-    sym (ap reportLength e),
-    (
-      sym (ap (λ x. ifAccepted x cells (λ launch. launchRun launch .state .cells)) e),
-      (
-        sym (ap (λ x. ifAccepted x log (λ launch. logWords (launchRun launch .state .log))) e),
-        (sym (ap (λ x. ifAccepted x output launchReport) e), file-demand3 file),
-      ),
-    ),
-  )
+  turned-back why e =
+      entry (written.Refused why) cells log output (sym (ap reportLength e))
+      (sym (ap (λ x. ifAccepted x cells (λ launch. launchRun launch .state .cells)) e))
+      (sym (ap (λ x. ifAccepted x log (λ launch. logWords (launchRun launch .state .log))) e)) (sym (ap (λ x. ifAccepted x output launchReport) e))
 
   -- From the input, and from the state.
   pub file-refuses : (why : Refusal) → fileLaunch file ≡ refused why → Entry (written.Refused why) cells log output
@@ -149,16 +182,11 @@ module _ (file cells log output : List ℕ) where
       → ReportedLaunch launch cells log output r cells′ log′ output′ → Entry r cells′ log′ output′
   unfolding fileChecked andState unlessRefused fileAnswer fileCellsAfter fileLogAfter fileOutputAfter reportLength ifAccepted
   ran launch r cells′ log′ output′ e q d =
-      let taken : fileChecked file cells log output ≡ accepted launch = ap₂ andState e q in (
-        d .answered ∙ sym (ap reportLength taken),
-        (
-          d .cells-left ∙ sym (ap (λ x. ifAccepted x cells (λ l. launchRun l .state .cells)) taken),
-          (
-            d .log-left ∙ sym (ap (λ x. ifAccepted x log (λ l. logWords (launchRun l .state .log))) taken),
-            (d .report-written ∙ sym (ap (λ x. ifAccepted x output launchReport) taken), file-demand3 file),
-          ),
-        ),
-      )
+      let taken : fileChecked file cells log output ≡ accepted launch = ap₂ andState e q in
+      entry r cells′ log′ output′ (d .answered ∙ sym (ap reportLength taken))
+      (d .cells-left ∙ sym (ap (λ x. ifAccepted x cells (λ l. launchRun l .state .cells)) taken))
+      (d .log-left ∙ sym (ap (λ x. ifAccepted x log (λ l. logWords (launchRun l .state .log))) taken))
+      (d .report-written ∙ sym (ap (λ x. ifAccepted x output launchReport) taken))
 
   -- What running the launch asks.
   pub asked : (p : Parsed) (h : ParsedIs file p) (e : p .answer ≡ admission.Accepted) (loopEnds : List ℕ) → tableRefusal (rowsOf (tableBytes p)) ≡ none

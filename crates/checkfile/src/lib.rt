@@ -5,8 +5,9 @@ use spec::Written;
 ghost use mathlib.Core.Path.{_≡_};
 ghost use Prim.Native.Nat.{_≤_};
 ghost use lib.ListN.{length};
-ghost use Rattle.spec.specs.Entries.{over, fileAnswer, fileCellsAfter, fileLogAfter, fileOutputAfter};
-ghost use Rattle.spec.specs.Demands.{FileDemand3};
+ghost use Rattle.spec.specs.Answers.{told, toldIn};
+ghost use Rattle.spec.specs.Entries.{over, checkedRefusal, fileChecked, fileAnswer, fileCellsAfter, fileLogAfter, fileOutputAfter};
+ghost use Rattle.spec.specs.Demands.{ReportDemand3, FileReadable, OfWritten};
 ghost use Rattle.checkfile.specs.Reported.{Asks, Reported};
 
 // The launch's words at the front of the lent cells.
@@ -54,10 +55,12 @@ fn run_launch(
 // more. A refusal leaves all three as they were lent.
 pub fn check_file(file: &[u8], cells: &mut [u32], log: &mut [u32], output: &mut [u8]) -> Written
     ensures answer { λ r. ⌜ r ≡ fileAnswer (now (file .entry)) (now (cells .entry)) (now (log .entry)) (now (output .entry)) ⌝ }
+    ensures refusal { λ r. ⌜ toldIn r ≡ told (checkedRefusal (fileChecked (now (file .entry)) (now (cells .entry)) (now (log .entry)) (now (output .entry)))) ⌝ }
     ensures cells { λ _. ⌜ now (cells .exit) ≡ fileCellsAfter (now (file .entry)) (now (cells .entry)) (now (log .entry)) (now (output .entry)) ⌝ }
     ensures log { λ _. ⌜ now (log .exit) ≡ fileLogAfter (now (file .entry)) (now (cells .entry)) (now (log .entry)) (now (output .entry)) ⌝ }
     ensures output { λ _. ⌜ now (output .exit) ≡ fileOutputAfter (now (file .entry)) (now (cells .entry)) (now (log .entry)) (now (output .entry)) ⌝ }
-    ensures runs { λ _. ⌜ FileDemand3 (now (file .entry)) ⌝ }
+    ensures reads { λ r. ⌜ OfWritten (FileReadable (now (file .entry))) r (now (output .exit)) ⌝ }
+    ensures runs { λ r. ⌜ OfWritten (ReportDemand3 (now (file .entry))) r (now (output .exit)) ⌝ }
 {
     let parsed = launchfile::read_launch(file);
     let answer = parsed.answer;

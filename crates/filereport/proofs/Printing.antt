@@ -1,11 +1,11 @@
 -- What is printed, by what the whole-file entry and the report writer answer. Assumes nothing.
-use mathlib.Core.Path.{_≡_, refl, sym, ap, ap₂, _∙_}
+use mathlib.Core.Path.{_≡_, refl, sym, ap, ap₂, subst, _∙_}
 use mathlib.Core.List.{List}
 use mathlib.Core.Option.{Option, none, some, Option·none-ne-some, Option·some-injective}
 use Prim.Native.Nat.{ℕ, _≤_}
 use native.Mathlib.Omega.{arith}
 use borrow.Author.Tests.{eq-eqb, le-leb}
-use lib.ListN.{length, drop, length-append, length-drop}
+use lib.ListN.{length, take, drop, length-append, length-drop}
 use Rattle.spec.specs.declared.Refusal.{Refusal}
 use Rattle.spec.specs.declared.Written.{Written}
 use Rattle.spec.specs.declared.Written.the-variants.{Refused, Wrote}
@@ -15,6 +15,9 @@ use Rattle.spec.specs.LaunchFile.{Launch, Checked, refused, accepted, unlessRef
 use Rattle.spec.specs.Report.{refusalReport, reportOf}
 use Rattle.spec.specs.Entries.{over, writerRefusal, writtenOf, writerAnswer, writerBuffer, keptIf, fileLent, andState, fileChecked, launchReport}
 use Rattle.spec.specs.Entries.{reportLength, ifAccepted, fileAnswer, fileOutputAfter, printed, checkPrints}
+use Rattle.spec.specs.Demands.{ReportDemand3, FileReadable}
+use Rattle.spec.proofs.Laws.{front-of}
+use Rattle.readback.proofs.Runs.{file-readable, report-demand3}
 use Rattle.reportlines.proofs.Writing.{over-length}
 use Rattle.report.specs.Subjects.{FitsOutput}
 use Rattle.report.proofs.Entry.{no-cells-asked, fitting}
@@ -76,6 +79,19 @@ module _ (why : Refusal) (number place : ℕ) (en : number ≡ refusalNumber why
   pub never-refused : {A : Type 0} (again : Refusal) → Told → r ≡ Refused again → A
   never-refused again t e = not-both r (length text) again (wrote t) e
 
+-- What is printed, and what may be read from it.
+abbrev pub Prints : (file output : List ℕ) → (size : ℕ) → (out : List ℕ) → Type 0
+Prints file output size out =
+    (size ≡ length (checkPrints file))
+    × ((out ≡ over (checkPrints file) output)
+    × ((size ≤ length out) × (FileReadable file (take size out) × ReportDemand3 file (take size out))))
+
+prints : (file output : List ℕ) (size : ℕ) (out : List ℕ) → size ≡ length (checkPrints file) → out ≡ over (checkPrints file) output → size ≤ length out
+    → Prints file output size out
+prints file output size out e q fits =
+    let read : checkPrints file ≡ take size out = sym (ap (λ n. take n out) e ∙ front-of (checkPrints file) output out q) in
+    (e, (q, (fits, (subst (FileReadable file) read (file-readable file), subst (ReportDemand3 file) read (report-demand3 file)))))
+
 -- The whole-file entry with buffers of the right sizes refuses nothing but the file.
 by-file : (x : Checked Launch) (state : Option Refusal) → state ≡ none → andState x state ≡ x
 unfolding andState unlessRefused
@@ -117,17 +133,23 @@ module _ (file cells log output : List ℕ) (c : length cells ≡ 1024) (l : len
         (ap (λ x. refusalReport (refusalNumber x) (refusalPlace x)) same, q)
     refused-one (accepted launch) why e q w = not-both r (length (launchReport launch)) why e w
 
-    pub run-printed : (size : ℕ) → r ≡ Wrote size → (size ≡ length (checkPrints file)) × ((out ≡ over (checkPrints file) output) × (size ≤ length out))
+    run-written : (size : ℕ) → r ≡ Wrote size → (size ≡ length (checkPrints file)) × ((out ≡ over (checkPrints file) output) × (size ≤ length out))
     unfolding checkPrints
-    run-printed size w = accepted-one (fileLaunch file) size size-told output-told w
+    run-written size w = accepted-one (fileLaunch file) size size-told output-told w
+
+    pub run-printed : (size : ℕ) → r ≡ Wrote size → Prints file output size out
+    run-printed size w = let t = run-written size w in prints file output size out (t .0) (t .1 .0) (t .1 .1)
 
     -- The refusal's report is written over the output as it was lent.
+    refusal-is : (why : Refusal) → r ≡ Refused why → (refusalReport (refusalNumber why) (refusalPlace why) ≡ checkPrints file) × (out ≡ output)
+    unfolding checkPrints
+    refusal-is why w = refused-one (fileLaunch file) why size-told output-told w
+
     pub refusal-printed : (why : Refusal) (size : ℕ) (last : List ℕ) → r ≡ Refused why
         → (size ≡ length (refusalReport (refusalNumber why) (refusalPlace why)))
-        × ((last ≡ over (refusalReport (refusalNumber why) (refusalPlace why)) out) × (size ≤ 17408))
-        → (size ≡ length (checkPrints file)) × ((last ≡ over (checkPrints file) output) × (size ≤ length last))
-    unfolding checkPrints
+        × ((last ≡ over (refusalReport (refusalNumber why) (refusalPlace why)) out) × (size ≤ 17408)) → Prints file output size last
     refusal-printed why size last w t =
-        let f = refused-one (fileLaunch file) why size-told output-told w in
+        let f = refusal-is why w in
         let room = over-length (refusalReport (refusalNumber why) (refusalPlace why)) out (omega (arith, t .0, t .1 .1, long, o)) in
-        (t .0 ∙ ap length (f .0), (t .1 .0 ∙ ap₂ over (f .0) (f .1), omega (arith, t .1 .1, ap length (t .1 .0), room, long, o)))
+        prints file output size last (t .0 ∙ ap length (f .0)) (t .1 .0 ∙ ap₂ over (f .0) (f .1))
+        (omega (arith, t .1 .1, ap length (t .1 .0), room, long, o))

@@ -4,10 +4,11 @@ use spec::Subject;
 use spec::Written;
 ghost use mathlib.Core.Path.{_≡_};
 ghost use Prim.Native.Nat.{_≤_};
-ghost use lib.ListN.{length};
+ghost use lib.ListN.{length, take};
 ghost use Rattle.spec.specs.Answers.{refusalNumber, refusalPlace};
 ghost use Rattle.spec.specs.Report.{refusalReport};
 ghost use Rattle.spec.specs.Entries.{over, checkPrints};
+ghost use Rattle.spec.specs.Demands.{ReportDemand3, FileReadable};
 
 fn report_refusal(why: Refusal, output: &mut [u8]) -> usize
     requires { ⌜ 17408 ≤ length (now output) ⌝ }
@@ -29,6 +30,8 @@ pub fn report_file(file: &[u8], output: &mut [u8; 17408]) -> usize
     ensures long { λ r. ⌜ r ≡ length (checkPrints (now (file .entry))) ⌝ }
     ensures written { λ _. ⌜ now (output .exit) ≡ over (checkPrints (now (file .entry))) (now (output .entry)) ⌝ }
     ensures fits { λ r. ⌜ r ≤ length (now (output .exit)) ⌝ }
+    ensures reads { λ r. ⌜ FileReadable (now (file .entry)) (take r (now (output .exit))) ⌝ }
+    ensures runs { λ r. ⌜ ReportDemand3 (now (file .entry)) (take r (now (output .exit))) ⌝ }
 {
     let mut cells: [u32; 1024] = [0; 1024];
     let mut log: [u32; 2048] = [0; 2048];

@@ -1,5 +1,5 @@
 -- The bare launch: what its tests leave known, and its answer. Assumes nothing.
-use mathlib.Core.Path.{_≡_, sym, _∙_, ap}
+use mathlib.Core.Path.{_≡_, refl, sym, _∙_, ap}
 use mathlib.Core.List.{List}
 use mathlib.Core.Option.{Option, none, some}
 use Prim.Native.Nat.{ℕ, _*_, _/_, _%_, _≤_}
@@ -11,7 +11,7 @@ use Rattle.spec.specs.declared.Refusal.{Refusal}
 use Rattle.spec.specs.declared.Outcome.{Outcome}
 use Rattle.spec.specs.declared.Answer.{Answer}
 use Rattle.spec.specs.declared.Answer.the-variants as answer
-use Rattle.spec.specs.Answers.{first}
+use Rattle.spec.specs.Answers.{first, told, toldBy}
 use Rattle.spec.specs.Table.{rowsOf}
 use Rattle.spec.specs.TableCheck.{tableRefusal}
 use Rattle.spec.specs.Log.{logWords}
@@ -67,22 +67,36 @@ module _ (table : List ℕ) (threads count limit : ℕ) (cells log : List ℕ) w
   abbrev refusal : Option Refusal
   refusal = bareRefusal table threads count limit cells log
 
-  -- the answer and the buffers
+  -- the answer, by its case and by number and place, the buffers, and what the answer says of every run
   abbrev pub Entry : Answer → (cells′ log′ : List ℕ) → Type 0
   Entry r cells′ log′ =
       (r ≡ bareAnswer table threads count limit cells log)
+      × ((toldBy r ≡ told (bareRefusal table threads count limit cells log))
       × ((cells′ ≡ bareCells table threads count limit cells log)
-      × ((log′ ≡ bareLog table threads count limit cells log) × BareDemand3 table threads count limit cells log))
+      × ((log′ ≡ bareLog table threads count limit cells log) × BareDemand3 table threads limit cells r cells′)))
+
+  told-by : (x : Option Refusal) (o : Outcome) → toldBy (answerOf x o) ≡ told x
+  unfolding answerOf toldBy told
+  told-by none o = refl
+  told-by (some why) o = refl
+
+  entry : (r : Answer) (cells′ log′ : List ℕ) → r ≡ bareAnswer table threads count limit cells log → cells′ ≡ bareCells table threads count limit cells log
+      → log′ ≡ bareLog table threads count limit cells log → Entry r cells′ log′
+  unfolding bareAnswer
+  entry r cells′ log′ a c l = (
+    a,
+    (
+      ap toldBy a ∙ told-by refusal _,
+      (c, (l, rw (a, c) (bare-demand3 table threads count limit cells log))),
+    ),
+  )
 
   refused : (why : Refusal) → refusal ≡ some why → Entry (answer.Refused why) cells log
   unfolding bareAnswer bareCells bareLog answerOf keptIf
-  refused why e = (
-    sym (ap (λ x. answerOf x (outcomeOf (bareRun table threads limit cells))) e),
-    (
-      sym (ap (λ x. keptIf x cells (bareRun table threads limit cells .state .cells)) e),
-      (sym (ap (λ x. keptIf x log (logWords (bareRun table threads limit cells .state .log))) e), bare-demand3 table threads count limit cells log),
-    ),
-  )
+  refused why e =
+      entry (answer.Refused why) cells log (sym (ap (λ x. answerOf x (outcomeOf (bareRun table threads limit cells))) e))
+      (sym (ap (λ x. keptIf x cells (bareRun table threads limit cells .state .cells)) e))
+      (sym (ap (λ x. keptIf x log (logWords (bareRun table threads limit cells .state .log))) e))
 
   abbrev byNumbers : Option Refusal
   byNumbers = bareNumbers (length table) threads count limit
@@ -109,13 +123,7 @@ module _ (table : List ℕ) (threads count limit : ℕ) (cells log : List ℕ) w
       → RunIs (lockstep (rowsOf table) threads cells limit) o cells′ log′ → Entry (answer.Ran o) cells′ log′
   unfolding bareRefusal bareAnswer bareCells bareLog answerOf keptIf bareRun
   ran o cells′ log′ n t s R =
-      let e : refusal ≡ none = passed byNumbers _ n ∙ passed byTable _ t ∙ passed byState _ s ∙ ends in (
-        ap answer.Ran (R .outcome-is) ∙ sym (ap (λ x. answerOf x (outcomeOf (bareRun table threads limit cells))) e),
-        (
-          R .cells-are ∙ sym (ap (λ x. keptIf x cells (bareRun table threads limit cells .state .cells)) e),
-          (
-            R .log-is ∙ sym (ap (λ x. keptIf x log (logWords (bareRun table threads limit cells .state .log))) e),
-            bare-demand3 table threads count limit cells log,
-          ),
-        ),
-      )
+      let e : refusal ≡ none = passed byNumbers _ n ∙ passed byTable _ t ∙ passed byState _ s ∙ ends in
+      entry (answer.Ran o) cells′ log′ (ap answer.Ran (R .outcome-is) ∙ sym (ap (λ x. answerOf x (outcomeOf (bareRun table threads limit cells))) e))
+      (R .cells-are ∙ sym (ap (λ x. keptIf x cells (bareRun table threads limit cells .state .cells)) e))
+      (R .log-is ∙ sym (ap (λ x. keptIf x log (logWords (bareRun table threads limit cells .state .log))) e))

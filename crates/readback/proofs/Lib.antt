@@ -1,3 +1,7 @@
--- Laws of a report read back. Assumes nothing.
+-- Laws of a report that is read from its bytes. Assumes nothing.
+pub mod Numbers
 pub mod Clean
 pub mod Back
+pub mod Ends
+pub mod Reports
+pub mod Runs

@@ -12,9 +12,14 @@ use Rattle.spec.specs.declared.Outcome.{Outcome}
 use Rattle.spec.specs.declared.Subject.{Subject}
 use Rattle.spec.specs.declared.Refusal.{Refusal}
 use Rattle.spec.specs.declared.Refusal.the-variants.{ReportCells, ReportTooLong}
+use Rattle.spec.specs.declared.Written.{Written}
 use Rattle.spec.specs.declared.Written.the-variants as written
-use Rattle.spec.specs.Answers.{unless, orElse, first}
+use Rattle.spec.specs.Answers.{unless, orElse, first, told, toldIn}
 use Rattle.spec.specs.Report.{reportOf}
+use Rattle.spec.specs.Reading.{Readable}
+use Rattle.spec.specs.Demands.{OfWritten}
+use Rattle.spec.proofs.Laws.{front-of}
+use Rattle.readback.proofs.Reports.{readable}
 use Rattle.spec.specs.Entries.{over, cellsReported, writerRefusal, writtenOf, writerAnswer, writerBuffer, keptIf}
 use Rattle.report.specs.Subjects.{ran, refused, FitsOutput}
 
@@ -69,6 +74,32 @@ cells-refused what cells out r e =
 
 pub fits : (what : Subject) (cells : List ℕ) (n : ℕ) → n ≡ length (reportOf what cells) → n ≤ 17408 → FitsOutput what cells
 fits what cells n e h q = omega arith
+
+-- The answer by number and place, and what may be read from the report where there is one.
+told-in : (x : Option Refusal) (n : ℕ) → toldIn (writtenOf x n) ≡ told x
+unfolding writtenOf toldIn told
+told-in none n = refl
+told-in (some why) n = refl
+
+of-written : (P : List ℕ → Type 0) (x : Option Refusal) (w out : List ℕ) → P w → OfWritten P (writtenOf x (length w)) (keptIf x out (over w out))
+unfolding writtenOf keptIf
+of-written P none w out h = rw (front-of w out (over w out) refl) h
+of-written P (some why) w out h = tt
+
+-- What a writer promises that answers and writes as the definition says.
+pub promised : (what : Subject) (cells out l : List ℕ) (r : Written) → r ≡ writerAnswer what cells out → l ≡ writerBuffer what cells out
+    → (toldIn r ≡ told (writerRefusal what cells out)) × OfWritten (Readable what) r l
+unfolding writerAnswer writerBuffer
+promised what cells out l r a b = (
+  ap toldIn a ∙ told-in (writerRefusal what cells out) _,
+  rw (a, b) (of-written (Readable what) (writerRefusal what cells out) (reportOf what cells) out (readable what cells)),
+)
+
+pub whole : (what : Subject) (cells out l : List ℕ) (r : Written)
+    → (r ≡ writerAnswer what cells out) × ((l ≡ writerBuffer what cells out) × FitsOutput what cells)
+    → (r ≡ writerAnswer what cells out) × ((l ≡ writerBuffer what cells out)
+    × (FitsOutput what cells × ((toldIn r ≡ told (writerRefusal what cells out)) × OfWritten (Readable what) r l)))
+whole what cells out l r h = (h .0, (h .1 .0, (h .1 .1, promised what cells out l r (h .0) (h .1 .0))))
 
 -- Whoever unfolds this sees that a refusal's report does not depend on the cells.
 unfoldable pub without-cells : Unit {0}

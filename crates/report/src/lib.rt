@@ -8,7 +8,10 @@ ghost use mathlib.Core.List.{[]};
 ghost use Prim.Native.Nat.{_≤_};
 ghost use lib.ListN.{length};
 ghost use Rattle.spec.specs.Report.{runReport};
-ghost use Rattle.spec.specs.Entries.{over, writerAnswer, writerBuffer};
+ghost use Rattle.spec.specs.Answers.{told, toldIn};
+ghost use Rattle.spec.specs.Reading.{Readable};
+ghost use Rattle.spec.specs.Entries.{over, writerRefusal, writerAnswer, writerBuffer};
+ghost use Rattle.spec.specs.Demands.{OfWritten};
 ghost use Rattle.report.specs.Subjects.{ran, refused, FitsOutput};
 
 // The length of a run's report, which a buffer of 17,408 bytes always holds.
@@ -73,6 +76,8 @@ pub fn write_report(what: Subject, cells: &[u32], out: &mut [u8]) -> Written
     ensures answer { λ r. ⌜ r ≡ writerAnswer what (now (cells .entry)) (now (out .entry)) ⌝ }
     ensures buffer { λ _. ⌜ now (out .exit) ≡ writerBuffer what (now (cells .entry)) (now (out .entry)) ⌝ }
     ensures fits { λ _. ⌜ FitsOutput what (now (cells .entry)) ⌝ }
+    ensures refusal { λ r. ⌜ toldIn r ≡ told (writerRefusal what (now (cells .entry)) (now (out .entry))) ⌝ }
+    ensures reads { λ r. ⌜ OfWritten (Readable what) r (now (out .exit)) ⌝ }
 {
     match what {
         Subject::Ran(outcome) => report_run(outcome, cells, out),

@@ -1,14 +1,26 @@
 -- A bare launch's answer told in words. Assumes nothing.
-use mathlib.Core.Path.{_≡_, sym, ap, _∙_}
+use mathlib.Core.Path.{_≡_, sym, ap, subst, _∙_}
 use mathlib.Core.List.{List, [], _∷_}
-use mathlib.Core.Bool.{true, false}
+use mathlib.Core.Bool.{true, false, false≢true}
 use Prim.Native.Nat.{ℕ}
 use Rattle.spec.specs.declared.Outcome.{Outcome}
 use Rattle.spec.specs.declared.Refusal.{Refusal}
 use Rattle.spec.specs.declared.Answer.{Answer}
 use Rattle.spec.specs.declared.Answer.the-variants.{Refused, Ran}
 use Rattle.refusals.specs.Words.{refusalWords}
-use Rattle.answerwords.specs.Codes.{outcomeWords, ranIn, outcomeIn, whyIn}
+use Rattle.spec.specs.Table.{rowsOf}
+use Rattle.spec.specs.Demands.{BareDemand3}
+use Rattle.answerwords.specs.Codes.{outcomeWords, ranIn, outcomeIn, whyIn, RanDemand3}
+use Rattle.answerwords.proofs.Back.{words-demand}
+
+-- Demand 3 of the answer, of the words: there is none to say of a refusal.
+pub refusal-runs : (table : List ℕ) (threads limit : ℕ) (cells outcome left : List ℕ) → RanDemand3 table threads limit cells false outcome left
+refusal-runs table threads limit cells outcome left e = absurd (false≢true e)
+
+pub run-runs : (table : List ℕ) (threads limit : ℕ) (cells left : List ℕ) (told : Answer) (o : Outcome) (ws : List ℕ) → told ≡ Ran o → ws ≡ outcomeWords o
+    → BareDemand3 table threads limit cells told left → RanDemand3 table threads limit cells true ws left
+run-runs table threads limit cells left told o ws q w d e =
+    rw w (words-demand (rowsOf table) threads cells limit o left (subst (λ a. BareDemand3 table threads limit cells a left) q d))
 
 module _ (answer told : Answer) (e : told ≡ answer) where
   pub refusal-told : (why : Refusal) (ws : List ℕ) → told ≡ Refused why → ws ≡ refusalWords why

@@ -5,8 +5,9 @@ ghost use mathlib.Core.Path.{_≡_};
 ghost use mathlib.Core.List.{[]};
 ghost use Rattle.spec.specs.declared.Subject.the-variants.{Ran, Refused};
 ghost use Rattle.spec.specs.Entries.{bareAnswer, bareCells, bareLog, writerAnswer, writerBuffer, fileAnswer, fileCellsAfter, fileLogAfter, fileOutputAfter};
-ghost use Rattle.spec.specs.Demands.{BareDemand3, FileDemand3};
-ghost use Rattle.answerwords.specs.Codes.{lengthIn, refusalIn, ranIn, outcomeIn, whyIn, outcomeFrom};
+ghost use Rattle.spec.specs.Reading.{Readable};
+ghost use Rattle.spec.specs.Demands.{ReportDemand3, FileReadable, OfLength};
+ghost use Rattle.answerwords.specs.Codes.{lengthIn, refusalIn, ranIn, outcomeIn, whyIn, outcomeFrom, RanDemand3};
 
 #[no_mangle]
 pub extern "C" fn sekufoyi_check_file(
@@ -21,7 +22,8 @@ pub extern "C" fn sekufoyi_check_file(
     ensures cells { λ _. ⌜ now (cells .exit) ≡ fileCellsAfter (now (file .entry)) (now (cells .entry)) (now (log .entry)) (now (output .entry)) ⌝ }
     ensures log { λ _. ⌜ now (log .exit) ≡ fileLogAfter (now (file .entry)) (now (cells .entry)) (now (log .entry)) (now (output .entry)) ⌝ }
     ensures output { λ _. ⌜ now (output .exit) ≡ fileOutputAfter (now (file .entry)) (now (cells .entry)) (now (log .entry)) (now (output .entry)) ⌝ }
-    ensures runs { λ _. ⌜ FileDemand3 (now (file .entry)) ⌝ }
+    ensures reads { λ r. ⌜ OfLength (FileReadable (now (file .entry))) r (now (output .exit)) ⌝ }
+    ensures runs { λ r. ⌜ OfLength (ReportDemand3 (now (file .entry))) r (now (output .exit)) ⌝ }
 {
     let answer = checkfile::check_file(file, cells, log, output);
     answerwords::tell_written(answer, refusal)
@@ -43,7 +45,7 @@ pub extern "C" fn sekufoyi_bare_launch(
     ensures refusal { λ _. ⌜ now (refusal .exit) ≡ whyIn (bareAnswer (now (table .entry)) threads count limit (now (cells .entry)) (now (log .entry))) ⌝ }
     ensures cells { λ _. ⌜ now (cells .exit) ≡ bareCells (now (table .entry)) threads count limit (now (cells .entry)) (now (log .entry)) ⌝ }
     ensures log { λ _. ⌜ now (log .exit) ≡ bareLog (now (table .entry)) threads count limit (now (cells .entry)) (now (log .entry)) ⌝ }
-    ensures runs { λ _. ⌜ BareDemand3 (now (table .entry)) threads count limit (now (cells .entry)) (now (log .entry)) ⌝ }
+    ensures runs { λ r. ⌜ RanDemand3 (now (table .entry)) threads limit (now (cells .entry)) r (now (outcome .exit)) (now (cells .exit)) ⌝ }
 {
     match launch::bare_launch(table, threads, count, limit, cells, log) {
         Answer::Refused(why) => {
@@ -69,6 +71,7 @@ pub extern "C" fn sekufoyi_write_report(
     ensures answer { λ r. ⌜ r ≡ lengthIn (writerAnswer (Ran (outcomeFrom (now (outcome .entry)))) (now (cells .entry)) (now (output .entry))) ⌝ }
     ensures refusal { λ _. ⌜ now (refusal .exit) ≡ refusalIn (writerAnswer (Ran (outcomeFrom (now (outcome .entry)))) (now (cells .entry)) (now (output .entry))) ⌝ }
     ensures output { λ _. ⌜ now (output .exit) ≡ writerBuffer (Ran (outcomeFrom (now (outcome .entry)))) (now (cells .entry)) (now (output .entry)) ⌝ }
+    ensures reads { λ r. ⌜ OfLength (Readable (Ran (outcomeFrom (now (outcome .entry))))) r (now (output .exit)) ⌝ }
 {
     let answer = report::write_report(
         Subject::Ran(answerwords::outcome_from(outcome)),
@@ -88,6 +91,7 @@ pub extern "C" fn sekufoyi_write_refusal(
     ensures answer { λ r. ⌜ r ≡ lengthIn (writerAnswer (Refused number place) [] (now (output .entry))) ⌝ }
     ensures refusal { λ _. ⌜ now (refusal .exit) ≡ refusalIn (writerAnswer (Refused number place) [] (now (output .entry))) ⌝ }
     ensures output { λ _. ⌜ now (output .exit) ≡ writerBuffer (Refused number place) [] (now (output .entry)) ⌝ }
+    ensures reads { λ r. ⌜ OfLength (Readable (Refused number place)) r (now (output .exit)) ⌝ }
 {
     let none: [u32; 0] = [];
     let answer = report::write_report(Subject::Refused(number, place), &none, output);

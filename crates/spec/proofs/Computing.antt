@@ -1,5 +1,5 @@
 -- Opens every definition of specs/ at once, so that an example is computed. Assumes nothing.
-use Rattle.spec.specs.Answers.{refusalNumber, refusalPlace, unless, orElse, first}
+use Rattle.spec.specs.Answers.{refusalNumber, refusalPlace, named, told, toldBy, toldIn, unless, orElse, first}
 use Rattle.spec.specs.Lists.{anyOf, every, equalList}
 use Rattle.spec.specs.Access.{cellAfter, registersAfter, compatible, conflict}
 use Rattle.spec.specs.Op.{opTable, opOf, form, formOf, isRegister, isUnused, operandsFit, value}
@@ -25,16 +25,17 @@ use Rattle.spec.specs.LaunchFile.{continue, _>>=_, _>>_, gives, inOrder,
 use Rattle.spec.specs.LaunchFile.{number, byte, rowValue, numberLines, dueNumber, numbers, contentLines, launchLines, unlessRefused, checkedTable, fileLaunch}
 use Rattle.spec.specs.Report.{verdictText, kindText, valueText, keyLine, lineBytes, _is_, bytesOf, details, detailsOf, headWith, headLines}
 use Rattle.spec.specs.Report.{eachLine, endLine, runLines, runReport, refusalLines, refusalReport, reportOf}
+use Rattle.spec.specs.Reading.{onFirst, linesIn, isLine, hasLine, isFirst, beginsWith, numberIn, underKey, numbersOn, numbersAt, isPassed, hasPassed, installs}
 use Rattle.spec.specs.Entries.{over, bareNumbers, bareLent, bareRefusal, bareRun, answerOf, keptIf, bareAnswer, bareCells, bareLog}
 use Rattle.spec.specs.Entries.{cellsReported, writerRefusal, writtenOf, writerAnswer, writerBuffer, fileLent, andState, fileChecked, launchRun}
 use Rattle.spec.specs.Entries.{launchReport, reportLength, fileAnswer, ifAccepted, fileCellsAfter, fileLogAfter, fileOutputAfter, printed}
-use Rattle.spec.specs.Entries.{checkPrints}
+use Rattle.spec.specs.Entries.{checkedRefusal, checkPrints, subjectOf}
 use Rattle.spec.specs.Examples.{withNewlines, lines, examples}
 use Rattle.spec.specs.RunExamples.{runExamples}
 
 -- Whoever unfolds this unfolds them all.
 unfoldable pub computing : Unit {0}
-unfolding refusalNumber refusalPlace unless orElse first
+unfolding refusalNumber refusalPlace named told toldBy toldIn unless orElse first
     anyOf every equalList
     cellAfter registersAfter compatible conflict
     opTable opOf form formOf isRegister isUnused operandsFit value
@@ -56,8 +57,9 @@ unfolding refusalNumber refusalPlace unless orElse first
     numbers contentLines launchLines unlessRefused checkedTable fileLaunch
     verdictText kindText valueText keyLine lineBytes _is_ bytesOf details detailsOf headWith headLines eachLine endLine runLines runReport
     refusalLines refusalReport reportOf
+    onFirst linesIn isLine hasLine isFirst beginsWith numberIn underKey numbersOn numbersAt isPassed hasPassed installs
     over bareNumbers bareLent bareRefusal bareRun answerOf keptIf bareAnswer bareCells bareLog cellsReported writerRefusal writtenOf
     writerAnswer writerBuffer fileLent andState fileChecked launchRun launchReport reportLength fileAnswer ifAccepted fileCellsAfter
-    fileLogAfter fileOutputAfter printed checkPrints
+    fileLogAfter fileOutputAfter printed checkPrints checkedRefusal subjectOf
     withNewlines lines examples runExamples
 computing = tt

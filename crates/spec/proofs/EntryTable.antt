@@ -1,22 +1,24 @@
 -- What the entries answer and what they leave in each lent buffer: limits from both sides, two faults at once, lengths, and what is kept. Assumes nothing.
 use mathlib.Core.Path.{_≡_, refl}
 use mathlib.Core.List.{List, [], _∷_, _++_, map}
+use mathlib.Core.Option.{none, some}
 use Prim.Native.Nat.{ℕ, _-_}
 use lib.ListN.{replicate}
 use Rattle.spec.specs.Answers.{Answer, Passed, Race, WriteWrite, Subject, Written, LineNotDue}
-use Rattle.spec.specs.Answers.{CellsLength, LogLength, ReportCells, ReportTooLong, ThreadsOutOfRange}
+use Rattle.spec.specs.Answers.{CellsLength, LogLength, ReportCells, ReportTooLong, ThreadsOutOfRange, TooManyRows, toldBy, toldIn}
 use Rattle.spec.specs.declared.Answer.the-variants as answer
 use Rattle.spec.specs.declared.Subject.the-variants as subject
 use Rattle.spec.specs.declared.Written.the-variants as written
 use Rattle.spec.specs.Entries.{over, bareNumbers, bareLent, bareRefusal, bareAnswer, bareCells, bareLog, writerAnswer, writerBuffer}
-use Rattle.spec.specs.Entries.{fileLent, fileAnswer, fileCellsAfter, fileLogAfter, fileOutputAfter, checkPrints}
+use Rattle.spec.specs.Entries.{fileLent, fileAnswer, fileCellsAfter, fileLogAfter, fileOutputAfter, checkPrints, subjectOf}
+use Rattle.spec.specs.LaunchFile.{fileLaunch}
 use Rattle.spec.specs.Text.{text}
 use Rattle.spec.specs.Examples.{lines}
-use Rattle.spec.proofs.RefusalTable.{told}
+use Rattle.spec.proofs.RefusalTable.{orZero, toldAs}
 use Rattle.spec.proofs.Computing.{computing}
 
 -- A bare launch's numbers, each on both sides of its limits: bytes, threads, cells, limit. The places are 0.
-pub bare-limits : map told
+pub bare-limits : map toldAs
     (bareNumbers 0 1 1 0
     ∷ bareNumbers 1 1 1 0 ∷ bareNumbers 2 1 1 0 ∷ bareNumbers 3 1 1 0 ∷ bareNumbers 4 1 1 0
     ∷ bareNumbers 1020 1 1 0 ∷ bareNumbers 1024 1 1 0 ∷ bareNumbers 1028 1 1 0
@@ -31,24 +33,24 @@ pub bare-limits : map told
     ∷ (9, 0) ∷ (0, 0) ∷ (0, 0) ∷ (9, 0)
     ∷ (0, 0) ∷ (0, 0) ∷ (10, 0)
     ∷ []
-unfolding computing told
+unfolding computing orZero toldAs
 bare-limits = refl
 
 -- Two faults at once: 1 before 2, 2 before 8, 8 before 9, 9 before 10, and 1 before all.
-pub bare-order : map told
+pub bare-order : map toldAs
     (bareNumbers 1029 1 1 0 ∷ bareNumbers 1028 0 1 0 ∷ bareNumbers 0 33 0 0 ∷ bareNumbers 0 1 1025 1000001 ∷ bareNumbers 1030 33 0 1000001 ∷ bareNumbers 0 0 0 1000001 ∷ [])
     ≡ (1, 0) ∷ (2, 0) ∷ (8, 0) ∷ (9, 0) ∷ (1, 0) ∷ (8, 0) ∷ []
-unfolding computing told
+unfolding computing orZero toldAs
 bare-order = refl
 
 -- The lent lengths of a launch of 3 cells: as many words as cells, twice as many for the log; 20 before 21.
-pub bare-lengths : map told (bareLent 3 3 6 ∷ bareLent 3 2 6 ∷ bareLent 3 4 6 ∷ bareLent 3 3 5 ∷ bareLent 3 3 7 ∷ bareLent 3 3 3 ∷ bareLent 3 2 5 ∷ bareLent 3 4 3 ∷ []) ≡
+pub bare-lengths : map toldAs (bareLent 3 3 6 ∷ bareLent 3 2 6 ∷ bareLent 3 4 6 ∷ bareLent 3 3 5 ∷ bareLent 3 3 7 ∷ bareLent 3 3 3 ∷ bareLent 3 2 5 ∷ bareLent 3 4 3 ∷ []) ≡
     (0, 0) ∷ (20, 0) ∷ (20, 0) ∷ (21, 0) ∷ (21, 0) ∷ (21, 0) ∷ (20, 0) ∷ (20, 0) ∷ []
-unfolding computing told
+unfolding computing orZero toldAs
 bare-lengths = refl
 
 -- Numbers before rows, rows before lent lengths: 10 and 3; 3 and 20; 7 and 21; 20 and 21.
-pub bare-stages : map told
+pub bare-stages : map toldAs
     (bareRefusal (0 ∷ 0 ∷ 0 ∷ 0 ∷ []) 1 1 1000001 (7 ∷ []) (7 ∷ 7 ∷ [])
     ∷ bareRefusal (0 ∷ 0 ∷ 0 ∷ 0 ∷ []) 1 1 0 [] []
     ∷ bareRefusal (37 ∷ 0 ∷ 0 ∷ 0 ∷ 32 ∷ 0 ∷ 0 ∷ 0 ∷ []) 1 1 0 (7 ∷ []) []
@@ -57,7 +59,7 @@ pub bare-stages : map told
     ∷ bareRefusal (37 ∷ 0 ∷ 0 ∷ 0 ∷ []) 1 1 0 (7 ∷ []) (7 ∷ 7 ∷ [])
     ∷ [])
     ≡ (10, 0) ∷ (3, 0) ∷ (7, 1) ∷ (20, 0) ∷ (21, 0) ∷ (0, 0) ∷ []
-unfolding computing told
+unfolding computing orZero toldAs
 bare-stages = refl
 
 -- A bare launch's answer, cells and log.
@@ -95,13 +97,13 @@ tids n = bytesOfRows (replicate n 2)
     bytesOfRows [] = []
     bytesOfRows (op ∷ ops) = op ∷ 0 ∷ 0 ∷ 0 ∷ bytesOfRows ops
 
-pub bare-most : map told
+pub bare-most : map toldAs
     (bareRefusal (tids 256) 32 1024 1000000 (replicate 1024 7) (replicate 2048 7)
     ∷ bareRefusal (tids 257) 32 1024 1000000 (replicate 1024 7) (replicate 2048 7)
     ∷ bareRefusal [] 32 1025 1000000 (replicate 1025 7) (replicate 2050 7)
     ∷ [])
     ≡ (0, 0) ∷ (2, 0) ∷ (9, 0) ∷ []
-unfolding computing told tids
+unfolding computing orZero toldAs tids
 bare-most = refl
 
 -- The report writer.
@@ -149,7 +151,7 @@ unfolding computing wrote
 writer-refusal = refl
 
 -- The whole-file entry. Lent lengths on both sides, 20 before 21 before 24; more output than 17,408 bytes is welcome.
-pub file-lengths : map told
+pub file-lengths : map toldAs
     (fileLent 1024 2048 17408 ∷ fileLent 1024 2048 17409
     ∷ fileLent 1023 2048 17408 ∷ fileLent 1025 2048 17408 ∷ fileLent 0 2048 17408
     ∷ fileLent 1024 2047 17408 ∷ fileLent 1024 2049 17408 ∷ fileLent 1024 2048 17407 ∷ fileLent 1024 2048 0
@@ -160,7 +162,7 @@ pub file-lengths : map told
     ∷ (21, 0) ∷ (21, 0) ∷ (24, 0) ∷ (24, 0)
     ∷ (20, 0) ∷ (21, 0) ∷ (20, 0)
     ∷ []
-unfolding computing told
+unfolding computing orZero toldAs
 file-lengths = refl
 
 -- Two threads store their numbers plus 1, each into its own of three cells, and load it again.
@@ -211,6 +213,20 @@ unfolding computing aFile fileAll
 file-refused = refl
 
 -- What is written goes over the buffer's start.
-pub written-over : over (1 ∷ 2 ∷ []) (7 ∷ 8 ∷ 9 ∷ []) ∷ over [] (7 ∷ 8 ∷ []) ∷ over (1 ∷ 2 ∷ []) (7 ∷ 8 ∷ []) ∷ [] ≡ (1 ∷ 2 ∷ 9 ∷ []) ∷ (7 ∷ 8 ∷ []) ∷ (1 ∷ 2 ∷ []) ∷ []
+pub written-over : over (1 ∷ 2 ∷ []) (7 ∷ 8 ∷ 9 ∷ []) ∷ over [] (7 ∷ 8 ∷ []) ∷ over (1 ∷ 2 ∷ []) (7 ∷ 8 ∷ []) ∷ [] ≡
+    (1 ∷ 2 ∷ 9 ∷ []) ∷ (7 ∷ 8 ∷ []) ∷ (1 ∷ 2 ∷ []) ∷ []
 unfolding computing
 written-over = refl
+
+-- What answers tell of a refusal, by number and place; a run and a report tell of none.
+pub answers-tell : toldBy (answer.Refused (TooManyRows 5)) ∷ toldBy (answer.Ran (record { verdict = Passed; row = 1; rows = 2; steps = 3; barriers = 4 }))
+    ∷ toldIn (written.Refused (ReportTooLong 31)) ∷ toldIn (written.Wrote 31) ∷ []
+    ≡ some (2, 5) ∷ none ∷ some (22, 31) ∷ none ∷ []
+unfolding computing
+answers-tell = refl
+
+-- What a file's report is made of.
+pub subjects : map (λ f. subjectOf (fileLaunch f)) (aFile ∷ lines "kernel=1/threads=33" ∷ []) ≡
+    subject.Ran (record { verdict = Passed; row = 5; rows = 5; steps = 10; barriers = 0 }) ∷ subject.Refused 8 2 ∷ []
+unfolding computing aFile
+subjects = refl

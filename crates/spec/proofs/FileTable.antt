@@ -1,21 +1,20 @@
 -- Launch files: which are refused, with number and place, and what an accepted one says. `/` stands between the lines. Assumes nothing.
 use mathlib.Core.Path.{_≡_, refl}
 use mathlib.Core.List.{List, [], _∷_, _++_, map}
-use mathlib.Core.Option.{some}
 use Prim.Native.Nat.{ℕ, zero, suc}
 use Prim.Native.String.{String}
 use lib.ListN.{length}
 use Rattle.spec.specs.Table.{rowOf}
 use Rattle.spec.specs.LaunchFile.{Launch, Checked, refused, accepted, fileLaunch}
+use Rattle.spec.specs.Entries.{checkedRefusal}
 use Rattle.spec.specs.Text.{text}
 use Rattle.spec.specs.Examples.{lines}
-use Rattle.spec.proofs.RefusalTable.{told}
+use Rattle.spec.proofs.RefusalTable.{orZero, toldAs}
 use Rattle.spec.proofs.Computing.{computing}
 
 -- A file's refusal as number and place; 0 and 0 where it is accepted.
 unfoldable pub toldOf : Checked Launch → ℕ × ℕ
-toldOf (refused r) = told (some r)
-toldOf (accepted launch) = (0, 0)
+toldOf x = toldAs (checkedRefusal x)
 
 -- Each of these endings behind the same beginning.
 unfoldable pub behind : List ℕ → List String → List (ℕ × ℕ)
@@ -27,7 +26,7 @@ pub line-1 : behind []
     ∷ " kernel=1" ∷ "kernel=1 " ∷ "" ∷ "/kernel=1" ∷ "kernel=1" ∷ [])
     ≡ (11, 1) ∷ (11, 1) ∷ (11, 1) ∷ (11, 1) ∷ (11, 1) ∷ (11, 1) ∷ (11, 1) ∷ (11, 1) ∷ (11, 1) ∷ (11, 1) ∷ (11, 1) ∷ (11, 1)
     ∷ (11, 1) ∷ (11, 1) ∷ (11, 1) ∷ (11, 1) ∷ (11, 2) ∷ []
-unfolding computing told toldOf behind
+unfolding computing orZero toldAs toldOf behind
 line-1 = refl
 
 -- Line 2, numbers: 0, 1, 32 and 33 threads; what is no number is 11, a number of 2 ^ 32 too.
@@ -38,7 +37,7 @@ pub line-2 : behind (lines "kernel=1")
     ≡ (8, 2) ∷ (11, 3) ∷ (11, 3) ∷ (8, 2) ∷ (8, 2) ∷ (8, 2) ∷ (11, 2) ∷ (11, 2)
     ∷ (11, 2) ∷ (11, 2) ∷ (11, 2) ∷ (11, 2) ∷ (11, 2) ∷ (11, 2) ∷ (11, 2) ∷ (11, 2) ∷ (11, 2) ∷ (11, 2)
     ∷ (11, 2) ∷ (11, 2) ∷ (11, 2) ∷ (11, 2) ∷ (11, 2) ∷ (11, 3) ∷ []
-unfolding computing told toldOf behind
+unfolding computing orZero toldAs toldOf behind
 line-2 = refl
 
 -- Lines 3 to 5, limits from both sides; a number out of its limits goes before any fault in a later line.
@@ -49,7 +48,7 @@ pub lines-3-to-5 : behind (lines "kernel=1/threads=1")
     ≡ (9, 3) ∷ (11, 4) ∷ (11, 4) ∷ (9, 3) ∷ (11, 3) ∷ (9, 3)
     ∷ (11, 5) ∷ (11, 5) ∷ (10, 4) ∷ (11, 4) ∷ (10, 4) ∷ (11, 4)
     ∷ (11, 6) ∷ (11, 6) ∷ (2, 5) ∷ (2, 5) ∷ (11, 5) ∷ []
-unfolding computing told toldOf behind
+unfolding computing orZero toldAs toldOf behind
 lines-3-to-5 = refl
 
 -- A row: four numbers below 256, no more and no fewer; here the cell's line is missing behind it.
@@ -60,7 +59,7 @@ pub row-lines : behind (lines "kernel=1/threads=1/cells=1/limit=1/rows=1")
     ≡ (11, 7) ∷ (11, 6) ∷ (11, 6) ∷ (11, 6) ∷ (11, 6) ∷ (11, 6) ∷ (11, 6) ∷ (11, 6) ∷ (11, 6)
     ∷ (11, 6) ∷ (11, 6) ∷ (11, 6) ∷ (11, 6) ∷ (11, 6) ∷ (11, 6) ∷ (11, 6) ∷ (11, 6) ∷ (11, 6) ∷ (11, 6)
     ∷ (11, 6) ∷ (11, 6) ∷ (11, 6) ∷ []
-unfolding computing told toldOf behind
+unfolding computing orZero toldAs toldOf behind
 row-lines = refl
 
 -- Cells: as many lines as said, of any word. Then the end, and nothing behind it.
@@ -73,7 +72,7 @@ pub last-lines : behind (lines "kernel=1/threads=1/cells=2/limit=1/rows=0")
     ∷ (11, 7) ∷ (11, 8) ∷ (11, 6) ∷ (11, 6) ∷ (11, 6)
     ∷ (11, 8) ∷ (11, 8) ∷ (11, 8) ∷ (11, 8) ∷ (11, 8) ∷ (11, 9)
     ∷ (11, 9) ∷ (11, 8) ∷ []
-unfolding computing told toldOf behind
+unfolding computing orZero toldAs toldOf behind
 last-lines = refl
 
 -- A last line without its byte 10 is not due, whatever it says; `/` itself is no digit; one byte behind the end.
@@ -86,7 +85,7 @@ pub last-bytes : map (λ f. toldOf (fileLaunch f))
     ∷ (lines "kernel=1/threads=1/cells=1/limit=1/rows=0/cell=0/end=kernel" ++ text "x")
     ∷ [])
     ≡ (11, 1) ∷ (11, 1) ∷ (11, 2) ∷ (11, 2) ∷ (11, 7) ∷ (11, 8) ∷ []
-unfolding computing told toldOf
+unfolding computing orZero toldAs toldOf
 last-bytes = refl
 
 -- 3 to 7 come after all lines, at the row from 0.
@@ -97,7 +96,7 @@ pub rows-after-lines : behind (lines "kernel=1/threads=1/cells=1/limit=1/rows=3"
     ∷ "row=32,0,0,0/row=2,0,0,0/row=36,0,0,0/cell=0/end=kernel"
     ∷ "row=2,0,0,0/row=32,0,0,0/row=33,0,0,0/cell=0/end=kernel" ∷ "row=2,0,0,0/row=32,0,0,0/row=34,0,0,0/cell=0/end=kernel" ∷ [])
     ≡ (3, 1) ∷ (11, 9) ∷ (11, 8) ∷ (11, 11) ∷ (4, 2) ∷ (5, 2) ∷ (7, 1) ∷ (0, 0) ∷ []
-unfolding computing told toldOf behind
+unfolding computing orZero toldAs toldOf behind
 rows-after-lines = refl
 
 -- What the lines say goes to its own place, in the order of the file.

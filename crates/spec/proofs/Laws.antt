@@ -6,11 +6,13 @@ use mathlib.Core.Bool.{Bool, true, false, _&&_, and-eq-true-iff}
 use Prim.Native.Nat.{ℕ, zero, suc, _+_, _*_, _/_, _<_, _≤_}
 use native.Mathlib.Nat.{eq-or-lt-of-le, le-of-suc-le-suc}
 use native.Mathlib.Omega.{arith}
-use lib.ListN.{length, getD, replicate, length-map}
+use lib.ListN.{length, getD, replicate, length-map, take, drop}
+use lib.Seq.{take-at}
 use Rattle.spec.specs.Op.{Op, IF, ELSE, ENDIF, WHILE, ENDWHILE, opOf, opTable}
 use Rattle.spec.specs.Table.{rowOf, rowsOf, rowAt, role, opening}
 use Rattle.spec.specs.Mask.{Mask, minus, union, holding}
 use Rattle.spec.specs.LockStep.{Saved, topOpener}
+use Rattle.spec.specs.Entries.{over}
 
 pub lt-or-le : (a b : ℕ) → (a < b) ⊎ (b ≤ a)
 lt-or-le a zero = inr (omega arith)
@@ -54,6 +56,11 @@ row-bytes (op ∷ d ∷ a ∷ b ∷ t) (suc r) l =
     let e : (n : ℕ) → suc r * 4 + n ≡ suc (suc (suc (suc (r * 4 + n)))) = λ n. omega arith in
     let z : suc r * 4 ≡ suc (suc (suc (suc (r * 4)))) = omega arith in
     rw (e 1, e 2, e 3, z) (row-bytes t r (omega arith))
+
+-- What was written over a buffer is its front.
+pub front-of : (w xs l : List ℕ) → l ≡ over w xs → take (length w) l ≡ w
+unfolding over
+front-of w xs l e = ap (take (length w)) e ∙ take-at w (drop (length w) xs) (length w) refl
 
 -- The op bytes of the constructs.
 pub byte-if : opOf 32 ≡ IF

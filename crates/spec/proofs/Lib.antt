@@ -17,3 +17,4 @@ pub mod FileTable
 pub mod ReportTable
 pub mod EntryTable
 pub mod RefusedLaunches
+pub mod ReportReading

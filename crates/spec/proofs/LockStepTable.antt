@@ -78,7 +78,8 @@ unfolding computing bytesFrom winding savedNumbers numbersOf
 row-by-row = refl
 
 -- Each thread's registers 0 to 3 at the end.
-pub registers-at-the-end : map (take 4) (lockstep winding 3 (7 ∷ 7 ∷ 7 ∷ []) 100 .state .regs) ≡ (0 ∷ 1 ∷ 0 ∷ 0 ∷ []) ∷ (0 ∷ 1 ∷ 0 ∷ 1 ∷ []) ∷ (0 ∷ 1 ∷ 0 ∷ 2 ∷ []) ∷ []
+pub registers-at-the-end : map (take 4) (lockstep winding 3 (7 ∷ 7 ∷ 7 ∷ []) 100 .state .regs) ≡
+    (0 ∷ 1 ∷ 0 ∷ 0 ∷ []) ∷ (0 ∷ 1 ∷ 0 ∷ 1 ∷ []) ∷ (0 ∷ 1 ∷ 0 ∷ 2 ∷ []) ∷ []
 unfolding computing winding
 registers-at-the-end = refl
 

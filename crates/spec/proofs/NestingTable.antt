@@ -8,7 +8,7 @@ use Rattle.spec.specs.Table.{Table, Row, rowOf, rowAt, role, plain, open
 use Rattle.spec.specs.Grammar.{Body, empty, plainRow, construct, Construct, ifEnd, ifElse, while, bodyRows, bodyDepth}
 use Rattle.spec.specs.TableCheck.{tableRefusal}
 use Rattle.spec.proofs.OpTable.{bytesFrom}
-use Rattle.spec.proofs.RefusalTable.{told}
+use Rattle.spec.proofs.RefusalTable.{orZero, toldAs}
 use Rattle.spec.proofs.Computing.{computing}
 
 -- A table by its op bytes: 32 IF, 33 ELSE, 34 ENDIF, 35 WHILE, 36 ENDWHILE, 37 BARRIER. All other bytes are 0.
@@ -16,29 +16,29 @@ unfoldable pub withOps : List ℕ → Table
 withOps ops = map (λ op. rowOf op 0 0 0) ops
 
 unfoldable pub tells : List (List ℕ) → List (ℕ × ℕ)
-tells tables = map (λ ops. told (tableRefusal (withOps ops))) tables
+tells tables = map (λ ops. toldAs (tableRefusal (withOps ops))) tables
 
 -- ELSE, ENDIF and ENDWHILE: with nothing open, in a loop, in an IF's first part, in its second part, and behind a construct that is closed.
 pub nothing-open : tells ((33 ∷ []) ∷ (34 ∷ []) ∷ (36 ∷ []) ∷ (37 ∷ 33 ∷ []) ∷ []) ≡ (5, 0) ∷ (5, 0) ∷ (5, 0) ∷ (5, 1) ∷ []
-unfolding computing told withOps tells
+unfolding computing orZero toldAs withOps tells
 nothing-open = refl
 
 pub in-a-loop : tells ((35 ∷ 33 ∷ []) ∷ (35 ∷ 34 ∷ []) ∷ (35 ∷ 36 ∷ []) ∷ (35 ∷ 37 ∷ 36 ∷ []) ∷ []) ≡ (5, 1) ∷ (5, 1) ∷ (0, 0) ∷ (0, 0) ∷ []
-unfolding computing told withOps tells
+unfolding computing orZero toldAs withOps tells
 in-a-loop = refl
 
 pub in-a-first-part : tells ((32 ∷ 33 ∷ 34 ∷ []) ∷ (32 ∷ 34 ∷ []) ∷ (32 ∷ 36 ∷ []) ∷ (32 ∷ 37 ∷ 34 ∷ []) ∷ []) ≡ (0, 0) ∷ (0, 0) ∷ (5, 1) ∷ (0, 0) ∷ []
-unfolding computing told withOps tells
+unfolding computing orZero toldAs withOps tells
 in-a-first-part = refl
 
 pub in-a-second-part : tells ((32 ∷ 33 ∷ 33 ∷ []) ∷ (32 ∷ 33 ∷ 37 ∷ 34 ∷ []) ∷ (32 ∷ 33 ∷ 36 ∷ []) ∷ []) ≡ (5, 2) ∷ (0, 0) ∷ (5, 2) ∷ []
-unfolding computing told withOps tells
+unfolding computing orZero toldAs withOps tells
 in-a-second-part = refl
 
 pub behind-a-construct : tells
     ((32 ∷ 34 ∷ 33 ∷ []) ∷ (32 ∷ 34 ∷ 34 ∷ []) ∷ (35 ∷ 36 ∷ 36 ∷ []) ∷ (32 ∷ 33 ∷ 34 ∷ 34 ∷ []) ∷ (35 ∷ 36 ∷ 34 ∷ []) ∷ [])
     ≡ (5, 2) ∷ (5, 2) ∷ (5, 2) ∷ (5, 3) ∷ (5, 2) ∷ []
-unfolding computing told withOps tells
+unfolding computing orZero toldAs withOps tells
 behind-a-construct = refl
 
 -- The innermost construct decides, and an inner one leaves the outer one as it was: each IF has its own ELSE.
@@ -53,7 +53,7 @@ pub one-in-another : tells
     ∷ (32 ∷ 33 ∷ 35 ∷ 36 ∷ 33 ∷ [])
     ∷ [])
     ≡ (0, 0) ∷ (0, 0) ∷ (5, 2) ∷ (5, 2) ∷ (0, 0) ∷ (0, 0) ∷ (5, 4) ∷ (5, 4) ∷ []
-unfolding computing told withOps tells
+unfolding computing orZero toldAs withOps tells
 one-in-another = refl
 
 -- Eight deep and nine deep, by IF, by WHILE and by both. BARRIER, TID, LOAD, ELSE and a construct behind a closed one go no deeper; the ninth one's row is told.
@@ -71,7 +71,7 @@ pub depth : tells
     ∷ (32 ∷ 34 ∷ 32 ∷ 34 ∷ 32 ∷ 34 ∷ 32 ∷ 34 ∷ 32 ∷ 34 ∷ 35 ∷ 36 ∷ 35 ∷ 36 ∷ 35 ∷ 36 ∷ 35 ∷ 36 ∷ 35 ∷ 36 ∷ [])
     ∷ [])
     ≡ (0, 0) ∷ (6, 8) ∷ (0, 0) ∷ (6, 8) ∷ (6, 8) ∷ (6, 8) ∷ (0, 0) ∷ (6, 9) ∷ (6, 11) ∷ (0, 0) ∷ (0, 0) ∷ []
-unfolding computing told withOps tells
+unfolding computing orZero toldAs withOps tells
 depth = refl
 
 -- 7 is told at the row that opened the innermost construct left open, not at its ELSE.
@@ -86,11 +86,11 @@ pub left-open : tells
     ∷ (37 ∷ 32 ∷ 35 ∷ 36 ∷ 33 ∷ [])
     ∷ [])
     ≡ (7, 0) ∷ (7, 0) ∷ (7, 0) ∷ (7, 1) ∷ (7, 1) ∷ (7, 0) ∷ (7, 2) ∷ (7, 1) ∷ []
-unfolding computing told withOps tells
+unfolding computing orZero toldAs withOps tells
 left-open = refl
 
 -- Within a row 3, 4, 5, 6; an earlier row before a later one, whatever their refusals; 7 last.
-pub order : map (λ t. told (tableRefusal t))
+pub order : map (λ t. toldAs (tableRefusal t))
     ((rowOf 15 16 16 16 ∷ [])
     ∷ (rowOf 33 1 0 0 ∷ [])
     ∷ (rowOf 34 0 16 0 ∷ [])
@@ -104,7 +104,7 @@ pub order : map (λ t. told (tableRefusal t))
     ∷ (rowOf 32 0 0 0 ∷ rowOf 35 0 0 0 ∷ rowOf 2 0 1 0 ∷ [])
     ∷ [])
     ≡ (3, 0) ∷ (4, 0) ∷ (4, 0) ∷ (4, 0) ∷ (4, 8) ∷ (4, 8) ∷ (5, 0) ∷ (4, 0) ∷ (6, 8) ∷ (3, 2) ∷ (4, 2) ∷ []
-unfolding computing told withOps
+unfolding computing orZero toldAs withOps
 order = refl
 
 -- Row 0 IF, in it a loop (1 to 7) that has an IF with ELSE (2 to 6); 8 its ELSE, in it an IF (9 to 14) that has no ELSE of its own but an IF (10 to 13)

@@ -8,7 +8,7 @@ use Rattle.spec.specs.Op.{Form, setForm, dForm, dabForm, daForm, aForm, 
 use Rattle.spec.specs.Table.{rowOf, rowsOf}
 use Rattle.spec.specs.TableCheck.{tableRefusal}
 use Rattle.spec.proofs.OpTable.{bytesFrom}
-use Rattle.spec.proofs.RefusalTable.{told}
+use Rattle.spec.proofs.RefusalTable.{orZero, toldAs}
 use Rattle.spec.proofs.Computing.{computing}
 
 -- A byte tried in d's place, then in a's, then in b's, the other two being 0.
@@ -42,7 +42,7 @@ by-form = refl
 -- A table of one row with this op: what it is refused with where d, a or b is x. A construct's row is then 5 or 7, if it is not 4.
 unfoldable pub refusedBy : ℕ → ℕ → List ℕ
 refusedBy x op =
-    told (tableRefusal (rowOf op x 0 0 ∷ [])) .0 ∷ told (tableRefusal (rowOf op 0 x 0 ∷ [])) .0 ∷ told (tableRefusal (rowOf op 0 0 x ∷ [])) .0 ∷ []
+    toldAs (tableRefusal (rowOf op x 0 0 ∷ [])) .0 ∷ toldAs (tableRefusal (rowOf op 0 x 0 ∷ [])) .0 ∷ toldAs (tableRefusal (rowOf op 0 0 x ∷ [])) .0 ∷ []
 
 unfoldable pub knownOps : List ℕ
 knownOps = bytesFrom 1 14 ++ (16 ∷ 17 ∷ bytesFrom 32 6)
@@ -54,18 +54,18 @@ pub by-op-1 : map (refusedBy 1) knownOps ≡
     ++ (replicate 11 (0 ∷ 0 ∷ 0 ∷ [])
     ++ (replicate 2 (0 ∷ 0 ∷ 4 ∷ [])
     ++ ((4 ∷ 7 ∷ 4 ∷ []) ∷ (4 ∷ 4 ∷ 4 ∷ []) ∷ (4 ∷ 4 ∷ 4 ∷ []) ∷ (4 ∷ 7 ∷ 4 ∷ []) ∷ (4 ∷ 4 ∷ 4 ∷ []) ∷ (4 ∷ 4 ∷ 4 ∷ []) ∷ [])))
-unfolding computing bytesFrom told refusedBy knownOps
+unfolding computing bytesFrom orZero toldAs refusedBy knownOps
 by-op-1 = refl
 
 -- x = 16 fits nowhere but in SET's a and b.
 pub by-op-16 : map (refusedBy 16) knownOps ≡ (4 ∷ 0 ∷ 0 ∷ []) ∷ replicate 21 (4 ∷ 4 ∷ 4 ∷ [])
-unfolding computing bytesFrom told refusedBy knownOps
+unfolding computing bytesFrom orZero toldAs refusedBy knownOps
 by-op-16 = refl
 
 -- A table of one row, all of whose bytes but the op's are 0, for each of the 256 op bytes: 3 where the op is unknown, 5 for ELSE and the ends, 7 for IF and WHILE.
-pub by-byte : map (λ op. told (tableRefusal (rowOf op 0 0 0 ∷ [])) .0) (bytesFrom 0 256) ≡
+pub by-byte : map (λ op. toldAs (tableRefusal (rowOf op 0 0 0 ∷ [])) .0) (bytesFrom 0 256) ≡
     3 ∷ replicate 14 0 ++ (3 ∷ 0 ∷ 0 ∷ replicate 14 3 ++ (7 ∷ 5 ∷ 5 ∷ 7 ∷ 5 ∷ 0 ∷ replicate 218 3))
-unfolding computing bytesFrom told
+unfolding computing bytesFrom orZero toldAs
 by-byte = refl
 
 -- Four bytes are a row: op, d, a, b in this order. What is left over makes none.

@@ -5,12 +5,12 @@ use mathlib.Core.List.{List, _++_}
 use mathlib.Core.Bool.{Bool, true, false}
 use Prim.Native.Nat.{ℕ, _+_}
 use lib.ListN.{length}
-use Rattle.spec.specs.Answers.{Passed, Spent}
+use Rattle.spec.specs.Answers.{Passed, Spent, Outcome}
 use Rattle.spec.specs.Table.{Table}
 use Rattle.spec.specs.Shape.{shapeOf}
 use Rattle.spec.specs.Runs.{Machine, many, Run, after, shownTo, Stuck, RunsAlwaysEnd}
 use Rattle.spec.specs.Threads.{Group, Move, row, release, machine, initialGroup}
-use Rattle.spec.specs.LockStep.{LockResult, lockstep, countedBarriers}
+use Rattle.spec.specs.LockStep.{countedBarriers}
 
 -- The machine of a launch of n threads over these cells, and its start.
 abbrev pub machineOf : Table → (n : ℕ) → (cells : List ℕ) → Machine
@@ -48,12 +48,12 @@ pub record EveryRunEndsWell (T : Table) (n : ℕ) (cells : List ℕ) : Type 0 wh
 abbrev pub Prefix : {A : Type 0} → List A → List A → Type 0
 Prefix {A} xs ys = (rest : List A) × (xs ++ rest ≡ ys)
 
--- What 'passed' says, where the lock-step run has the result R and bs are the cells at its counted barriers.
-pub record PassedSays (T : Table) (n : ℕ) (cells : List ℕ) (R : LockResult) (bs : List (List ℕ)) : Type 0 where
+-- What 'passed' says, where these steps and barriers and the cells `final` were reported, and bs are the cells at the counted barriers.
+pub record PassedSays (T : Table) (n : ℕ) (cells : List ℕ) (steps barriers : ℕ) (final : List ℕ) (bs : List (List ℕ)) : Type 0 where
   -- every run, carried to its end, makes exactly steps + barriers moves
-  pub moves : (ms : List Move) → CompleteRun T n cells ms → length ms ≡ R .state .steps + R .state .barriers
+  pub moves : (ms : List Move) → CompleteRun T n cells ms → length ms ≡ steps + barriers
   -- exactly barriers of them are releases
-  pub releases : (ms : List Move) → CompleteRun T n cells ms → many isRelease ms ≡ R .state .barriers
+  pub releases : (ms : List Move) → CompleteRun T n cells ms → many isRelease ms ≡ barriers
   -- of every class of moves all complete runs make the same number
   pub classes : (p : Move → Bool) (ms ks : List Move) → CompleteRun T n cells ms → CompleteRun T n cells ks → many p ms ≡ many p ks
   -- in every run, carried to its end or not, the cells at the k-th release are those at the k-th counted barrier, for every k
@@ -63,15 +63,15 @@ pub record PassedSays (T : Table) (n : ℕ) (cells : List ℕ) (R : LockResult) 
   -- in a complete run they are all of them
   pub throughout : (ms : List Move) → CompleteRun T n cells ms → cellsAtReleases T n cells ms ≡ bs
   -- the cells at the end are those reported
-  pub finally : (ms : List Move) → CompleteRun T n cells ms → leaves T n cells ms .cells ≡ R .state .cells
+  pub finally : (ms : List Move) → CompleteRun T n cells ms → leaves T n cells ms .cells ≡ final
   -- some run comes to its end, so that none of this is empty
   pub some-run : (ms : List Move) × CompleteRun T n cells ms
 
--- Demand 3 of a launch.
-pub record Demand3 (T : Table) (n : ℕ) (cells : List ℕ) (limit : ℕ) : Type 0 where
+-- Demand 3 of a launch for which this outcome was answered and these cells were left.
+pub record Demand3 (T : Table) (n : ℕ) (cells : List ℕ) (limit : ℕ) (o : Outcome) (final : List ℕ) : Type 0 where
   -- a launch whose verdict is not spent is passed exactly when every run ends well
-  pub exactly : ¬ (lockstep T n cells limit .verdict ≡ Spent) → lockstep T n cells limit .verdict ≡ Passed ↔ EveryRunEndsWell T n cells
-  pub passed : lockstep T n cells limit .verdict ≡ Passed → PassedSays T n cells (lockstep T n cells limit) (countedBarriers T n cells limit)
+  pub exactly : ¬ (o .verdict ≡ Spent) → o .verdict ≡ Passed ↔ EveryRunEndsWell T n cells
+  pub passed : o .verdict ≡ Passed → PassedSays T n cells (o .steps) (o .barriers) final (countedBarriers T n cells limit)
   -- there are as many counted barriers as `barriers` says, and spent is said only at the limit
-  pub counted : length (countedBarriers T n cells limit) ≡ lockstep T n cells limit .state .barriers
-  pub spent : lockstep T n cells limit .verdict ≡ Spent → lockstep T n cells limit .state .rows ≡ limit
+  pub counted : length (countedBarriers T n cells limit) ≡ o .barriers
+  pub spent : o .verdict ≡ Spent → o .rows ≡ limit

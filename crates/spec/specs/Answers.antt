@@ -14,6 +14,8 @@ pub use Rattle.spec.specs.declared.Refusal.the-variants.{ThreadsOutOfRan
 pub use Rattle.spec.specs.declared.Refusal.the-variants.{CellsLength, LogLength, ReportTooLong, ReportCells, OutputLength}
 pub use Rattle.spec.specs.declared.Answer.{Answer}
 pub use Rattle.spec.specs.declared.Written.{Written}
+use Rattle.spec.specs.declared.Answer.the-variants as answer
+use Rattle.spec.specs.declared.Written.the-variants as written
 pub use Rattle.spec.specs.declared.Subject.{Subject}
 pub use Rattle.spec.specs.declared.Value.{Value}
 pub use Rattle.spec.specs.declared.Details.{Details}
@@ -57,6 +59,22 @@ refusalPlace LogLength = 0
 refusalPlace (ReportTooLong p) = p
 refusalPlace ReportCells = 0
 refusalPlace OutputLength = 0
+
+-- A refusal as document 01 names it, by its number and place; and what an answer tells of one.
+unfoldable pub named : Refusal → ℕ × ℕ
+named r = (refusalNumber r, refusalPlace r)
+
+unfoldable pub told : Option Refusal → Option (ℕ × ℕ)
+told none = none
+told (some r) = some (named r)
+
+unfoldable pub toldBy : Answer → Option (ℕ × ℕ)
+toldBy (answer.Refused r) = some (named r)
+toldBy (answer.Ran o) = none
+
+unfoldable pub toldIn : Written → Option (ℕ × ℕ)
+toldIn (written.Refused r) = some (named r)
+toldIn (written.Wrote size) = none
 
 -- A test that is refused where it fails; and the first refusal of several tests, in their order.
 unfoldable pub unless : Bool → Refusal → Option Refusal

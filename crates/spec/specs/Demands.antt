@@ -1,18 +1,64 @@
--- Demand 3 of the launches that the public entries do not refuse. Assumes nothing.
+-- Demand 3, of what the caller of each public entry holds in hand: a bare launch's answer, and the bytes of a report. Assumes nothing.
 use mathlib.Core.Path.{_≡_}
-use mathlib.Core.List.{List}
-use mathlib.Core.Option.{none}
-use Prim.Native.Nat.{ℕ}
+use mathlib.Core.Logic.{_↔_}
+use mathlib.Core.List.{List, [], _∷_, map}
+use mathlib.Core.Bool.{true, false}
+use mathlib.Core.Option.{some}
+use Prim.Native.Nat.{ℕ, _<_}
+use lib.ListN.{length, take}
+use Rattle.spec.specs.Answers.{Answer, Written}
+use Rattle.spec.specs.declared.Answer.the-variants as answer
+use Rattle.spec.specs.declared.Written.the-variants as written
 use Rattle.spec.specs.Table.{rowsOf}
-use Rattle.spec.specs.AllRuns.{Demand3}
+use Rattle.spec.specs.LockStep.{countedBarriers}
+use Rattle.spec.specs.AllRuns.{EveryRunEndsWell, PassedSays, Demand3}
 use Rattle.spec.specs.LaunchFile.{Launch, accepted, fileLaunch}
-use Rattle.spec.specs.Entries.{bareRefusal}
+use Rattle.spec.specs.Reading.{beginsWith, numbersAt, Readable}
+use Rattle.spec.specs.Entries.{subjectOf}
 
--- Of a bare launch.
-abbrev pub BareDemand3 : (table : List ℕ) → (threads cells limit : ℕ) → (lentCells lentLog : List ℕ) → Type 0
-BareDemand3 table threads cells limit lentCells lentLog =
-    bareRefusal table threads cells limit lentCells lentLog ≡ none → Demand3 (rowsOf table) threads lentCells limit
+-- Of a bare launch: of the outcome that it answers, and of the cells as the call leaves them. A refusal speaks of no run.
+abbrev pub BareDemand3 : (table : List ℕ) → (threads limit : ℕ) → (lentCells : List ℕ) → Answer → (left : List ℕ) → Type 0
+BareDemand3 table threads limit lentCells (answer.Refused why) left = Unit {0}
+BareDemand3 table threads limit lentCells (answer.Ran o) left = Demand3 (rowsOf table) threads lentCells limit o left
 
--- Of a launch file.
-abbrev pub FileDemand3 : (file : List ℕ) → Type 0
-FileDemand3 file = (launch : Launch) → fileLaunch file ≡ accepted launch → Demand3 (launch .table) (launch .threads) (launch .cells) (launch .limit)
+-- Every run of a launch ends well; the cells at its counted barriers.
+abbrev pub RunsEndWell : Launch → Type 0
+RunsEndWell launch = EveryRunEndsWell (launch .table) (launch .threads) (launch .cells)
+
+abbrev pub countedIn : Launch → List (List ℕ)
+countedIn launch = countedBarriers (launch .table) (launch .threads) (launch .cells) (launch .limit)
+
+-- What a report that begins with `verdict=passed` says of its launch: every run ends well, and what its own lines say is what every run comes to.
+pub record PassedReport (launch : Launch) (report : List ℕ) : Type 0 where
+  pub steps : ℕ
+  pub barriers : ℕ
+  pub final : List ℕ
+  pub stepsLine : numbersAt "steps" report ≡ some steps ∷ []
+  pub barriersLine : numbersAt "barriers" report ≡ some barriers ∷ []
+  pub cellLines : numbersAt "cell" report ≡ map some final
+  pub runs : RunsEndWell launch
+  pub says : PassedSays (launch .table) (launch .threads) (launch .cells) steps barriers final (countedIn launch)
+
+-- Of the bytes of a file's report.
+pub record ReportDemand3 (file report : List ℕ) : Type 0 where
+  -- where they begin with `verdict=passed`, the file is an accepted launch, and the report says this of it
+  pub passed : beginsWith "verdict=passed" report ≡ true → (launch : Launch) × (fileLaunch file ≡ accepted launch) × PassedReport launch report
+  -- where the launch is accepted and not spent, they begin so exactly when every run ends well
+  pub exactly : (launch : Launch) → fileLaunch file ≡ accepted launch → beginsWith "verdict=spent" report ≡ false
+      → beginsWith "verdict=passed" report ≡ true ↔ RunsEndWell launch
+  -- there are as many counted barriers as the `barriers=` line says, and spent is said only where the `rows=` line says the limit
+  pub counted : (launch : Launch) → fileLaunch file ≡ accepted launch → numbersAt "barriers" report ≡ some (length (countedIn launch)) ∷ []
+  pub spent : (launch : Launch) → fileLaunch file ≡ accepted launch → beginsWith "verdict=spent" report ≡ true
+      → numbersAt "rows" report ≡ some (launch .limit) ∷ []
+
+-- What a loader may go by in the report of a file.
+abbrev pub FileReadable : (file report : List ℕ) → Type 0
+FileReadable file report = Readable (subjectOf (fileLaunch file)) report
+
+-- Of the report that an entry has written, which stands at the front of its output. A refusal has written none. (Answers for C: length 0.)
+abbrev pub OfWritten : (List ℕ → Type 0) → Written → (output : List ℕ) → Type 0
+OfWritten P (written.Refused why) output = Unit {0}
+OfWritten P (written.Wrote size) output = P (take size output)
+
+abbrev pub OfLength : (List ℕ → Type 0) → (size : ℕ) → (output : List ℕ) → Type 0
+OfLength P size output = 0 < size → P (take size output)

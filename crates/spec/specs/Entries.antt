@@ -110,6 +110,11 @@ andState (accepted launch) state = unlessRefused state launch
 unfoldable pub fileChecked : (file lentCells lentLog output : List ℕ) → Checked Launch
 fileChecked file lentCells lentLog output = andState (fileLaunch file) (fileLent (length lentCells) (length lentLog) (length output))
 
+-- What the file is refused for, if anything.
+unfoldable pub checkedRefusal : Checked Launch → Option Refusal
+checkedRefusal (refused r) = some r
+checkedRefusal (accepted launch) = none
+
 -- The run of an accepted launch, and its report.
 unfoldable pub launchRun : Launch → LockResult
 launchRun launch = lockstep (launch .table) (launch .threads) (launch .cells) (launch .limit)
@@ -146,3 +151,8 @@ printed (accepted launch) = launchReport launch
 
 unfoldable pub checkPrints : (file : List ℕ) → List ℕ
 checkPrints file = printed (fileLaunch file)
+
+-- What that report is made of.
+unfoldable pub subjectOf : Checked Launch → Subject
+subjectOf (refused r) = subject.Refused (refusalNumber r) (refusalPlace r)
+subjectOf (accepted launch) = subject.Ran (outcomeOf (launchRun launch))

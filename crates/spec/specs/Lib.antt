@@ -17,6 +17,7 @@ pub mod AllRuns
 pub mod Text
 pub mod LaunchFile
 pub mod Report
+pub mod Reading
 pub mod Entries
 pub mod Examples
 pub mod RunExamples

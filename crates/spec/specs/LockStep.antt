@@ -1,8 +1,8 @@
 -- The lock-step run: predicated execution of all threads at one row. "The lock-step run". Assumes nothing.
 use mathlib.Core.List.{List, [], _∷_, _++_, map}
-use mathlib.Core.Bool.{true, false, cond, not, _&&_}
+use mathlib.Core.Bool.{true, false, cond, not}
 use Prim.Native.Nat.{ℕ, zero, suc, _+_}
-use lib.Dec.{eqb, leb}
+use lib.Dec.{eqb, leb, ltb}
 use lib.ListN.{length, getD, set, replicate}
 use Rattle.spec.specs.Limits.{registers}
 use Rattle.spec.specs.Answers.{Verdict, Passed, Race, Outside, Diverged, Spent, Outcome}
@@ -233,27 +233,19 @@ outcomeOf o =
     record { verdict = o .verdict; row = o .state .row; rows = o .state .rows; steps = o .state .steps; barriers = o .state .barriers }
 
 -- The counted barriers, BARRIER rows at which barriers grows: the cells just before each, in their order.
-unfoldable pub countedAt : Op → LockState → List (List ℕ)
-countedAt (CALC c) s = []
-countedAt (MEM m) s = []
-countedAt IF s = []
-countedAt ELSE s = []
-countedAt ENDIF s = []
-countedAt WHILE s = []
-countedAt ENDWHILE s = []
-countedAt BARRIER s = cond (any (s .enabled) && full (s .enabled)) (s .cells ∷ []) []
-countedAt UNKNOWN s = []
+unfoldable pub countedAt : (before after : LockState) → List (List ℕ)
+countedAt s z = cond (ltb (s .barriers) (z .barriers)) (s .cells ∷ []) []
 
-unfoldable pub countedAfter : Step → (LockState → List (List ℕ)) → List (List ℕ)
-countedAfter (continues s) f = f s
-countedAfter (stops v s) f = []
+unfoldable pub countedAfter : LockState → Step → (LockState → List (List ℕ)) → List (List ℕ)
+countedAfter s (continues z) f = countedAt s z ++ f z
+countedAfter s (stops v z) f = []
 
 unfoldable pub countedFrom : Table → Shape → ℕ → LockState → List (List ℕ)
 countedFrom T L zero s = []
 countedFrom T L (suc left) s =
     elim (leb (length T) (s .row)) [
       | true ↦ []
-      | false ↦ countedAt (rowAt T (s .row) .op) s ++ countedAfter (runRow T L (rowAt T (s .row)) s (rowAt T (s .row) .op)) (countedFrom T L left)
+      | false ↦ countedAfter s (runRow T L (rowAt T (s .row)) s (rowAt T (s .row) .op)) (countedFrom T L left)
     ]
 
 unfoldable pub countedBarriers : Table → (n : ℕ) → (cells : List ℕ) → (limit : ℕ) → List (List ℕ)

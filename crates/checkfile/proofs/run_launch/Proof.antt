@@ -44,6 +44,7 @@ slice-aggregate-write-report c =
 
 returns : tie.Need-returns
 returns c =
+    let write-report = c .before .before .write-report in
     let at-log = c .before .before .before .before .before .before in
     let cells2 = at-log .before .before .cells2 in
     let run = c .before .before .before .before .before .before .before .before .before .run in
@@ -58,8 +59,7 @@ returns c =
     (place .last .1 .0) (run .last .1 .1 .1 .1 .0) (run .last .1 .1 .1 .1 .1 .0) _ _ _ (place .ensures)
     (as-long (length words) (run .last .1 .1 .1 .1 .0) (place .last .1 .0) (cells2 .given .0) (omega (arith, long, pre .fewCells, pre .cellsLent)))
     (as-long (2 * length words) (run .last .1 .1 .1 .1 .1 .0) log (at-log .log .given .0) (omega (arith, pre .fewCells, pre .logLent)))
-    (run .ensures)
-    (c .before .before .write-report .ensures)
+    (run .ensures) (write-report .ensures .0) (write-report .ensures .1 .0) (write-report .ensures .1 .1 .0)
 
 pub run-launch-spec : {M : Type 1} → statement M
 run-launch-spec =

@@ -15,10 +15,10 @@ slice-aggregate-report-file c =
     sym (length-take-le _ _ (bounds _ _ _ _ (read-all .ensures) (c .before .before .size .given .1) .1))
 
 array-share-prefix-output : tie.Need-array-share-prefix-output
-array-share-prefix-output c = c .report-file .ensures .1 .1
+array-share-prefix-output c = c .report-file .ensures .1 .1 .0
 
 slice-aggregate-write-all : tie.Need-slice-aggregate-write-all
-slice-aggregate-write-all c = sym (length-take-le _ _ (c .before .report-file .ensures .1 .1))
+slice-aggregate-write-all c = sym (length-take-le _ _ (c .before .report-file .ensures .1 .1 .0))
 
 pub report-input-spec : {M : Type 1} → statement M
 report-input-spec =

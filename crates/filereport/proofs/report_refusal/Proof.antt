@@ -18,7 +18,7 @@ returns c =
     let args = start .args in
     refusal-written (args .why) _ _ (ap (λ (w : List ℕ). getD w 0 0) (words .ensures)) (ap (λ (w : List ℕ). getD w 1 0) (words .ensures)) _
     (args .output .now) _ _ (start .pre) _
-    (write-report .ensures) (c .before .size .given .1)
+    (write-report .ensures .0, (write-report .ensures .1 .0, write-report .ensures .1 .1 .0)) (c .before .size .given .1)
 
 returns-2 : tie.Need-returns-2
 unfolding refusalWords
@@ -29,7 +29,7 @@ returns-2 c =
     let args = start .args in
     never-refused (args .why) _ _ (ap (λ (w : List ℕ). getD w 0 0) (words .ensures)) (ap (λ (w : List ℕ). getD w 1 0) (words .ensures)) _
     (args .output .now) _ _ (start .pre) _
-    (write-report .ensures) (c .before .short .given .1)
+    (write-report .ensures .0, (write-report .ensures .1 .0, write-report .ensures .1 .1 .0)) (c .before .short .given .1)
 
 pub report-refusal-spec : {M : Type 1} → statement M
 report-refusal-spec =

@@ -1,6 +1,7 @@
 -- `sekufoyi::sekufoyi_write_report` meets its contract. What is told is the writer's answer. Assumes nothing.
 use mathlib.Core.Path.{sym, ap, _∙_}
 use Rattle.answerwords.specs.Codes.{lengthIn, refusalIn}
+use Rattle.answerwords.proofs.Back.{of-length}
 use borrow.Author.Needs.{needs}
 use Rattle.sekufoyi.proofs.sekufoyi_write_report.Statement.{statement}
 use Rattle.sekufoyi.proofs.sekufoyi_write_report.Tie as tie
@@ -11,7 +12,10 @@ returns c =
     let outcome-from = c .before .before .before .before .before .before .outcome-from in
     rw (sym (outcome-from .ensures)) (
       c .tell-written .ensures .0 ∙ ap lengthIn (write-report .ensures .0),
-      (c .tell-written .ensures .1 ∙ ap refusalIn (write-report .ensures .0), write-report .ensures .1 .0),
+      (
+        c .tell-written .ensures .1 ∙ ap refusalIn (write-report .ensures .0),
+        (write-report .ensures .1 .0, of-length _ _ _ _ (c .tell-written .ensures .0) (write-report .ensures .1 .1 .1 .1)),
+      ),
     )
 
 pub sekufoyi-write-report-spec : {M : Type 1} → statement M

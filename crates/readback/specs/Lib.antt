@@ -1,2 +1,0 @@
--- A report read back. Assumes nothing.
-pub mod Reading
