@@ -1,6 +1,6 @@
 -- What is read from the report of a run, and of a refusal. Assumes nothing.
 use mathlib.Core.Path.{_≡_, refl, sym, ap, ap₂, _∙_}
-use mathlib.Core.List.{List, [], _∷_, _++_, map, append-assoc}
+use mathlib.Core.List.{List, [], _∷_, _++_, map, append-assoc, map-append}
 use mathlib.Core.Bool.{Bool, true, false, false≢true, _&&_, _||_, and-true, and-false}
 use mathlib.Core.Option.{Option, some}
 use Prim.Native.Nat.{ℕ}
@@ -53,10 +53,6 @@ any-append p (x ∷ xs) ys = by (p x) (any-append p xs ys)
     by : (b : Bool) → anyOf p (xs ++ ys) ≡ (anyOf p xs || anyOf p ys) → (b || anyOf p (xs ++ ys)) ≡ ((b || anyOf p xs) || anyOf p ys)
     by true e = refl
     by false e = e
-
-map-append : {A B : Type 0} (f : A → B) (xs ys : List A) → map f (xs ++ ys) ≡ map f xs ++ map f ys
-map-append f [] ys = refl
-map-append {A} {B} f (x ∷ xs) ys = ap (λ (l : List B). f x ∷ l) (map-append f xs ys)
 
 -- Lines that end in `end=report`, which is none of those before.
 ends-once : (ls : List Line) → every keyed (ls ++ (endLine ∷ [])) ≡ true → anyOf (isLine "end=report") (map lineText ls) ≡ false
