@@ -15,7 +15,7 @@ extern "C" {
 #endif
 
 /* What sekufoyi_check_file is lent. */
-enum { SEKUFOYI_CELLS = 1024, SEKUFOYI_LOG = 2048, SEKUFOYI_OUTPUT = 17408 };
+enum { SEKUFOYI_CELLS = 1024, SEKUFOYI_LOG = 3072, SEKUFOYI_OUTPUT = 17408 };
 
 /* The first word of an outcome. 0 is none of them. */
 enum {
@@ -32,14 +32,15 @@ enum {
     SEKUFOYI_ROW,
     SEKUFOYI_THREAD,
     SEKUFOYI_OTHER,
-    SEKUFOYI_KIND, /* 1 rw, 2 wr, 3 ww */
+    SEKUFOYI_KIND, /* 1 rw, 2 wr, 3 ww, 4 ra, 5 ar, 6 wa, 7 aw: what the other did, then what the thread does */
     SEKUFOYI_AT,
     SEKUFOYI_ROWS,
     SEKUFOYI_STEPS,
     SEKUFOYI_BARRIERS
 };
 
-/* A log has a word of readers for each cell, and behind these a word of writers for each cell: bit t is thread t. */
+/* A log has a word of readers for each cell, behind these a word of writers for each cell, and behind these a word of adders for each
+ * cell: bit t is thread t. So it is three times as long as the cells. */
 
 /* Checks a launch file and writes its report to the start of the output. Answers the report's length, and 0 where the file is
  * refused: then refusal has the number and the place, and the other buffers are as they were. Otherwise refusal is 0, 0.

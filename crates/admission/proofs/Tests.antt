@@ -60,13 +60,13 @@ module _ (cells k held logged : ℕ) (ek : k ≡ cells) where
   bad-held n = sym (fails _ _ _ (ne-eqb held cells (λ e. n (e ∙ sym ek))))
 
   module _ (e : held ≡ k) where
-    pub bad-logged : (logged ≡ 2 * k → ⊥) → some LogLength ≡ bareLent cells held logged
+    pub bad-logged : (logged ≡ 3 * k → ⊥) → some LogLength ≡ bareLent cells held logged
     unfolding bareLent
-    bad-logged n = sym (holds _ _ _ (eq-eqb held cells (e ∙ ek)) ∙ fails _ _ _ (ne-eqb logged (2 * cells) (λ q. n (omega (arith, q, ek)))))
+    bad-logged n = sym (holds _ _ _ (eq-eqb held cells (e ∙ ek)) ∙ fails _ _ _ (ne-eqb logged (3 * cells) (λ q. n (omega (arith, q, ek)))))
 
-    pub lent-fine : logged ≡ 2 * k → none ≡ bareLent cells held logged
+    pub lent-fine : logged ≡ 3 * k → none ≡ bareLent cells held logged
     unfolding bareLent
-    lent-fine q = sym (holds _ _ _ (eq-eqb held cells (e ∙ ek)) ∙ holds _ _ _ (eq-eqb logged (2 * cells) (omega (arith, q, ek))) ∙ ends)
+    lent-fine q = sym (holds _ _ _ (eq-eqb held cells (e ∙ ek)) ∙ holds _ _ _ (eq-eqb logged (3 * cells) (omega (arith, q, ek))) ∙ ends)
 
 module _ (held logged room : ℕ) where
   pub bad-cells-lent : (held ≡ 1024 → ⊥) → some CellsLength ≡ fileLent held logged room
@@ -74,15 +74,15 @@ module _ (held logged room : ℕ) where
   bad-cells-lent n = sym (fails _ _ _ (ne-eqb held 1024 n))
 
   module _ (e : held ≡ 1024) where
-    pub bad-log-lent : (logged ≡ 2048 → ⊥) → some LogLength ≡ fileLent held logged room
+    pub bad-log-lent : (logged ≡ 3072 → ⊥) → some LogLength ≡ fileLent held logged room
     unfolding fileLent
-    bad-log-lent n = sym (holds _ _ _ (eq-eqb held 1024 e) ∙ fails _ _ _ (ne-eqb logged 2048 n))
+    bad-log-lent n = sym (holds _ _ _ (eq-eqb held 1024 e) ∙ fails _ _ _ (ne-eqb logged 3072 n))
 
-    module _ (q : logged ≡ 2048) where
+    module _ (q : logged ≡ 3072) where
       pub bad-output-lent : room < 17408 → some OutputLength ≡ fileLent held logged room
       unfolding fileLent
-      bad-output-lent l = sym (holds _ _ _ (eq-eqb held 1024 e) ∙ holds _ _ _ (eq-eqb logged 2048 q) ∙ fails _ _ _ (lt-leb 17408 room l))
+      bad-output-lent l = sym (holds _ _ _ (eq-eqb held 1024 e) ∙ holds _ _ _ (eq-eqb logged 3072 q) ∙ fails _ _ _ (lt-leb 17408 room l))
 
       pub all-lent : 17408 ≤ room → none ≡ fileLent held logged room
       unfolding fileLent
-      all-lent l = sym (holds _ _ _ (eq-eqb held 1024 e) ∙ holds _ _ _ (eq-eqb logged 2048 q) ∙ holds _ _ _ (le-leb 17408 room l) ∙ ends)
+      all-lent l = sym (holds _ _ _ (eq-eqb held 1024 e) ∙ holds _ _ _ (eq-eqb logged 3072 q) ∙ holds _ _ _ (le-leb 17408 room l) ∙ ends)

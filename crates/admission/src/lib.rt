@@ -55,7 +55,7 @@ pub fn lent(count: u32, held: usize, logged: usize) -> Admission
     if held != k {
         return Admission::Refused(Refusal::CellsLength);
     }
-    if logged != 2 * k {
+    if logged != 3 * k {
         return Admission::Refused(Refusal::LogLength);
     }
     Admission::Accepted
@@ -68,7 +68,7 @@ pub fn lent_for_file(held: usize, logged: usize, room: usize) -> Admission
     if held != 1024 {
         return Admission::Refused(Refusal::CellsLength);
     }
-    if logged != 2048 {
+    if logged != 3072 {
         return Admission::Refused(Refusal::LogLength);
     }
     if room < 17408 {

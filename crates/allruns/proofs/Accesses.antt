@@ -3,12 +3,13 @@ use mathlib.Core.Path.{_≡_, refl, sym, _∙_, ap, ap₂}
 use mathlib.Core.List.{List, [], _∷_, _++_}
 use mathlib.Core.Bool.{Bool, true, false, not, _&&_, _||_, false≢true, or-assoc}
 use Prim.Native.Nat.{ℕ}
+use native.Mathlib.Omega.{arith}
 use native.Mathlib.Decide.{ℕ-discrete}
 use lib.Dec.{eqb, ltb}
 use borrow.Author.Tests.{eq-eqb, ne-eqb, ltb-true, ltb-false}
 use lib.ListN.{length, getD, set}
 use lib.Seq.{getD-set-other, getD-set-same, set-comm, set-set, set-out}
-use Rattle.spec.specs.Access.{Access, Kind, cellAfter, compatible, conflict, load, registersAfter, store}
+use Rattle.spec.specs.Access.{Access, Kind, load, store, atomicAdd, cellAfter, registersAfter, Mode, reads, writes, adds, mode, agree, conflict}
 use Rattle.spec.specs.Lists.{anyOf}
 
 pub eqb-swap : (a b : ℕ) → eqb a b ≡ eqb b a
@@ -19,35 +20,48 @@ eqb-swap a b = at (ℕ-discrete a b)
     at (no e) = ne-eqb a b e ∙ sym (ne-eqb b a (λ q. e (sym q)))
 
 -- The three laws of the table.
-compatible-swap : (k l : Kind) → compatible k l ≡ compatible l k
-unfolding compatible
-compatible-swap load load = refl
-compatible-swap load (store w) = refl
-compatible-swap (store v) load = refl
-compatible-swap (store v) (store w) = refl
+pub agree-swap : (m l : Mode) → agree m l ≡ agree l m
+unfolding agree
+agree-swap reads reads = refl
+agree-swap reads writes = refl
+agree-swap reads adds = refl
+agree-swap writes reads = refl
+agree-swap writes writes = refl
+agree-swap writes adds = refl
+agree-swap adds reads = refl
+agree-swap adds writes = refl
+agree-swap adds adds = refl
 
-pub compatible-left : (k l : Kind) (old : ℕ) → compatible k l ≡ true → cellAfter l (cellAfter k old) ≡ cellAfter k (cellAfter l old)
-unfolding compatible cellAfter
-compatible-left load load old q = refl
-compatible-left load (store w) old q = refl
-compatible-left (store v) load old q = refl
-compatible-left (store v) (store w) old q = absurd (false≢true q)
+-- Sums modulo 2^32 do not depend on the order of the adds.
+pub agree-left : (k l : Kind) (old : ℕ) → agree (mode k) (mode l) ≡ true → cellAfter l (cellAfter k old) ≡ cellAfter k (cellAfter l old)
+unfolding agree mode cellAfter
+agree-left load l old q = refl
+agree-left (store v) load old q = refl
+agree-left (store v) (store w) old q = absurd (false≢true q)
+agree-left (store v) (atomicAdd w) old q = absurd (false≢true q)
+agree-left (atomicAdd v) load old q = refl
+agree-left (atomicAdd v) (store w) old q = absurd (false≢true q)
+agree-left (atomicAdd v) (atomicAdd w) old q = omega arith
 
-pub compatible-taken : (k l : Kind) (d old : ℕ) (regs : List ℕ) → compatible k l ≡ true
+pub agree-taken : (k l : Kind) (d old : ℕ) (regs : List ℕ) → agree (mode k) (mode l) ≡ true
     → registersAfter l d (cellAfter k old) regs ≡ registersAfter l d old regs
-unfolding compatible cellAfter registersAfter
-compatible-taken load l d old regs q = refl
-compatible-taken (store v) load d old regs q = absurd (false≢true q)
-compatible-taken (store v) (store w) d old regs q = refl
+unfolding agree mode cellAfter registersAfter
+agree-taken load l d old regs q = refl
+agree-taken (store v) load d old regs q = absurd (false≢true q)
+agree-taken (store v) (store w) d old regs q = refl
+agree-taken (store v) (atomicAdd w) d old regs q = refl
+agree-taken (atomicAdd v) load d old regs q = absurd (false≢true q)
+agree-taken (atomicAdd v) (store w) d old regs q = refl
+agree-taken (atomicAdd v) (atomicAdd w) d old regs q = refl
 
 -- What follows from them.
 pub conflict-swap : (x y : Access) → conflict x y ≡ conflict y x
 unfolding conflict
-conflict-swap x y = ap₂ (λ a b. a && not b) (eqb-swap (x .cell) (y .cell)) (compatible-swap (x .kind) (y .kind))
+conflict-swap x y = ap₂ (λ a b. a && not b) (eqb-swap (x .cell) (y .cell)) (agree-swap (mode (x .kind)) (mode (y .kind)))
 
-pub conflict-agree : (x y : Access) → conflict x y ≡ false → x .cell ≡ y .cell → compatible (x .kind) (y .kind) ≡ true
+pub conflict-agree : (x y : Access) → conflict x y ≡ false → x .cell ≡ y .cell → agree (mode (x .kind)) (mode (y .kind)) ≡ true
 unfolding conflict
-conflict-agree x y q e = by (compatible (x .kind) (y .kind)) (rw (eq-eqb (x .cell) (y .cell) e) at q)
+conflict-agree x y q e = by (agree (mode (x .kind)) (mode (y .kind))) (rw (eq-eqb (x .cell) (y .cell) e) at q)
   where
     by : (b : Bool) → not b ≡ false → b ≡ true
     by true q = refl
@@ -79,7 +93,7 @@ taken-after cells c e k l d regs q = by (ℕ-discrete c e) (ltb c (length cells)
     by (yes y) true p =
         ap (λ i. registersAfter l d (getD (set cells c (cellAfter k (getD cells c 0))) i 0) regs) (sym y)
         ∙ ap (λ v. registersAfter l d v regs) (getD-set-same cells c _ 0 (ltb-true _ _ p))
-        ∙ compatible-taken k l d (getD cells c 0) regs (conflict-agree (record { cell = c; kind = k }) (record { cell = e; kind = l }) q y)
+        ∙ agree-taken k l d (getD cells c 0) regs (conflict-agree (record { cell = c; kind = k }) (record { cell = e; kind = l }) q y)
         ∙ ap (λ i. registersAfter l d (getD cells i 0) regs) y
     by (yes y) false p = ap (λ m. registersAfter l d (getD m e 0) regs) (set-out cells c _ (ltb-false _ _ p))
 
@@ -97,7 +111,7 @@ cells-swap cells c e k l q = by (ℕ-discrete c e)
     by (yes y) =
         ap (λ i. set (set cells c (cellAfter k (getD cells c 0))) i (cellAfter l (getD (set cells c (cellAfter k (getD cells c 0))) i 0))) (sym y)
         ∙ touch-twice cells c k l
-        ∙ ap (set cells c) (compatible-left k l (getD cells c 0) (conflict-agree (record { cell = c; kind = k }) (record { cell = e; kind = l }) q y))
+        ∙ ap (set cells c) (agree-left k l (getD cells c 0) (conflict-agree (record { cell = c; kind = k }) (record { cell = e; kind = l }) q y))
         ∙ sym (touch-twice cells c l k)
         ∙ ap (λ i. set (set cells i (cellAfter l (getD cells i 0))) c (cellAfter k (getD (set cells i (cellAfter l (getD cells i 0))) c 0))) y
 

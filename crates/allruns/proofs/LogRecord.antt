@@ -9,14 +9,14 @@ use lib.Dec.{eqb, ltb}
 use borrow.Author.Tests.{eq-eqb, ne-eqb, ltb-true, ltb-false}
 use lib.ListN.{length, getD, set, replicate, length-set, length-replicate, length-map, getD-replicate}
 use lib.Seq.{getD-set-other, getD-set-same, set-out}
-use Rattle.spec.specs.Access.{Access, Kind, compatible, conflict, load, store}
+use Rattle.spec.specs.Access.{Access, Kind, Mode, reads, writes, adds, mode, agree, conflict}
 use Rattle.spec.specs.Lists.{anyOf}
-use Rattle.spec.specs.Log.{Log, cleared, conflictMask, emptyLog, logged, testedMask, withThread}
+use Rattle.spec.specs.Log.{Log, masksOf, emptyLog, nobody, cleared, withThread, logged, conflicting, testedMask, conflictMask}
 use Rattle.spec.specs.Mask.{Mask, any, has, union}
 use Rattle.spec.specs.Threads.{AccessRecord, anyBelow, emptyRecord, races, recorded}
-use Rattle.spec.proofs.Laws.{union-size, wiped-size}
+use Rattle.spec.proofs.LogLaws.{same, masks-logged, masks-cleared, masks-empty, wiped-size, tested-size}
 use Rattle.allruns.proofs.Bools.{below-same}
-use Rattle.allruns.proofs.Accesses.{some-same, some-or}
+use Rattle.allruns.proofs.Accesses.{some-same, some-or, some-none}
 
 pub any-below : (m : Mask) → any m ≡ anyBelow (length m) (has m)
 unfolding any anyBelow has
@@ -85,26 +85,31 @@ enter-size masks c t e = by (ℕ-discrete e c) (ltb c (length masks)) refl
         ∙ length-set (getD masks c []) t true ∙ ap (λ v. length (getD masks v [])) (sym q)
     by (yes q) false p = ap (λ m. length (getD m e [])) (set-out masks c _ (ltb-false _ _ p))
 
--- A thread's record of a cell, by kind.
-unfoldable pub isLoad : Kind → Bool
-isLoad load = true
-isLoad (store v) = false
+-- The accesses xs have one of cell c in mode m.
+unfoldable pub holds : Mode → ℕ → List Access → Bool
+holds m c xs = anyOf (λ a. eqb c (a .cell) && same m (mode (a .kind))) xs
 
-unfoldable pub isStore : Kind → Bool
-isStore load = false
-isStore (store v) = true
-
--- In the accesses xs, one of cell c whose kind passes the test.
-unfoldable pub holds : (Kind → Bool) → ℕ → List Access → Bool
-holds p c xs = anyOf (λ a. eqb c (a .cell) && p (a .kind)) xs
-
+-- In each mode, the masks have the threads whose record has such an access.
 pub record LogMatches (n k : ℕ) (R : AccessRecord) (G : Log) : Type 0 where
-  pub readerCount : length (G .readers) ≡ k
-  pub writerCount : length (G .writers) ≡ k
-  pub readerSize : (c : ℕ) → c < k → length (getD (G .readers) c []) ≡ n
-  pub writerSize : (c : ℕ) → c < k → length (getD (G .writers) c []) ≡ n
-  pub reads : (t c : ℕ) → t < n → c < k → holds isLoad c (R t) ≡ has (getD (G .readers) c []) t
-  pub writes : (t c : ℕ) → t < n → c < k → holds isStore c (R t) ≡ has (getD (G .writers) c []) t
+  pub count : (m : Mode) → length (masksOf G m) ≡ k
+  pub size : (m : Mode) (c : ℕ) → c < k → length (getD (masksOf G m) c []) ≡ n
+  pub says : (m : Mode) (t c : ℕ) → t < n → c < k → holds m c (R t) ≡ has (getD (masksOf G m) c []) t
+
+nobody-has : (m : Mask) (t : ℕ) → has (nobody m) t ≡ false
+unfolding has nobody
+nobody-has [] t = refl
+nobody-has (b ∷ m) zero = refl
+nobody-has (b ∷ m) (suc t) = nobody-has m t
+
+-- The conflicts in one mode: all of its mask or none of it.
+conflicting-has : (G : Log) (c : ℕ) (m : Mode) (x : Kind) (u : ℕ)
+    → has (conflicting G c m x) u ≡ (not (agree m (mode x)) && has (getD (masksOf G m) c []) u)
+unfolding conflicting
+conflicting-has G c m x u = by (agree m (mode x))
+  where
+    by : (b : Bool) → has (cond b (nobody (getD (masksOf G m) c [])) (getD (masksOf G m) c [])) u ≡ (not b && has (getD (masksOf G m) c []) u)
+    by true = nobody-has (getD (masksOf G m) c []) u
+    by false = refl
 
 -- A test of a cell's masks is a race test, where it says of each thread whether it has a conflicting access.
 tested : (n : ℕ) (R : AccessRecord) (t : ℕ) (x : Access) (m : Mask) → t < n → length m ≡ n → ((u : ℕ) → u < n → anyOf (conflict x) (R u) ≡ has m u)
@@ -120,114 +125,123 @@ tested n R t x m l s h =
 
 module _ (n k : ℕ) (R : AccessRecord) (G : Log) (h : LogMatches n k R G) (t c : ℕ) (l : t < n) (i : c < k) where
   against-size : (x : Kind) → length (testedMask G c x) ≡ n
-  unfolding testedMask
-  against-size load = h .writerSize c i
-  against-size (store v) = union-size _ _ (h .writerSize c i ∙ sym (h .readerSize c i)) ∙ h .writerSize c i
+  against-size x = tested-size G c x n (λ m. h .size m c i)
+
+  -- What the conflict table makes of an access in mode y beside one in mode x is found in the masks of one mode.
+  by-modes : (e : Bool) (x y : Mode) → (e && not (agree x y))
+      ≡ ((e && (not (agree writes x) && same writes y)) || ((e && (not (agree adds x) && same adds y)) || (e && (not (agree reads x) && same reads y))))
+  unfolding agree same
+  by-modes false x y = refl
+  by-modes true reads reads = refl
+  by-modes true reads writes = refl
+  by-modes true reads adds = refl
+  by-modes true writes reads = refl
+  by-modes true writes writes = refl
+  by-modes true writes adds = refl
+  by-modes true adds reads = refl
+  by-modes true adds writes = refl
+  by-modes true adds adds = refl
+
+  in-mode : (m : Mode) (p : Bool) (u : ℕ) → u < n
+      → anyOf (λ a. eqb c (a .cell) && (p && same m (mode (a .kind)))) (R u) ≡ (p && has (getD (masksOf G m) c []) u)
+  unfolding holds
+  in-mode m true u j = h .says m u c j i
+  in-mode m false u j = some-same _ (λ a. false) (R u) (λ a. and-false (eqb c (a .cell))) ∙ some-none (R u)
 
   against-has : (x : Kind) (u : ℕ) → u < n → anyOf (conflict (record { cell = c; kind = x })) (R u) ≡ has (testedMask G c x) u
-  unfolding testedMask conflict holds
-  against-has load u j = some-same _ _ (R u) (λ a. ap (λ b. eqb c (a .cell) && b) (by (a .kind))) ∙ h .writes u c j i
+  unfolding testedMask conflict
+  against-has x u j =
+      some-same _ (λ a. part writes a || (part adds a || part reads a)) (R u) (λ a. by-modes (eqb c (a .cell)) (mode x) (mode (a .kind)))
+      ∙ some-or (part writes) (λ a. part adds a || part reads a) (R u)
+      ∙ ap (λ b. anyOf (part writes) (R u) || b) (some-or (part adds) (part reads) (R u))
+      ∙ ap₂ _||_ (found writes) (ap₂ _||_ (found adds) (found reads))
+      ∙ sym (has-union (met writes) (union (met adds) (met reads)) u ∙ ap (λ b. has (met writes) u || b) (has-union (met adds) (met reads) u))
     where
-      by : (y : Kind) → not (compatible load y) ≡ isStore y
-      by load = unfold compatible isStore in refl
-      by (store w) = unfold compatible isStore in refl
-  against-has (store v) u j =
-      some-same _ (λ a. (eqb c (a .cell) && isStore (a .kind)) || (eqb c (a .cell) && isLoad (a .kind))) (R u) (λ a. by (eqb c (a .cell)) (a .kind))
-      ∙ some-or _ _ (R u)
-      ∙ ap₂ _||_ (h .writes u c j i) (h .reads u c j i) ∙ sym (has-union _ _ u)
-    where
-      by : (e : Bool) (y : Kind) → (e && not (compatible (store v) y)) ≡ ((e && isStore y) || (e && isLoad y))
-      by true load = unfold compatible isStore isLoad in refl
-      by true (store w) = unfold compatible isStore isLoad in refl
-      by false y = refl
+      part : Mode → Access → Bool
+      part m a = eqb c (a .cell) && (not (agree m (mode x)) && same m (mode (a .kind)))
+
+      met : Mode → Mask
+      met m = conflicting G c m x
+
+      found : (m : Mode) → anyOf (part m) (R u) ≡ has (met m) u
+      found m = in-mode m (not (agree m (mode x))) u j ∙ sym (conflicting-has G c m x u)
 
   -- The race test of the lock-step run is that of the machine.
   pub log-tested : (x : Kind) → races n R t (record { cell = c; kind = x }) ≡ any (conflictMask G c t x)
   unfolding conflictMask
   log-tested x = tested n R t (record { cell = c; kind = x }) (testedMask G c x) l (against-size x) (against-has x)
 
-  -- A mask of a kind, entered or not.
-  in-mask : (p : Kind → Bool) (masks : List Mask) (x : Kind) → p x ≡ true → length masks ≡ k → length (getD masks c []) ≡ n
-      → ((u e : ℕ) → u < n → e < k → holds p e (R u) ≡ has (getD masks e []) u)
-      → (u e : ℕ) → u < n → e < k → holds p e (recorded R t (record { cell = c; kind = x } ∷ []) u) ≡ has (getD (withThread masks c t) e []) u
+  -- The masks of a mode with the access: entered where it is the access's own, else as they were.
+  in-mask : (m : Mode) (x : Kind) → same m (mode x) ≡ true → (u e : ℕ) → u < n → e < k
+      → holds m e (recorded R t (record { cell = c; kind = x } ∷ []) u) ≡ has (getD (withThread (masksOf G m) c t) e []) u
   unfolding holds recorded anyOf
-  in-mask p masks x q s z m u e a b =
-      by (eqb u t) ∙ ap (λ y. y || (eqb u t && (eqb e c && p x))) (m u e a b) ∙ ap (λ y. has (getD masks e []) u || (eqb u t && y))
-      (ap (λ y. eqb e c && y) q ∙ and-true (eqb e c))
-      ∙ sym (enter-has masks c t e u (omega arith) (omega arith))
+  in-mask m x q u e a b =
+      by (eqb u t) ∙ ap (λ y. y || (eqb u t && (eqb e c && same m (mode x)))) (h .says m u e a b)
+      ∙ ap (λ y. has (getD (masksOf G m) e []) u || (eqb u t && y)) (ap (λ y. eqb e c && y) q ∙ and-true (eqb e c))
+      ∙ sym (enter-has (masksOf G m) c t e u (omega (arith, h .count m)) (omega (arith, h .size m c i)))
     where
-      by : (d : Bool) → anyOf (λ a. eqb e (a .cell) && p (a .kind)) (cond d (record { cell = c; kind = x } ∷ R u) (R u))
-          ≡ (anyOf (λ a. eqb e (a .cell) && p (a .kind)) (R u) || (d && (eqb e c && p x)))
-      by true = or-comm (eqb e c && p x) _
+      by : (d : Bool) → anyOf (λ a. eqb e (a .cell) && same m (mode (a .kind))) (cond d (record { cell = c; kind = x } ∷ R u) (R u))
+          ≡ (anyOf (λ a. eqb e (a .cell) && same m (mode (a .kind))) (R u) || (d && (eqb e c && same m (mode x))))
+      by true = or-comm (eqb e c && same m (mode x)) _
       by false = sym (or-false _)
 
-  off-mask : (p : Kind → Bool) (masks : List Mask) (x : Kind) → p x ≡ false
-      → ((u e : ℕ) → u < n → e < k → holds p e (R u) ≡ has (getD masks e []) u)
-      → (u e : ℕ) → u < n → e < k → holds p e (recorded R t (record { cell = c; kind = x } ∷ []) u) ≡ has (getD masks e []) u
+  off-mask : (m : Mode) (x : Kind) → same m (mode x) ≡ false → (u e : ℕ) → u < n → e < k
+      → holds m e (recorded R t (record { cell = c; kind = x } ∷ []) u) ≡ has (getD (masksOf G m) e []) u
   unfolding holds recorded anyOf
-  off-mask p masks x q m u e a b = by (eqb u t) ∙ m u e a b
+  off-mask m x q u e a b = by (eqb u t) ∙ h .says m u e a b
     where
-      by : (d : Bool)
-          → anyOf (λ a. eqb e (a .cell) && p (a .kind)) (cond d (record { cell = c; kind = x } ∷ R u) (R u)) ≡ anyOf (λ a. eqb e (a .cell) && p (a .kind)) (R u)
-      by true = ap (λ y. y || anyOf (λ a. eqb e (a .cell) && p (a .kind)) (R u)) (ap (λ y. eqb e c && y) q ∙ and-false (eqb e c))
+      by : (d : Bool) → anyOf (λ a. eqb e (a .cell) && same m (mode (a .kind))) (cond d (record { cell = c; kind = x } ∷ R u) (R u))
+          ≡ anyOf (λ a. eqb e (a .cell) && same m (mode (a .kind))) (R u)
+      by true = ap (λ y. y || anyOf (λ a. eqb e (a .cell) && same m (mode (a .kind))) (R u)) (ap (λ y. eqb e c && y) q ∙ and-false (eqb e c))
       by false = refl
 
   -- An access that does not race, entered.
   pub log-entered : (x : Kind) → any (conflictMask G c t x) ≡ false → LogMatches n k (recorded R t (record { cell = c; kind = x } ∷ [])) (logged G c t x)
-  unfolding logged withThread isLoad isStore
-  log-entered load f =
+  log-entered x f =
       record {
-        readerCount = length-set (G .readers) c _ ∙ h .readerCount;
-        writerCount = h .writerCount;
-        readerSize = λ e j. enter-size (G .readers) c t e ∙ h .readerSize e j;
-        writerSize = h .writerSize;
-        reads = in-mask isLoad (G .readers) load refl (h .readerCount) (h .readerSize c i) (h .reads);
-        writes = off-mask isStore (G .writers) load refl (h .writes);
+        count = λ m. ap length (masks-logged G c t x m) ∙ counted m (same m (mode x));
+        size = λ m e j. ap (λ y. length (getD y e [])) (masks-logged G c t x m) ∙ sized m (same m (mode x)) e ∙ h .size m e j;
+        says = λ m u e a b. said m (same m (mode x)) refl u e a b ∙ ap (λ y. has (getD y e []) u) (sym (masks-logged G c t x m));
       }
-  log-entered (store v) f =
-      record {
-        readerCount = h .readerCount;
-        writerCount = length-set (G .writers) c _ ∙ h .writerCount;
-        readerSize = h .readerSize;
-        writerSize = λ e j. enter-size (G .writers) c t e ∙ h .writerSize e j;
-        reads = off-mask isLoad (G .readers) (store v) refl (h .reads);
-        writes = in-mask isStore (G .writers) (store v) refl (h .writerCount) (h .writerSize c i) (h .writes);
-      }
+    where
+      after : Mode → Bool → List Mask
+      after m b = cond b (withThread (masksOf G m) c t) (masksOf G m)
 
-wiped : (masks : List Mask) (c t : ℕ) → has (getD (map (map (λ b. false)) masks) c []) t ≡ false
-unfolding has
-wiped [] c t = refl
-wiped (m ∷ masks) zero t = off m t
-  where
-    off : (m : Mask) (t : ℕ) → getD (map (λ b. false) m) t false ≡ false
-    off [] t = refl
-    off (b ∷ m) zero = refl
-    off (b ∷ m) (suc t) = off m t
-wiped (m ∷ masks) (suc c) t = wiped masks c t
+      counted : (m : Mode) (b : Bool) → length (after m b) ≡ k
+      counted m true = unfold withThread in (length-set (masksOf G m) c _ ∙ h .count m)
+      counted m false = h .count m
+
+      sized : (m : Mode) (b : Bool) (e : ℕ) → length (getD (after m b) e []) ≡ length (getD (masksOf G m) e [])
+      sized m true e = enter-size (masksOf G m) c t e
+      sized m false e = refl
+
+      said : (m : Mode) (b : Bool) → same m (mode x) ≡ b → (u e : ℕ) → u < n → e < k
+          → holds m e (recorded R t (record { cell = c; kind = x } ∷ []) u) ≡ has (getD (after m b) e []) u
+      said m true q u e a b = in-mask m x q u e a b
+      said m false q u e a b = off-mask m x q u e a b
 
 pub log-empty : (n k : ℕ) → LogMatches n k emptyRecord (emptyLog n k)
-unfolding emptyLog emptyRecord holds anyOf
+unfolding emptyRecord holds anyOf
 log-empty n k =
     record {
-      readerCount = length-replicate k _;
-      writerCount = length-replicate k _;
-      readerSize = λ c l. ap length (getD-replicate k c (replicate n false) [] l) ∙ length-replicate n false;
-      writerSize = λ c l. ap length (getD-replicate k c (replicate n false) [] l) ∙ length-replicate n false;
-      reads = λ t c l i. sym (off t c l i);
-      writes = λ t c l i. sym (off t c l i);
+      count = λ m. ap length (masks-empty n k m) ∙ length-replicate k (replicate n false);
+      size = λ m c l. ap length (mask-empty m c l) ∙ length-replicate n false;
+      says = λ m t c l i. sym (unfold has in (ap (λ y. getD y t false) (mask-empty m c i) ∙ getD-replicate n t false false l));
     }
   where
-    off : (t c : ℕ) → t < n → c < k → has (getD (replicate k (replicate n false)) c []) t ≡ false
-    off t c l i = unfold has in (ap (λ m. getD m t false) (getD-replicate k c (replicate n false) [] i) ∙ getD-replicate n t false false l)
+    mask-empty : (m : Mode) (c : ℕ) → c < k → getD (masksOf (emptyLog n k) m) c [] ≡ replicate n false
+    mask-empty m c i = ap (λ y. getD y c []) (masks-empty n k m) ∙ getD-replicate k c (replicate n false) [] i
+
+wiped : (masks : List Mask) (c t : ℕ) → has (getD (map nobody masks) c []) t ≡ false
+wiped [] c t = unfold has in refl
+wiped (m ∷ masks) zero t = nobody-has m t
+wiped (m ∷ masks) (suc c) t = wiped masks c t
 
 pub log-cleared : (n k : ℕ) (R : AccessRecord) (G : Log) → LogMatches n k R G → LogMatches n k emptyRecord (cleared G)
-unfolding cleared emptyRecord holds anyOf
+unfolding emptyRecord holds anyOf
 log-cleared n k R G h =
     record {
-      readerCount = length-map (G .readers) (map (λ b. false)) ∙ h .readerCount;
-      writerCount = length-map (G .writers) (map (λ b. false)) ∙ h .writerCount;
-      readerSize = λ c i. wiped-size (G .readers) c ∙ h .readerSize c i;
-      writerSize = λ c i. wiped-size (G .writers) c ∙ h .writerSize c i;
-      reads = λ t c i j. sym (wiped (G .readers) c t);
-      writes = λ t c i j. sym (wiped (G .writers) c t);
+      count = λ m. ap length (masks-cleared G m) ∙ length-map (masksOf G m) nobody ∙ h .count m;
+      size = λ m c i. ap (λ y. length (getD y c [])) (masks-cleared G m) ∙ wiped-size (masksOf G m) c ∙ h .size m c i;
+      says = λ m t c i j. sym (ap (λ y. has (getD y c []) t) (masks-cleared G m) ∙ wiped (masksOf G m) c t);
     }

@@ -13,7 +13,7 @@ use lib.IntN.{ℤ, pos, negsuc}
 use lib.Signed.{ltZ, mag, mag-shr, shrZ}
 use lib.ListN.{length, getD, set, replicate, length-set, length-replicate, List·getD-eq-default}
 use Rattle.spec.specs.declared.Verdict.the-variants.{Passed}
-use Rattle.spec.specs.Access.{Kind, load, store, cellAfter, registersAfter}
+use Rattle.spec.specs.Access.{Kind, load, store, atomicAdd, cellAfter, registersAfter}
 use Rattle.spec.specs.AllRuns.{RunOf, leaves}
 use Rattle.spec.specs.Limits.{registers}
 use Rattle.spec.specs.LockStep.{LockState, LockResult, Saved, Step, accessTurn, advance, andThen, barrierRow, computeTurn, continues, countSteps}
@@ -21,8 +21,8 @@ use Rattle.spec.specs.LockStep.{elseRow, endifRow, endwhileRow, forEnabled, ifR
 use Rattle.spec.specs.LockStep.{passBarrier, pop, reg, resultOf, runFrom, runRow, setReg, stops, topMask, tryAccess, whileRow}
 use Rattle.spec.specs.Log.{conflictMask}
 use Rattle.spec.specs.Mask.{Mask, any, full}
-use Rattle.spec.specs.Op.{Op, Calc, SET, TID, COUNT, ADD, SUB, MUL, AND, OR, XOR, SHR, SAR, EQ, LT, SLT, CALC, Mem, MEM, LOAD, STORE, IF, ELSE, ENDIF}
-use Rattle.spec.specs.Op.{WHILE, ENDWHILE, BARRIER, UNKNOWN, value}
+use Rattle.spec.specs.Op.{Op, Calc, SET, TID, COUNT, ADD, SUB, MUL, AND, OR, XOR, SHR, SAR, EQ, LT, SLT, CALC, Mem, MEM, LOAD, STORE, ATOMICADD, IF, ELSE}
+use Rattle.spec.specs.Op.{ENDIF, WHILE, ENDWHILE, BARRIER, UNKNOWN, value}
 use Rattle.spec.specs.Shape.{Shape, address, bound, shapeOf}
 use Rattle.spec.specs.Table.{Table, Row, rowAt, cellByte, endOf, kindOf}
 use Rattle.spec.specs.Threads as own
@@ -71,25 +71,29 @@ value-word EQ n t a b x y hn ht ha hb hx hy = truth-word (eqb x y)
 value-word LT n t a b x y hn ht ha hb hx hy = truth-word (ltb x y)
 value-word SLT n t a b x y hn ht ha hb hx hy = truth-word (ltZ (signed x) (signed y))
 
--- An access that stores a word.
+-- An access that stores or adds a word.
 abbrev KindWord : Kind → Type 0
 KindWord load = Unit {0}
 KindWord (store v) = Word v
+KindWord (atomicAdd v) = Word v
 
 kind-word : (m : Mem) (v : ℕ) → Word v → KindWord (kindOf m v)
 unfolding kindOf
 kind-word LOAD v l = tt
 kind-word STORE v l = l
+kind-word ATOMICADD v l = l
 
 cells-words : (k : Kind) (c : ℕ) (cells : List ℕ) → KindWord k → Words cells → Words (set cells c (cellAfter k (getD cells c 0)))
 unfolding cellAfter
 cells-words load c cells h ws i = set-keeps Word cells 0 c _ i (λ z. ws c) (ws i)
 cells-words (store v) c cells h ws i = set-keeps Word cells 0 c _ i (λ z. h) (ws i)
+cells-words (atomicAdd v) c cells h ws i = set-keeps Word cells 0 c _ i (λ z. mod-lt (getD cells c 0 + v) (omega arith)) (ws i)
 
 registers-words : (k : Kind) (d old : ℕ) (regs : List ℕ) → KindWord k → Word old → Words regs → Words (registersAfter k d old regs)
 unfolding registersAfter
 registers-words load d old regs h l ws i = set-keeps Word regs 0 d old i (λ z. l) (ws i)
 registers-words (store v) d old regs h l ws i = ws i
+registers-words (atomicAdd v) d old regs h l ws i = ws i
 
 zero-words : Words (replicate registers 0)
 zero-words i = replicate-keeps Word registers 0 0 i (omega arith) (omega arith)

@@ -4,7 +4,7 @@ use mathlib.Core.List.{List}
 use Prim.Native.Nat.{ℕ}
 use native.Mathlib.Omega.{arith}
 use Rattle.spec.specs.declared.AccessKind.{AccessKind}
-use Rattle.spec.specs.declared.AccessKind.the-variants.{ReadWrite, WriteRead, WriteWrite}
+use Rattle.spec.specs.declared.AccessKind.the-variants.{ReadWrite, WriteRead, WriteWrite, ReadAdd, AddRead, WriteAdd, AddWrite}
 use Rattle.spec.specs.declared.Verdict.{Verdict}
 use Rattle.spec.specs.declared.Verdict.the-variants.{Passed, Race, Outside, Diverged, Spent}
 use Rattle.spec.specs.declared.Outcome.{Outcome}
@@ -21,6 +21,10 @@ unfolding kindFrom kindCode
 kind-back ReadWrite = refl
 kind-back WriteRead = refl
 kind-back WriteWrite = refl
+kind-back ReadAdd = refl
+kind-back AddRead = refl
+kind-back WriteAdd = refl
+kind-back AddWrite = refl
 
 verdict-back : (v : Verdict) (row rows steps barriers : ℕ)
     → outcomeFrom (outcomeWords (record { verdict = v; row = row; rows = rows; steps = steps; barriers = barriers })) .verdict ≡ v

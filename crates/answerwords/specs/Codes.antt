@@ -6,7 +6,7 @@ use Prim.Native.Nat.{ℕ}
 use lib.Dec.{eqb}
 use lib.ListN.{getD}
 use Rattle.spec.specs.declared.AccessKind.{AccessKind}
-use Rattle.spec.specs.declared.AccessKind.the-variants.{ReadWrite, WriteRead, WriteWrite}
+use Rattle.spec.specs.declared.AccessKind.the-variants.{ReadWrite, WriteRead, WriteWrite, ReadAdd, AddRead, WriteAdd, AddWrite}
 use Rattle.spec.specs.declared.Verdict.{Verdict}
 use Rattle.spec.specs.declared.Verdict.the-variants.{Passed, Race, Outside, Diverged, Spent}
 use Rattle.spec.specs.declared.Outcome.{Outcome}
@@ -42,6 +42,10 @@ unfoldable pub kindCode : AccessKind → ℕ
 kindCode ReadWrite = 1
 kindCode WriteRead = 2
 kindCode WriteWrite = 3
+kindCode ReadAdd = 4
+kindCode AddRead = 5
+kindCode WriteAdd = 6
+kindCode AddWrite = 7
 
 -- What a line of the report says, as a word: 0 where it has no meaning.
 unfoldable pub valueCode : Value → ℕ
@@ -69,7 +73,9 @@ whyIn (answer.Ran o) = 0 ∷ 0 ∷ []
 
 -- The way back, for the report writer. A code that there is none of is read as spent, so that no slip becomes passed.
 unfoldable pub kindFrom : ℕ → AccessKind
-kindFrom code = cond (eqb code 1) ReadWrite (cond (eqb code 2) WriteRead WriteWrite)
+kindFrom code =
+    cond (eqb code 1) ReadWrite (cond (eqb code 2) WriteRead (cond (eqb code 4) ReadAdd (cond (eqb code 5) AddRead (cond (eqb code 6) WriteAdd
+    (cond (eqb code 7) AddWrite WriteWrite)))))
 
 unfoldable pub verdictFrom : (code thread other kind at : ℕ) → Verdict
 verdictFrom code thread other kind at =

@@ -14,6 +14,10 @@ fn kind_code(kind: AccessKind) -> u32
         AccessKind::ReadWrite => 1,
         AccessKind::WriteRead => 2,
         AccessKind::WriteWrite => 3,
+        AccessKind::ReadAdd => 4,
+        AccessKind::AddRead => 5,
+        AccessKind::WriteAdd => 6,
+        AccessKind::AddWrite => 7,
     }
 }
 
@@ -62,6 +66,18 @@ fn kind_from(code: u32) -> AccessKind
     }
     if code == 2 {
         return AccessKind::WriteRead;
+    }
+    if code == 4 {
+        return AccessKind::ReadAdd;
+    }
+    if code == 5 {
+        return AccessKind::AddRead;
+    }
+    if code == 6 {
+        return AccessKind::WriteAdd;
+    }
+    if code == 7 {
+        return AccessKind::AddWrite;
     }
     AccessKind::WriteWrite
 }

@@ -5,6 +5,7 @@ use mathlib.Core.Option.{Option, none}
 use Prim.Native.Nat.{ℕ, _*_, _≤_}
 use native.Mathlib.Omega.{arith}
 use lib.ListN.{length, take, drop}
+use Rattle.spec.specs.Limits.{logPerCell}
 use Rattle.spec.specs.declared.Outcome.{Outcome}
 use Rattle.spec.specs.declared.Refusal.{Refusal}
 use Rattle.spec.specs.declared.Written.{Written}
@@ -46,7 +47,7 @@ module _ (table ends : List ℕ) (threads limit : ℕ) (words cells log output :
 
   -- The buffers: the words placed, the fronts that the run gave back, the report written.
   module _ (placed ys zs out : List ℕ) (o : Outcome) (r : Written) (p : placed ≡ over words cells) (ly : length ys ≡ length words)
-      (lz : length zs ≡ 2 * length words) where
+      (lz : length zs ≡ logPerCell * length words) where
     abbrev launch : Launch
     launch = launchOf table threads limit words
 
@@ -55,7 +56,7 @@ module _ (table ends : List ℕ) (threads limit : ℕ) (words cells log output :
 
     pub reported : RunIs (lockstep (rowsOf table) threads (take (length words) placed) limit) o ys zs
         → r ≡ writerAnswer (ran o) front output → out ≡ writerBuffer (ran o) front output → FitsOutput (ran o) front
-        → ReportedLaunch launch cells log output r (ys ++ drop (length words) placed) (zs ++ drop (2 * length words) log) out
+        → ReportedLaunch launch cells log output r (ys ++ drop (length words) placed) (zs ++ drop (logPerCell * length words) log) out
     unfolding launchRun launchReport
     reported run answer buffer fits =
         let same : lockstep (rowsOf table) threads (take (length words) placed) limit ≡ launchRun launch = ap
@@ -69,7 +70,7 @@ module _ (table ends : List ℕ) (threads limit : ℕ) (words cells log output :
           answered = answer ∙ wrote o front output none ∙ ap (λ (w : List ℕ). Wrote (length w)) whole;
           cells-left = given-back-over words ys cells placed p ly
               ∙ ap (λ (w : List ℕ). over w cells) (run .cells-are ∙ ap (λ (x : LockResult). x .state .cells) same);
-          log-left = given-back (2 * length words) zs log lz
+          log-left = given-back (logPerCell * length words) zs log lz
               ∙ ap (λ (w : List ℕ). over w log) (run .log-is ∙ ap (λ (x : LockResult). logWords (x .state .log)) same);
           report-written = buffer ∙ written o front output none ∙ ap (λ (w : List ℕ). over w output) whole;
         }

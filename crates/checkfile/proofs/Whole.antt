@@ -105,7 +105,7 @@ module _ (file : List ℕ) (p : Parsed) (h : ParsedIs file p) where
     pub whole-rows : (length (tableBytes p) % 4 ≡ 0) × (length (tableBytes p) ≤ 4 * 256)
     whole-rows = (omega (arith, table-length), omega (arith, table-length, of-file .within .fewRows))
 
-pub lent-is : (held logged room : ℕ) → fileLent held logged room ≡ none → (held ≡ 1024) × ((logged ≡ 2048) × (17408 ≤ room))
+pub lent-is : (held logged room : ℕ) → fileLent held logged room ≡ none → (held ≡ 1024) × ((logged ≡ 3072) × (17408 ≤ room))
 unfolding fileLent first
 lent-is held logged room e =
     let a = orElse-none _ _ .0 e in

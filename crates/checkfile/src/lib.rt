@@ -38,7 +38,7 @@ fn run_launch(
         (now (cells .exit)) (now (log .exit)) (now (output .exit)) ⌝ }
 {
     let count = words.len();
-    let logged = 2 * count;
+    let logged = 3 * count;
     place(words, cells);
     let outcome = run::run(
         table,
@@ -51,7 +51,7 @@ fn run_launch(
     report::write_report(Subject::Ran(outcome), &cells[..count], output)
 }
 
-// The entry for whoever has a launch file. The lent cells are 1,024 words, the log 2,048, the output 17,408 bytes or
+// The entry for whoever has a launch file. The lent cells are 1,024 words, the log 3,072, the output 17,408 bytes or
 // more. A refusal leaves all three as they were lent.
 pub fn check_file(file: &[u8], cells: &mut [u32], log: &mut [u32], output: &mut [u8]) -> Written
     ensures answer { λ r. ⌜ r ≡ fileAnswer (now (file .entry)) (now (cells .entry)) (now (log .entry)) (now (output .entry)) ⌝ }

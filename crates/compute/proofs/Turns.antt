@@ -17,7 +17,7 @@ use Rattle.spec.specs.LockStep.{LockState, Step, inTurn, computeTurn, setReg, u
 use Rattle.layout.specs.declared.Access.the-variants.{Done}
 use Rattle.layout.specs.Memory.{Regs, Memory, Did, OneTurn, ComputeAsks, lane, Puts, computedLane, Computed}
 use Rattle.layout.proofs.Buffers.{regs-set}
-use Rattle.layout.proofs.Turning.{Turning, turn-start, turn-in, turn-out, turn-whole}
+use Rattle.layout.proofs.Turning.{Turning, turn-start, turn-in, turn-out, turn-end, turn-whole}
 use Rattle.compute.proofs.Values.{value-read}
 use Rattle.compute.proofs.Putting.{puts-none, puts-old, puts-more, puts-agree, stored-on, stored-off}
 
@@ -112,36 +112,30 @@ module _ (op n mask d a b : ℕ) (regs : List ℕ) (A : ComputeAsks op d a b)
         sym (ap (set (after t) (d * 32 + t)) (new-off t h q ∙ sym (puts-old d new regs (after t) t (after-puts t (omega (arith, M .few)))))
         ∙ set-getD (after t) (d * 32 + t) 0)
 
-    step : (j t : ℕ) (rs : List ℕ) → Turning (turn c n x) n s j (t + 1) (mask / 2 ^ t / 2) rs cells log
-        → Turning (turn c n x) n s j (suc t) (mask / 2 ^ suc t) rs cells log
-    step j t rs T = subst₂ (λ i m. Turning (turn c n x) n s j i m rs cells log) (add-one t) (shr-shr mask t 1 ∙ ap (λ i. mask / 2 ^ i) (add-one t)) T
+    step : (t : ℕ) (rs : List ℕ) → Turning (turn c n x) n s (t + 1) (mask / 2 ^ t / 2) rs cells log
+        → Turning (turn c n x) n s (suc t) (mask / 2 ^ suc t) rs cells log
+    step t rs T = subst₂ (λ i m. Turning (turn c n x) n s i m rs cells log) (add-one t) (shr-shr mask t 1 ∙ ap (λ i. mask / 2 ^ i) (add-one t)) T
 
-    turns : (t : ℕ) → t ≤ n → (j : ℕ) × Turning (turn c n x) n s j t (mask / 2 ^ t) (after t) cells log
+    turns : (t : ℕ) → t ≤ n → Turning (turn c n x) n s t (mask / 2 ^ t) (after t) cells log
     unfolding after
-    turns zero h = (
-      0,
-      subst (λ m. Turning (turn c n x) n s 0 0 m regs cells log) (let e : mask ≡ mask / 1 = omega arith in e)
-          (turn-start (turn c n x) n s mask regs cells log em el M),
-    )
+    turns zero h =
+        subst (λ m. Turning (turn c n x) n s 0 m regs cells log) (let e : mask ≡ mask / 1 = omega arith in e)
+        (turn-start (turn c n x) n s mask regs cells log em el M)
     turns (suc t) h = by (turns t (omega arith)) (ℕ-discrete (mask / 2 ^ t % 2) 1)
       where
-        by : (j : ℕ) × Turning (turn c n x) n s j t (mask / 2 ^ t) (after t) cells log → Dec (mask / 2 ^ t % 2 ≡ 1)
-            → (j : ℕ) × Turning (turn c n x) n s j (suc t) (mask / 2 ^ suc t) (after (suc t)) cells log
-        by T (yes q) = (
-          T .0 + 1,
-          step (T .0 + 1) t (after (suc t))
-              (turn-in (turn c n x) n s (T .0) t (mask / 2 ^ t) (after t) cells log (T .1) (after (suc t)) cells log h q (turn-of t h q)),
-        )
-        by T (no q) = (
-          T .0,
-          subst (λ rs. Turning (turn c n x) n s (T .0) (suc t) (mask / 2 ^ suc t) rs cells log) (turn-off t h q)
-              (step (T .0) t (after t) (turn-out (turn c n x) n s (T .0) t (mask / 2 ^ t) (after t) cells log (T .1) h q)),
-        )
+        by : Turning (turn c n x) n s t (mask / 2 ^ t) (after t) cells log → Dec (mask / 2 ^ t % 2 ≡ 1)
+            → Turning (turn c n x) n s (suc t) (mask / 2 ^ suc t) (after (suc t)) cells log
+        by T (yes q) =
+            step t (after (suc t)) (turn-in (turn c n x) n s t (mask / 2 ^ t) (after t) cells log T (after (suc t)) cells log h q (turn-of t h q))
+        by T (no q) =
+            subst (λ rs. Turning (turn c n x) n s (suc t) (mask / 2 ^ suc t) rs cells log) (turn-off t h q)
+            (step t (after t) (turn-out (turn c n x) n s t (mask / 2 ^ t) (after t) cells log T h q))
 
     row-did : Did n (ones mask) s (inTurn (turn c n x) (members (s .enabled)) s) Done (after n) cells log
     row-did =
         let T = turns n (le-refl n) in
-        turn-whole (turn c n x) n s (T .0) n (mask / 2 ^ n) (after n) cells log (T .1) mask (ones mask) em refl (le-refl n)
+        let none = turn-end (turn c n x) n s n (mask / 2 ^ n) (after n) cells log T (le-refl n) in
+        turn-whole (turn c n x) n s n (mask / 2 ^ n) (after n) cells log T mask (ones mask) em refl none
 
     -- So do the words that a computing row leaves.
     pub compute-did : (regs′ : List ℕ) → Computed op n mask d a b regs regs′

@@ -98,10 +98,10 @@ unfolding andState unlessRefused
 by-file (refused why) state e = refl
 by-file (accepted launch) state e = ap (λ s. unlessRefused s launch) e
 
-module _ (file cells log output : List ℕ) (c : length cells ≡ 1024) (l : length log ≡ 2048) (o : length output ≡ 17408) where
+module _ (file cells log output : List ℕ) (c : length cells ≡ 1024) (l : length log ≡ 3072) (o : length output ≡ 17408) where
   lent : fileLent (length cells) (length log) (length output) ≡ none
   unfolding fileLent first orElse unless
-  lent = rw (eq-eqb (length cells) 1024 c, eq-eqb (length log) 2048 l, le-leb 17408 (length output) (omega arith)) refl
+  lent = rw (eq-eqb (length cells) 1024 c, eq-eqb (length log) 3072 l, le-leb 17408 (length output) (omega arith)) refl
 
   checked : fileChecked file cells log output ≡ fileLaunch file
   unfolding fileChecked

@@ -7,6 +7,7 @@ use native.Mathlib.Omega.{arith}
 use borrow.Author.Tests.{eqb-true, leb-true}
 use lib.Dec.{leb}
 use lib.ListN.{length}
+use Rattle.spec.specs.Limits.{logPerCell}
 use Rattle.spec.specs.declared.Refusal.{Refusal}
 use Rattle.spec.specs.declared.Outcome.{Outcome}
 use Rattle.spec.specs.declared.Answer.{Answer}
@@ -56,7 +57,7 @@ pub readable : (table : List ℕ) (threads cells limit : ℕ) → bareNumbers (l
     → (length table % 4 ≡ 0) × (length table ≤ 4 * 256)
 readable table threads cells limit e = let f = fine (length table) threads cells limit e in (f .fours, omega (arith, f .fours, f .rows))
 
-pub lent-is : (cells held logged : ℕ) → bareLent cells held logged ≡ none → (held ≡ cells) × (logged ≡ 2 * cells)
+pub lent-is : (cells held logged : ℕ) → bareLent cells held logged ≡ none → (held ≡ cells) × (logged ≡ logPerCell * cells)
 unfolding bareLent first
 lent-is cells held logged e =
     let a = orElse-none _ _ .0 e in

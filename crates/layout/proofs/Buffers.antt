@@ -54,24 +54,27 @@ masks-set n k ms c m M h l = record { count = length-set ms c m ∙ M .count; ea
     by i q (yes e) = ap (λ z. length (getD (set ms c m) z [])) e ∙ ap length (getD-set-same ms c m [] (omega (arith, M .count))) ∙ l
     by i q (no ne) = ap length (getD-set-other ms c i m [] ne) ∙ M .each i q
 
--- the log's entries
-module _ (R W : List Mask) (k c : ℕ) (e : length R ≡ k) (h : c < k) where
-  pub reader-at : getD (map maskWord R ++ map maskWord W) c 0 ≡ maskWord (getD R c [])
-  unfolding maskWord
-  reader-at = List·getD-append (map maskWord R) (map maskWord W) 0 c (omega (arith, length-map R maskWord)) ∙ List·getD-map maskWord R c []
+-- The word of a mask in a list of masks.
+pub mask-at : (R : List Mask) (c : ℕ) → getD (map maskWord R) c 0 ≡ maskWord (getD R c [])
+unfolding maskWord
+mask-at R c = List·getD-map maskWord R c []
 
-  pub writer-at : getD (map maskWord R ++ map maskWord W) (k + c) 0 ≡ maskWord (getD W c [])
-  unfolding maskWord
-  writer-at =
-      ap (λ z. getD (map maskWord R ++ map maskWord W) (z + c) 0) (sym (length-map R maskWord ∙ e))
-      ∙ getD-append-add (map maskWord R) (map maskWord W) c 0 ∙ List·getD-map maskWord W c []
+-- A list of masks as words with other words behind it: what is read and set in its front and behind.
+module _ (R : List Mask) (X : List ℕ) (k c : ℕ) (e : length R ≡ k) where
+  pub front-at : c < k → getD (map maskWord R ++ X) c 0 ≡ maskWord (getD R c [])
+  front-at h = List·getD-append (map maskWord R) X 0 c (omega (arith, length-map R maskWord)) ∙ mask-at R c
 
-  pub reader-set : (m : Mask) → set (map maskWord R ++ map maskWord W) c (maskWord m) ≡ map maskWord (set R c m) ++ map maskWord W
-  reader-set m =
-      set-append-left (map maskWord R) (map maskWord W) c (maskWord m) (omega (arith, length-map R maskWord))
-      ∙ ap (λ z. z ++ map maskWord W) (sym (map-set maskWord R c m))
+  pub behind-at : getD (map maskWord R ++ X) (k + c) 0 ≡ getD X c 0
+  behind-at =
+      ap (λ z. getD (map maskWord R ++ X) (z + c) 0) (sym (length-map R maskWord ∙ e))
+      ∙ getD-append-add (map maskWord R) X c 0
 
-  pub writer-set : (m : Mask) → set (map maskWord R ++ map maskWord W) (k + c) (maskWord m) ≡ map maskWord R ++ map maskWord (set W c m)
-  writer-set m =
-      ap (λ z. set (map maskWord R ++ map maskWord W) (z + c) (maskWord m)) (sym (length-map R maskWord ∙ e))
-      ∙ set-append-right (map maskWord R) (map maskWord W) c (maskWord m) ∙ ap (λ z. map maskWord R ++ z) (sym (map-set maskWord W c m))
+  pub front-set : (m : Mask) → c < k → set (map maskWord R ++ X) c (maskWord m) ≡ map maskWord (set R c m) ++ X
+  front-set m h =
+      set-append-left (map maskWord R) X c (maskWord m) (omega (arith, length-map R maskWord))
+      ∙ ap (λ z. z ++ X) (sym (map-set maskWord R c m))
+
+  pub behind-set : (w : ℕ) → set (map maskWord R ++ X) (k + c) w ≡ map maskWord R ++ set X c w
+  behind-set w =
+      ap (λ z. set (map maskWord R ++ X) (z + c) w) (sym (length-map R maskWord ∙ e))
+      ∙ set-append-right (map maskWord R) X c w

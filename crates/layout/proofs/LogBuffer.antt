@@ -1,116 +1,136 @@
 -- The log buffer: what the code reads, tests, sets and clears in it. Assumes nothing.
-use mathlib.Core.Path.{_≡_, refl, sym, _∙_, ap, ap₂}
+use mathlib.Core.Path.{_≡_, refl, sym, _∙_, ap, ap₂, subst}
 use mathlib.Core.List.{List, [], _∷_, _++_, map}
-use mathlib.Core.Bool.{Bool, true, false, cond}
+use mathlib.Core.Bool.{Bool, true, false, cond, not}
 use Prim.Native.Nat.{ℕ, zero, suc, _+_, _-_, _*_, _^_, _<_, _≤_}
 use native.Mathlib.Omega.{arith}
 use native.Mathlib.Decide.{ℕ-discrete}
+use borrow.Author.Tests.{ne-eqb}
 use lib.Bits.{bitAnd, bitOr}
+use lib.Dec.{eqb}
 use lib.Pow.{pow-pos}
 use lib.ListN.{length, getD, set, replicate, length-set, length-map, length-replicate, getD-replicate, length-append, replicate-append-replicate}
 use lib.Seq.{ext-getD, getD-set-same, getD-set-other}
-use Rattle.spec.specs.declared.AccessKind.the-variants.{ReadWrite, WriteWrite}
-use Rattle.spec.specs.Access.{Kind, load, store}
-use Rattle.spec.specs.Mask.{Mask, maskWord, has}
-use Rattle.spec.specs.Log.{Log, logWords, emptyLog, cleared, withThread, logged, testedMask, conflictMask, raceKind}
-use Rattle.spec.proofs.Laws.{union-size, wiped-size}
+use Rattle.spec.specs.Access.{Kind, load, store, atomicAdd, Mode, reads, writes, adds, mode, agree}
+use Rattle.spec.specs.Mask.{Mask, maskWord, has, union}
+use Rattle.spec.specs.Limits.{logPerCell}
+use Rattle.spec.specs.Log.{Log, masksOf, logWords, emptyLog, nobody, cleared, withThread, logged, conflicting, testedMask, conflictMask}
+use Rattle.spec.proofs.LogLaws.{same, masks-empty, masks-logged, masks-cleared, wiped-size, tested-size}
 use Rattle.masks.proofs.Words.{word-or, word-set, word-has, word-except}
 use Rattle.layout.specs.Memory.{Masks, LogIs}
-use Rattle.layout.proofs.Buffers.{masks-set, reader-at, writer-at, reader-set, writer-set}
+use Rattle.layout.specs.Logging.{placeOf, wordOf, hasBit}
+use Rattle.layout.proofs.Lists.{map-set}
+use Rattle.layout.proofs.Buffers.{masks-set, mask-at, front-at, behind-at, front-set, behind-set}
+
+-- Masks without a thread.
+nobody-word : (m : Mask) → maskWord (nobody m) ≡ 0
+unfolding maskWord nobody
+nobody-word [] = refl
+nobody-word (b ∷ m) = omega (arith, nobody-word m)
 
 module _ (n k : ℕ) (G : Log) (log : List ℕ) (L : LogIs n k G log) where
-  pub log-size : length log ≡ 2 * k
-  unfolding logWords
+  pub log-size : length log ≡ logPerCell * k
+  unfolding logWords masksOf
   log-size =
-      ap length (L .words-are) ∙ length-append (map maskWord (G .readers)) (map maskWord (G .writers))
+      ap length (L .words-are) ∙ length-append (map maskWord (G .readers)) _
+      ∙ ap (λ z. length (map maskWord (G .readers)) + z) (length-append (map maskWord (G .writers)) (map maskWord (G .adders)))
       ∙ (let a = length-map (G .readers) maskWord in
       let b = length-map (G .writers) maskWord in
-      let c = L .readers-are .count in
-      let d = L .writers-are .count in
+      let c = length-map (G .adders) maskWord in
+      let d = L .masks-are reads .count in
+      let e = L .masks-are writes .count in
+      let f = L .masks-are adds .count in
       omega arith)
 
   module _ (c : ℕ) (h : c < k) where
-    pub reader-size : length (getD (G .readers) c []) ≡ n
-    reader-size = L .readers-are .each c h
+    mask-size : (m : Mode) → length (getD (masksOf G m) c []) ≡ n
+    mask-size m = L .masks-are m .each c h
 
-    pub writer-size : length (getD (G .writers) c []) ≡ n
-    writer-size = L .writers-are .each c h
-
-    pub reader-is : getD log c 0 ≡ maskWord (getD (G .readers) c [])
-    unfolding logWords
-    reader-is = ap (λ z. getD z c 0) (L .words-are) ∙ reader-at (G .readers) (G .writers) k c (L .readers-are .count) h
-
-    pub writer-is : getD log (k + c) 0 ≡ maskWord (getD (G .writers) c [])
-    unfolding logWords
-    writer-is = ap (λ z. getD z (k + c) 0) (L .words-are) ∙ writer-at (G .readers) (G .writers) k c (L .readers-are .count) h
-
-    tested-size : (x : Kind) → length (testedMask G c x) ≡ n
-    unfolding testedMask
-    tested-size load = writer-size
-    tested-size (store v) = union-size (getD (G .writers) c []) (getD (G .readers) c []) (writer-size ∙ sym reader-size) ∙ writer-size
+    -- The word in a mode's place is the cell's mask of that mode.
+    pub word-is : (m : Mode) → wordOf m k c log ≡ maskWord (getD (masksOf G m) c [])
+    unfolding wordOf placeOf masksOf logWords
+    word-is reads = ap (λ z. getD z c 0) (L .words-are) ∙ front-at (G .readers) _ k c (L .masks-are reads .count) h
+    word-is writes =
+        ap (λ z. getD z (k + c) 0) (L .words-are) ∙ behind-at (G .readers) _ k c (L .masks-are reads .count)
+        ∙ front-at (G .writers) _ k c (L .masks-are writes .count) h
+    word-is adds =
+        ap₂ (λ z i. getD z i 0) (L .words-are) third ∙ behind-at (G .readers) _ k (k + c) (L .masks-are reads .count)
+        ∙ behind-at (G .writers) _ k c (L .masks-are writes .count) ∙ mask-at (G .adders) c
+      where
+        third : 2 * k + c ≡ k + (k + c)
+        third = omega arith
 
     pub conflict-size : (t : ℕ) (x : Kind) → length (conflictMask G c t x) ≡ n
     unfolding conflictMask
-    conflict-size t x = length-set (testedMask G c x) t false ∙ tested-size x
+    conflict-size t x = length-set (testedMask G c x) t false ∙ tested-size G c x n mask-size
+
+    -- The word that an access is tested against.
+    pub tested-is : (x : Kind)
+        → bitOr (cond (agree writes (mode x)) 0 (wordOf writes k c log))
+        (bitOr (cond (agree adds (mode x)) 0 (wordOf adds k c log)) (cond (agree reads (mode x)) 0 (wordOf reads k c log)))
+        ≡ maskWord (testedMask G c x)
+    unfolding testedMask
+    tested-is x =
+        ap₂ bitOr (part writes) (ap₂ bitOr (part adds) (part reads) ∙ word-or (conflicting G c adds x) (conflicting G c reads x))
+        ∙ word-or (conflicting G c writes x) (union (conflicting G c adds x) (conflicting G c reads x))
+      where
+        part : (m : Mode) → cond (agree m (mode x)) 0 (wordOf m k c log) ≡ maskWord (conflicting G c m x)
+        part m = unfold conflicting in (by (agree m (mode x)))
+          where
+            by : (b : Bool) → cond b 0 (wordOf m k c log) ≡ maskWord (cond b (nobody (getD (masksOf G m) c [])) (getD (masksOf G m) c []))
+            by true = sym (nobody-word (getD (masksOf G m) c []))
+            by false = word-is m
+
+    -- The other's bit in a mode's word tells whether it is in that mask.
+    pub bit-is : (m : Mode) (u : ℕ) → hasBit u (wordOf m k c log) ≡ has (getD (masksOf G m) c []) u
+    unfolding hasBit
+    bit-is m u =
+        ap (λ z. not (eqb z 0)) (ap (λ z. bitAnd z (2 ^ u)) (word-is m) ∙ word-has (getD (masksOf G m) c []) u)
+        ∙ by (has (getD (masksOf G m) c []) u)
+      where
+        by : (b : Bool) → not (eqb (cond b (2 ^ u) 0) 0) ≡ b
+        by true = ap not (ne-eqb (2 ^ u) 0 (λ e. omega (arith, pow-pos u)))
+        by false = refl
 
     module _ (few : n ≤ 32) (t : ℕ) (l : t < n) where
       -- the word that an access is tested against, without the acting thread's own bit
       pub conflict-is : (x : Kind) (w : ℕ) → w ≡ maskWord (testedMask G c x) → bitAnd w (4294967295 - 2 ^ t) ≡ maskWord (conflictMask G c t x)
       unfolding conflictMask
-      conflict-is x w e = ap (λ z. bitAnd z (4294967295 - 2 ^ t)) e ∙ word-except (testedMask G c x) 32 t (omega (arith, tested-size x)) (omega arith)
+      conflict-is x w e =
+          ap (λ z. bitAnd z (4294967295 - 2 ^ t)) e
+          ∙ word-except (testedMask G c x) 32 t (omega (arith, tested-size G c x n mask-size)) (omega arith)
 
-      pub tested-load : getD log (k + c) 0 ≡ maskWord (testedMask G c load)
-      unfolding testedMask
-      tested-load = writer-is
+      -- An access, logged: the word of its mode is set.
+      abbrev entered : Mode → Mask
+      entered m = set (getD (masksOf G m) c []) t true
 
-      pub tested-store : (v : ℕ) → bitOr (getD log (k + c) 0) (getD log c 0) ≡ maskWord (testedMask G c (store v))
-      unfolding testedMask
-      tested-store v = ap₂ bitOr writer-is reader-is ∙ word-or (getD (G .writers) c []) (getD (G .readers) c [])
+      words-logged : (x : Kind) → set (logWords G) (placeOf (mode x) k c) (maskWord (entered (mode x))) ≡ logWords (logged G c t x)
+      unfolding logged withThread logWords placeOf mode masksOf
+      words-logged load = front-set (G .readers) _ k c (L .masks-are reads .count) _ h
+      words-logged (store v) =
+          behind-set (G .readers) _ k c (L .masks-are reads .count) _
+          ∙ ap (λ z. map maskWord (G .readers) ++ z) (front-set (G .writers) _ k c (L .masks-are writes .count) _ h)
+      words-logged (atomicAdd v) =
+          ap (λ i. set (logWords G) i (maskWord (entered adds))) third ∙ behind-set (G .readers) _ k (k + c) (L .masks-are reads .count) _
+          ∙ ap (λ z. map maskWord (G .readers) ++ z)
+          (behind-set (G .writers) _ k c (L .masks-are writes .count) _ ∙ ap (λ z. map maskWord (G .writers) ++ z) (sym (map-set maskWord (G .adders) c _)))
+        where
+          third : 2 * k + c ≡ k + (k + c)
+          third = omega arith
 
-      -- an access, logged
-      pub logged-load : (e : ℕ) → e ≡ bitOr (getD log c 0) (2 ^ t) → LogIs n k (logged G c t load) (set log c e)
-      unfolding logged withThread logWords
-      logged-load e q =
+      pub logged-is : (x : Kind) (e : ℕ) → e ≡ bitOr (wordOf (mode x) k c log) (2 ^ t) → LogIs n k (logged G c t x) (set log (placeOf (mode x) k c) e)
+      logged-is x e q =
           record {
             words-are =
-                ap₂ (λ y z. set y c z) (L .words-are)
-                (q ∙ ap (λ z. bitOr z (2 ^ t)) reader-is ∙ word-set (getD (G .readers) c []) t (omega (arith, reader-size)))
-                ∙ reader-set (G .readers) (G .writers) k c (L .readers-are .count) h (set (getD (G .readers) c []) t true);
-            readers-are = masks-set n k (G .readers) c _ (L .readers-are) h (length-set (getD (G .readers) c []) t true ∙ reader-size);
-            writers-are = L .writers-are;
+                ap₂ (λ y z. set y (placeOf (mode x) k c) z) (L .words-are)
+                (q ∙ ap (λ z. bitOr z (2 ^ t)) (word-is (mode x)) ∙ word-set (getD (masksOf G (mode x)) c []) t (omega (arith, mask-size (mode x))))
+                ∙ words-logged x;
+            masks-are = λ m. subst (Masks n k) (sym (masks-logged G c t x m)) (by m (same m (mode x)));
           }
-
-      pub logged-store : (v e : ℕ) → e ≡ bitOr (getD log (k + c) 0) (2 ^ t) → LogIs n k (logged G c t (store v)) (set log (k + c) e)
-      unfolding logged withThread logWords
-      logged-store v e q =
-          record {
-            words-are =
-                ap₂ (λ y z. set y (k + c) z) (L .words-are)
-                (q ∙ ap (λ z. bitOr z (2 ^ t)) writer-is ∙ word-set (getD (G .writers) c []) t (omega (arith, writer-size)))
-                ∙ writer-set (G .readers) (G .writers) k c (L .readers-are .count) h (set (getD (G .writers) c []) t true);
-            readers-are = L .readers-are;
-            writers-are = masks-set n k (G .writers) c _ (L .writers-are) h (length-set (getD (G .writers) c []) t true ∙ writer-size);
-          }
-
-    -- the other's bit among the writers tells the kind of a race
-    writer-bit : (u : ℕ) → bitAnd (getD log (k + c) 0) (2 ^ u) ≡ cond (has (getD (G .writers) c []) u) (2 ^ u) 0
-    writer-bit u = ap (λ z. bitAnd z (2 ^ u)) writer-is ∙ word-has (getD (G .writers) c []) u
-
-    pub kind-rw : (v u : ℕ) → bitAnd (getD log (k + c) 0) (2 ^ u) ≡ 0 → raceKind G c u (store v) ≡ ReadWrite
-    unfolding raceKind
-    kind-rw v u z = by (has (getD (G .writers) c []) u) refl
-      where
-        by : (x : Bool) → has (getD (G .writers) c []) u ≡ x → cond (has (getD (G .writers) c []) u) WriteWrite ReadWrite ≡ ReadWrite
-        by true q = absurd (let y : 2 ^ u ≡ 0 = sym (writer-bit u ∙ ap (λ x. cond x (2 ^ u) 0) q) ∙ z in omega (arith, pow-pos u))
-        by false q = ap (λ x. cond x WriteWrite ReadWrite) q
-
-    pub kind-ww : (v u : ℕ) → (bitAnd (getD log (k + c) 0) (2 ^ u) ≡ 0 → ⊥) → raceKind G c u (store v) ≡ WriteWrite
-    unfolding raceKind
-    kind-ww v u z = by (has (getD (G .writers) c []) u) refl
-      where
-        by : (x : Bool) → has (getD (G .writers) c []) u ≡ x → cond (has (getD (G .writers) c []) u) WriteWrite ReadWrite ≡ WriteWrite
-        by true q = ap (λ x. cond x WriteWrite ReadWrite) q
-        by false q = absurd (z (writer-bit u ∙ ap (λ x. cond x (2 ^ u) 0) q))
+        where
+          by : (m : Mode) (b : Bool) → Masks n k (cond b (withThread (masksOf G m) c t) (masksOf G m))
+          by m true = unfold withThread in (masks-set n k (masksOf G m) c _ (L .masks-are m) h (length-set (getD (masksOf G m) c []) t true ∙ mask-size m))
+          by m false = L .masks-are m
 
 -- The buffer with one more word put to 0, and with all.
 pub cleared-more : (l : List ℕ) (i : ℕ) → i < length l → ((j : ℕ) → j < i → getD l j 0 ≡ 0) → (j : ℕ) → j < i + 1 → getD (set l i 0) j 0 ≡ 0
@@ -124,56 +144,48 @@ pub cleared-all : (l : List ℕ) (n : ℕ) → length l ≡ n → ((j : ℕ) →
 cleared-all l n e p =
     ext-getD 0 l (replicate n 0) (e ∙ sym (length-replicate n 0)) (λ j h. p j (omega arith) ∙ sym (getD-replicate n j 0 0 (omega arith)))
 
--- Masks without a thread.
-zero-word : (m : Mask) → maskWord (map (λ b. false) m) ≡ 0
-unfolding maskWord
-zero-word [] = refl
-zero-word (b ∷ m) = omega (arith, zero-word m)
+-- The words of masks without a thread.
+nobody-words : (ms : List Mask) → map maskWord (map nobody ms) ≡ replicate (length ms) 0
+nobody-words [] = refl
+nobody-words (m ∷ ms) = ap₂ (λ x y. x ∷ y) (nobody-word m) (nobody-words ms)
 
-zero-words : (ms : List Mask) → map maskWord (map (map (λ b. false)) ms) ≡ replicate (length ms) 0
-zero-words [] = refl
-zero-words (m ∷ ms) = ap₂ (λ x y. x ∷ y) (zero-word m) (zero-words ms)
-
-empty-mask : (n : ℕ) → map (λ b. false) (replicate n false) ≡ replicate n false
-empty-mask zero = refl
-empty-mask (suc n) = ap (λ l. false ∷ l) (empty-mask n)
-
-cleared-masks : (n k : ℕ) (ms : List Mask) → Masks n k ms → Masks n k (map (map (λ b. false)) ms)
-cleared-masks n k ms M =
-    record { count = length-map ms (map (λ b. false)) ∙ M .count; each = λ c h. wiped-size ms c ∙ M .each c h }
+-- Three times k words.
+thrice : (k : ℕ) → _≡_ {A = List ℕ} (replicate (logPerCell * k) 0) (replicate k 0 ++ (replicate k 0 ++ replicate k 0))
+thrice k =
+    ap (λ j. replicate j 0) (let z : logPerCell * k ≡ k + (k + k) = omega arith in z) ∙ sym (replicate-append-replicate k (k + k) 0)
+    ∙ ap (λ z. replicate k 0 ++ z) (sym (replicate-append-replicate k k 0))
 
 -- A log put to 0 is the cleared one, whatever it was.
 pub cleared-is : (n k : ℕ) (G : Log) (log log′ : List ℕ) → LogIs n k G log → log′ ≡ replicate (length log) 0 → LogIs n k (cleared G) log′
-unfolding cleared logWords
 cleared-is n k G log log′ L e =
     record {
-      words-are = e ∙ ap (λ j. replicate j 0) (log-size n k G log L ∙ twice) ∙ sym (replicate-append-replicate k k 0)
-          ∙ sym (ap₂ _++_ (zero-words (G .readers) ∙ ap (λ j. replicate j 0) (L .readers-are .count))
-          (zero-words (G .writers) ∙ ap (λ j. replicate j 0) (L .writers-are .count)));
-      readers-are = cleared-masks n k (G .readers) (L .readers-are);
-      writers-are = cleared-masks n k (G .writers) (L .writers-are);
+      words-are = e ∙ ap (λ j. replicate j 0) (log-size n k G log L) ∙ thrice k
+          ∙ sym (unfold cleared logWords masksOf in (ap₂ _++_ (zero reads) (ap₂ _++_ (zero writes) (zero adds))));
+      masks-are = λ m. subst (Masks n k) (sym (masks-cleared G m))
+          (record { count = length-map (masksOf G m) nobody ∙ L .masks-are m .count; each = λ c h. wiped-size (masksOf G m) c ∙ L .masks-are m .each c h });
     }
   where
-    twice : 2 * k ≡ k + k
-    twice = omega arith
+    zero : (m : Mode) → map maskWord (map nobody (masksOf G m)) ≡ replicate k 0
+    zero m = nobody-words (masksOf G m) ∙ ap (λ j. replicate j 0) (L .masks-are m .count)
 
 -- And at the start it is the empty one.
 empty-masks : (n k : ℕ) → Masks n k (replicate k (replicate n false))
 empty-masks n k =
     record { count = length-replicate k (replicate n false); each = λ c h. ap length (getD-replicate k c (replicate n false) [] h) ∙ length-replicate n false }
 
+nobody-empty : (n : ℕ) → nobody (replicate n false) ≡ replicate n false
+unfolding nobody
+nobody-empty zero = refl
+nobody-empty (suc n) = ap (λ l. false ∷ l) (nobody-empty n)
+
 empty-words : (n k : ℕ) → map maskWord (replicate k (replicate n false)) ≡ replicate k 0
 empty-words n zero = refl
-empty-words n (suc k) = ap₂ (λ x y. x ∷ y) (ap maskWord (sym (empty-mask n)) ∙ zero-word (replicate n false)) (empty-words n k)
+empty-words n (suc k) = ap₂ (λ x y. x ∷ y) (ap maskWord (sym (nobody-empty n)) ∙ nobody-word (replicate n false)) (empty-words n k)
 
-pub empty-is : (n k : ℕ) (log : List ℕ) → log ≡ replicate (2 * k) 0 → LogIs n k (emptyLog n k) log
-unfolding emptyLog logWords
+pub empty-is : (n k : ℕ) (log : List ℕ) → log ≡ replicate (logPerCell * k) 0 → LogIs n k (emptyLog n k) log
 empty-is n k log e =
     record {
-      words-are = e ∙ ap (λ j. replicate j 0) twice ∙ sym (replicate-append-replicate k k 0) ∙ sym (ap₂ _++_ (empty-words n k) (empty-words n k));
-      readers-are = empty-masks n k;
-      writers-are = empty-masks n k;
+      words-are = e ∙ thrice k
+          ∙ sym (unfold emptyLog logWords in (ap₂ _++_ (empty-words n k) (ap₂ _++_ (empty-words n k) (empty-words n k))));
+      masks-are = λ m. subst (Masks n k) (sym (masks-empty n k m)) (empty-masks n k);
     }
-  where
-    twice : 2 * k ≡ k + k
-    twice = omega arith

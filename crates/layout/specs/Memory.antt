@@ -7,11 +7,14 @@ use lib.Bits.{bitAnd}
 use lib.Dec.{eqb}
 use lib.ListN.{length, getD, set}
 use Rattle.spec.specs.Mask.{Mask, maskWord, members, nonzero}
-use Rattle.spec.specs.Log.{Log, logWords}
+use Rattle.spec.specs.Access.{Mode}
+use Rattle.spec.specs.Limits.{logPerCell}
+use Rattle.spec.specs.Log.{Log, masksOf, logWords}
 use Rattle.spec.specs.Op.{Calc, CALC, Mem, MEM, opOf, value}
 use Rattle.spec.specs.Table.{Row}
 use Rattle.spec.specs.LockStep.{LockState, Step, continues, stops, inTurn, accessTurn}
 use Rattle.spec.specs.Shape.{Shape}
+use Rattle.spec.specs.Word.{add}
 use Rattle.layout.specs.declared.Access.{Access}
 use Rattle.layout.specs.declared.Access.the-variants.{Done, Stop}
 use Rattle.layout.specs.declared.Turns.{Turns}
@@ -31,8 +34,7 @@ pub record Masks (n k : ℕ) (ms : List Mask) : Type 0 where
 -- The log buffer of k cells.
 pub record LogIs (n k : ℕ) (G : Log) (log : List ℕ) : Type 0 where
   pub words-are : log ≡ logWords G
-  pub readers-are : Masks n k (G .readers)
-  pub writers-are : Masks n k (G .writers)
+  pub masks-are : (m : Mode) → Masks n k (masksOf G m)
 
 pub record Memory (n : ℕ) (s : LockState) (regs cells log : List ℕ) : Type 0 where
   pub few : n ≤ 32
@@ -132,10 +134,10 @@ pub record InMemory (n : ℕ) (regs cells log : List ℕ) : Type 0 where
 -- What an access row asks.
 pub record AccessAsks (op d a : ℕ) (cells log : List ℕ) : Type 0 where
   pub known : 16 ≤ op
-  pub small : op ≤ 17
+  pub small : op ≤ 18
   pub target : d < 16
   pub source : a < 16
-  pub twice : length log ≡ 2 * length cells
+  pub sized : length log ≡ logPerCell * length cells
   pub cells-few : length cells ≤ 1024
 
 -- The launch's shape, by the code's numbers.
@@ -153,15 +155,26 @@ AccessAll op n mask d a regs cells log r regs′ cells′ log′ =
     (m : Mem) (x : Row) → opOf op ≡ MEM m → x .d ≡ d → x .a ≡ a
     → AllTurns (accessTurn (shapeBy n cells) m x) n mask regs cells log (r .access) (r .steps) regs′ cells′ log′
 
--- A LOAD moves cell i to place `to` of the registers, a STORE place `from` to cell i.
+-- What a row's accesses ask, and what they come to.
+abbrev pub AccessRowAsks : (op n d a : ℕ) → (regs cells log : List ℕ) → Type 0
+AccessRowAsks op n d a regs cells log = AccessAsks op d a cells log × InMemory n regs cells log
+
+abbrev pub AccessRow : (op n mask d a : ℕ) → (regs cells log : List ℕ) → Turns → (regs′ cells′ log′ : List ℕ) → Type 0
+AccessRow op n mask d a regs cells log r regs′ cells′ log′ =
+    (r .steps ≤ 32) × AccessAll op n mask d a regs cells log r regs′ cells′ log′ × KeptBut d n regs regs′
+
+-- A LOAD moves cell i to place `to` of the registers; a STORE moves place `from` to cell i, an ATOMIC ADD adds it there.
+unfoldable pub cellBy : (op old word : ℕ) → ℕ
+cellBy op old word = cond (eqb op 17) word (add old word)
+
 pub record Transferred (op to from i : ℕ) (regs cells regs′ cells′ : List ℕ) : Type 0 where
   pub load-regs : op ≡ 16 → regs′ ≡ set regs to (getD cells i 0)
   pub load-cells : op ≡ 16 → cells′ ≡ cells
-  pub store-regs : (op ≡ 16 → ⊥) → regs′ ≡ regs
-  pub store-cells : (op ≡ 16 → ⊥) → cells′ ≡ set cells i (getD regs from 0)
+  pub other-regs : (op ≡ 16 → ⊥) → regs′ ≡ regs
+  pub other-cells : (op ≡ 16 → ⊥) → cells′ ≡ set cells i (cellBy op (getD cells i 0) (getD regs from 0))
 
 -- The register with the cell's number.
 pub record CellRegister (op d a r : ℕ) : Type 0 where
   pub small : r < 16
   pub of-load : op ≡ 16 → r ≡ a
-  pub of-store : (op ≡ 16 → ⊥) → r ≡ d
+  pub of-other : (op ≡ 16 → ⊥) → r ≡ d

@@ -9,6 +9,7 @@ use Rattle.spec.specs.declared.Outcome.{Outcome}
 use Rattle.spec.specs.Op.{WHILE, opOf}
 use Rattle.spec.specs.Table.{Table, Row, rowsOf, rowAt, endOf}
 use Rattle.spec.specs.TableCheck.{tableRefusal}
+use Rattle.spec.specs.Limits.{logPerCell}
 use Rattle.spec.specs.Log.{logWords}
 use Rattle.spec.specs.LockStep.{LockState, runRow, LockResult, outcomeOf}
 use Rattle.layout.specs.declared.State.{State}
@@ -20,7 +21,7 @@ use Rattle.layout.specs.Constructs.{savedAfter, openersAfter}
 -- What the bytes of a row ask.
 pub record RowAsks (op d a b : ℕ) : Type 0 where
   pub computes : op < 16 → ComputeAsks op d a b
-  pub accesses : 16 ≤ op → op < 32 → (op ≤ 17) × (d < 16) × (a < 16)
+  pub accesses : 16 ≤ op → op < 32 → (op ≤ 18) × (d < 16) × (a < 16)
   pub ifs : op ≡ 32 → a < 16
   pub whiles : op ≡ 35 → a < 16
   pub known : op ≤ 37
@@ -34,7 +35,7 @@ pub record Ready (table ends : List ℕ) (n : ℕ) (s : State) (regs cells log s
   pub depths : DepthAsks (getD table (s .row * 4) 0) s openers
   pub ends-right : rowAt (rowsOf table) (s .row) .op ≡ WHILE → getD ends (s .row) 0 ≡ endOf (rowsOf table) (s .row)
   pub stands : Standing n s regs cells log saved openers
-  pub twice : length log ≡ 2 * length cells
+  pub sized : length log ≡ logPerCell * length cells
   pub cells-few : length cells ≤ 1024
 
 -- A table that is not refused, with the rows of its loops' ends.

@@ -1,5 +1,6 @@
 // The run's own state, and how its buffers stand for the lock-step definition's (specs/). No functions.
-// regs holds register r of thread t at r * 32 + t; log holds all reader masks, then all writer masks;
+// regs holds register r of thread t at r * 32 + t; log holds all reader masks, then all writer masks,
+// then all adder masks;
 // saved and openers hold the mask and the row of each open construct, the innermost last below the depth.
 
 // What an access comes to.

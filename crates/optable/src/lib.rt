@@ -34,8 +34,8 @@ const FORMS: [u8; 256] = [
     0, // 15
     4, // 16 LOAD
     4, // 17 STORE
-    0, // 18 and on
-    0,
+    4, // 18 ATOMIC ADD
+    0, // 19 and on
     0,
     0,
     0,

@@ -6,7 +6,7 @@ use native.Mathlib.Omega.{arith}
 use borrow.Author.Tests.{ne-eqb}
 use lib.Dec.{eqb}
 use Rattle.spec.specs.declared.AccessKind.{AccessKind}
-use Rattle.spec.specs.declared.AccessKind.the-variants.{ReadWrite, WriteRead, WriteWrite}
+use Rattle.spec.specs.declared.AccessKind.the-variants.{ReadWrite, WriteRead, WriteWrite, ReadAdd, AddRead, WriteAdd, AddWrite}
 use Rattle.spec.specs.declared.Verdict.{Verdict}
 use Rattle.spec.specs.declared.Verdict.the-variants.{Passed, Race, Outside, Diverged, Spent}
 use Rattle.spec.specs.declared.Value.{Value}
@@ -36,6 +36,10 @@ unfolding kindText every noNewline text
 kind-clean ReadWrite = refl
 kind-clean WriteRead = refl
 kind-clean WriteWrite = refl
+kind-clean ReadAdd = refl
+kind-clean AddRead = refl
+kind-clean WriteAdd = refl
+kind-clean AddWrite = refl
 
 pub value-clean : (v : Value) → every noNewline (valueText v) ≡ true
 unfolding valueText every noNewline text

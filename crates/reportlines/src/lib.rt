@@ -62,9 +62,9 @@ pub fn put(src: &[u8], out: &mut [u8]) -> usize
     i
 }
 
-const WORDS: [u8; 43] = *b"-passedraceoutsidedivergedspentrwwrwwreport";
+const WORDS: [u8; 51] = *b"-passedraceoutsidedivergedspentrwwrwwraarwaawreport";
 
-const STARTS: [usize; 11] = [0, 1, 7, 11, 18, 26, 31, 33, 35, 37, 43];
+const STARTS: [usize; 15] = [0, 1, 7, 11, 18, 26, 31, 33, 35, 37, 39, 41, 43, 45, 51];
 
 fn verdict_word(verdict: Verdict) -> usize
     ensures { λ r. ⌜ IsWord r (verdictText verdict) ⌝ }
@@ -85,6 +85,10 @@ fn kind_word(kind: AccessKind) -> usize
         AccessKind::ReadWrite => 6,
         AccessKind::WriteRead => 7,
         AccessKind::WriteWrite => 8,
+        AccessKind::ReadAdd => 9,
+        AccessKind::AddRead => 10,
+        AccessKind::WriteAdd => 11,
+        AccessKind::AddWrite => 12,
     }
 }
 
@@ -96,7 +100,7 @@ fn spelled(value: Value) -> Spelling
         Value::Number(n) => Spelling::Digits(n),
         Value::Verdict(v) => Spelling::Word(verdict_word(v)),
         Value::Kind(k) => Spelling::Word(kind_word(k)),
-        Value::Report => Spelling::Word(9),
+        Value::Report => Spelling::Word(13),
     }
 }
 

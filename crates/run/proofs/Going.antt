@@ -8,6 +8,7 @@ use native.Mathlib.Omega.{arith}
 use native.Mathlib.Decide.{ℕ-discrete}
 use borrow.Author.Tests.{le-leb, lt-leb}
 use lib.ListN.{length, getD, replicate, length-replicate, getD-replicate}
+use Rattle.spec.specs.Limits.{logPerCell}
 use Rattle.spec.specs.declared.Verdict.{Verdict}
 use Rattle.spec.specs.declared.Verdict.the-variants.{Passed, Spent}
 use Rattle.spec.specs.declared.Outcome.{Outcome}
@@ -60,7 +61,7 @@ start-regs n l =
     }
 
 pub go-start : (table ends : List ℕ) (n limit m : ℕ) (cells log : List ℕ) → Runnable table ends → n ≤ 32 → m ≡ 2 ^ n - 1
-    → length log ≡ 2 * length cells → (log′ : List ℕ) → log′ ≡ replicate (length log) 0
+    → length log ≡ logPerCell * length cells → (log′ : List ℕ) → log′ ≡ replicate (length log) 0
     → Going table n limit cells (record { row = 0; mask = m; depth = 0; rows = 0; steps = 0; barriers = 0 }) (replicate 512 0) cells log′
     (replicate 8 0) (replicate 8 0)
 unfolding initialState lockstep shapeOf
@@ -263,7 +264,7 @@ module _ (table ends : List ℕ) (n limit : ℕ) (cells₀ : List ℕ) (s : Stat
                   ∙ top-cons _ _ ∙ p ∙ sym (G .rep .row-is),
             )
 
-    pub go-ready : 1 ≤ n → limit ≤ 1000000 → length log ≡ 2 * length cells → length cells ≤ 1024 → Ready table ends n s regs cells log saved openers
+    pub go-ready : 1 ≤ n → limit ≤ 1000000 → length log ≡ logPerCell * length cells → length cells ≤ 1024 → Ready table ends n s regs cells log saved openers
     go-ready o lim lg lc =
         record {
           some = o;
@@ -282,7 +283,7 @@ module _ (table ends : List ℕ) (n limit : ℕ) (cells₀ : List ℕ) (s : Stat
           };
           ends-right = A .ends-are (s .row) inside;
           stands = record { state = G .here; rep = G .rep };
-          twice = lg;
+          sized = lg;
           cells-few = lc;
         }
 

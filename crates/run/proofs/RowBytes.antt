@@ -84,7 +84,7 @@ low : ℕ → Form → Bool
 low k f = leb 1 k && (leb k 14 && (usesD f && (ltb k 4 || (usesA f && usesB f))))
 
 middle : ℕ → Form → Bool
-middle k f = leb k 17 && (usesD f && usesA f)
+middle k f = leb k 18 && (usesD f && usesA f)
 
 high : ℕ → Form → Bool
 high k f = leb k 37 && (cond (eqb k 32) (usesA f) true && cond (eqb k 35) (usesA f) true)
@@ -151,12 +151,12 @@ module _ (k d a b : ℕ) (known : isKnown (opOf k) ≡ true) (fit : operandsFit 
         right = λ l. regs .inB (and-right (usesA f) (usesB f) (both l u));
       }
 
-  accessing : 16 ≤ k → k < 32 → (k ≤ 17) × (d < 16) × (a < 16)
+  accessing : 16 ≤ k → k < 32 → (k ≤ 18) × (d < 16) × (a < 16)
   unfolding middle
   accessing h l =
       let e = in-middle h l in
-      let g = and-right (leb k 17) _ e in
-      (leb-true _ _ (and-left (leb k 17) _ e), regs .inD (and-left (usesD f) _ g), regs .inA (and-right (usesD f) _ g))
+      let g = and-right (leb k 18) _ e in
+      (leb-true _ _ (and-left (leb k 18) _ e), regs .inD (and-left (usesD f) _ g), regs .inA (and-right (usesD f) _ g))
 
   testing : (j : ℕ) → k ≡ j → cond (eqb k j) (usesA f) true ≡ true → a < 16
   testing j e q = regs .inA (sym (ap (λ z. cond z (usesA f) true) (eq-eqb k j e)) ∙ q)

@@ -2,6 +2,7 @@
 ghost use mathlib.Core.Path.{_≡_};
 ghost use Prim.Native.Nat.{_*_, _≤_};
 ghost use lib.ListN.{length};
+ghost use Rattle.spec.specs.Limits.{logPerCell};
 ghost use Rattle.spec.specs.Table.{rowsOf};
 ghost use Rattle.spec.specs.LockStep.{lockstep};
 ghost use Rattle.layout.specs.Running.{Runnable, RunIs, endedAs};
@@ -29,7 +30,7 @@ pub fn run(
     log: &mut [u32],
 ) -> spec::Outcome
     requires { ⌜ Runnable (now table) (now ends) × (1 ≤ n) × (n ≤ 32) × (limit ≤ 1000000)
-        × (length (now log) ≡ 2 * length (now cells)) × (length (now cells) ≤ 1024) ⌝ }
+        × (length (now log) ≡ logPerCell * length (now cells)) × (length (now cells) ≤ 1024) ⌝ }
     ensures { λ r. ⌜ RunIs (lockstep (rowsOf (now (table .entry))) n (now (cells .entry)) limit) r (now (cells .exit)) (now (log .exit)) ⌝ }
 {
     let count = table.len() / 4;

@@ -1,7 +1,7 @@
 -- Opens every definition of specs/ at once, so that an example is computed. Assumes nothing.
 use Rattle.spec.specs.Answers.{refusalNumber, refusalPlace, named, told, toldBy, toldIn, unless, orElse, first}
 use Rattle.spec.specs.Lists.{anyOf, every, equalList}
-use Rattle.spec.specs.Access.{cellAfter, registersAfter, compatible, conflict}
+use Rattle.spec.specs.Access.{cellAfter, registersAfter, mode, agree, conflict}
 use Rattle.spec.specs.Op.{opTable, opOf, form, formOf, isRegister, isUnused, operandsFit, value}
 use Rattle.spec.specs.Table.{rowOf, rowsOf, noRow, rowAt, cellByte, kindOf, role, openedBy, openBefore, scanRow, scan, endOf, pastElse, elseOf}
 use Rattle.spec.specs.Table.{startOf, innermost}
@@ -10,7 +10,7 @@ use Rattle.spec.specs.TableCheck.{opener, isKnown, elseFits, endifFits, 
 use Rattle.spec.specs.TableCheck.{rowsRefusal, tableRefusal}
 use Rattle.spec.specs.Mask.{maskWord, has, membersFrom, members, any, full, minus, union, lowest, nonzero, holding}
 use Rattle.spec.specs.Shape.{shapeOf, total, bound, address}
-use Rattle.spec.specs.Log.{logWords, emptyLog, cleared, withThread, logged, testedMask, conflictMask, raceKind}
+use Rattle.spec.specs.Log.{masksOf, logWords, emptyLog, nobody, cleared, withThread, logged, conflicting, testedMask, conflictMask, raceKind}
 use Rattle.spec.specs.LockStep as lockStep
 use Rattle.spec.specs.LockStep.{initialState, andThen, inTurn, advance, update, setReg, computeTurn, madeAccess, tryAccess, accessTurn}
 use Rattle.spec.specs.LockStep.{forEnabled, countSteps, topMask, topOpener, pop, ifRow, elseRow, endifRow, savedAtWhile, leaveOrStay, whileRow}
@@ -32,19 +32,20 @@ use Rattle.spec.specs.Entries.{launchReport, reportLength, fileAnswer, i
 use Rattle.spec.specs.Entries.{checkedRefusal, checkPrints, subjectOf}
 use Rattle.spec.specs.Examples.{withNewlines, lines, examples}
 use Rattle.spec.specs.RunExamples.{runExamples}
+use Rattle.spec.specs.AddExamples.{addExamples}
 
 -- Whoever unfolds this unfolds them all.
 unfoldable pub computing : Unit {0}
 unfolding refusalNumber refusalPlace named told toldBy toldIn unless orElse first
     anyOf every equalList
-    cellAfter registersAfter compatible conflict
+    cellAfter registersAfter mode agree conflict
     opTable opOf form formOf isRegister isUnused operandsFit value
     rowOf rowsOf noRow rowAt cellByte kindOf role openedBy openBefore scanRow scan endOf pastElse elseOf startOf innermost
     bodyRows constructRows bodyDepth constructDepth
     opener isKnown elseFits endifFits endwhileFits fits shallow divided openAfter rowRefusal leftOpen rowsRefusal tableRefusal
     maskWord has membersFrom members any full minus union lowest nonzero holding
     shapeOf total bound address
-    logWords emptyLog cleared withThread logged testedMask conflictMask raceKind
+    masksOf logWords emptyLog nobody cleared withThread logged conflicting testedMask conflictMask raceKind
     lockStep.reg initialState andThen inTurn advance update setReg computeTurn madeAccess tryAccess accessTurn forEnabled countSteps
     topMask topOpener pop ifRow elseRow endifRow savedAtWhile leaveOrStay whileRow endwhileRow passBarrier barrierRow runRow resultOf
     runFrom lockstep outcomeOf countedAt countedAfter countedFrom countedBarriers
@@ -61,5 +62,5 @@ unfolding refusalNumber refusalPlace named told toldBy toldIn unless orElse firs
     over bareNumbers bareLent bareRefusal bareRun answerOf keptIf bareAnswer bareCells bareLog cellsReported writerRefusal writtenOf
     writerAnswer writerBuffer fileLent andState fileChecked launchRun launchReport reportLength fileAnswer ifAccepted fileCellsAfter
     fileLogAfter fileOutputAfter printed checkPrints checkedRefusal subjectOf
-    withNewlines lines examples runExamples
+    withNewlines lines examples runExamples addExamples
 computing = tt

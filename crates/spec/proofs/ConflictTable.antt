@@ -3,13 +3,14 @@ use mathlib.Core.Path.{_≡_, refl}
 use mathlib.Core.List.{List, [], _∷_, map}
 use mathlib.Core.Bool.{Bool, true, false}
 use Prim.Native.Nat.{ℕ}
-use Rattle.spec.specs.Access.{Kind, load, store, conflict}
+use lib.ListN.{replicate}
+use Rattle.spec.specs.Access.{Kind, load, store, atomicAdd, conflict}
 use Rattle.spec.specs.Log.{emptyLog, logged, conflictMask}
 use Rattle.spec.specs.Mask.{any}
 use Rattle.spec.specs.Threads.{emptyRecord, recorded, races}
 use Rattle.spec.proofs.Computing.{computing}
 
--- An earlier access and a later one, both of cell 3 but for the last pair.
+-- An earlier access of cell 3, and a later one of `cell`.
 pub record Pair : Type 0 where
   pub earlier : Kind
   pub later : Kind
@@ -23,11 +24,24 @@ pairs =
     ∷ record { earlier = store 9; later = store 9; cell = 3 }
     ∷ record { earlier = store 9; later = store 8; cell = 3 }
     ∷ record { earlier = store 9; later = store 8; cell = 2 }
+    ∷ record { earlier = load; later = atomicAdd 9; cell = 3 }
+    ∷ record { earlier = atomicAdd 9; later = load; cell = 3 }
+    ∷ record { earlier = store 9; later = atomicAdd 9; cell = 3 }
+    ∷ record { earlier = atomicAdd 9; later = store 9; cell = 3 }
+    ∷ record { earlier = atomicAdd 9; later = atomicAdd 9; cell = 3 }
+    ∷ record { earlier = atomicAdd 9; later = atomicAdd 8; cell = 3 }
+    ∷ record { earlier = load; later = atomicAdd 0; cell = 3 }
+    ∷ record { earlier = atomicAdd 0; later = store 0; cell = 3 }
+    ∷ record { earlier = atomicAdd 9; later = load; cell = 2 }
+    ∷ record { earlier = store 9; later = atomicAdd 9; cell = 2 }
     ∷ []
 
--- Two loads agree; a load and a store, and any two stores, conflict; accesses of different cells do not.
+-- Two loads agree; a load and a store, and any two stores, conflict; accesses of different cells do not. An add conflicts with a load and a store,
+-- also where it adds 0, and not with an add.
 unfoldable pub truth : List Bool
-truth = false ∷ true ∷ true ∷ true ∷ true ∷ false ∷ []
+truth =
+    false ∷ true ∷ true ∷ true ∷ true ∷ false
+    ∷ true ∷ true ∷ true ∷ true ∷ false ∷ false ∷ true ∷ true ∷ false ∷ false ∷ []
 
 -- The rule itself.
 pub by-rule : map (λ p. conflict (record { cell = p .cell; kind = p .later }) (record { cell = 3; kind = p .earlier })) pairs ≡ truth
@@ -52,7 +66,7 @@ by-log = refl
 
 -- A thread never conflicts with itself.
 unfoldable pub noConflict : List Bool
-noConflict = false ∷ false ∷ false ∷ false ∷ false ∷ false ∷ []
+noConflict = replicate 16 false
 
 pub own-record : map (recordTest 0) pairs ≡ noConflict
 unfolding computing pairs noConflict recordTest

@@ -43,22 +43,24 @@ pub bare-order : map toldAs
 unfolding computing orZero toldAs
 bare-order = refl
 
--- The lent lengths of a launch of 3 cells: as many words as cells, twice as many for the log; 20 before 21.
-pub bare-lengths : map toldAs (bareLent 3 3 6 ∷ bareLent 3 2 6 ∷ bareLent 3 4 6 ∷ bareLent 3 3 5 ∷ bareLent 3 3 7 ∷ bareLent 3 3 3 ∷ bareLent 3 2 5 ∷ bareLent 3 4 3 ∷ []) ≡
-    (0, 0) ∷ (20, 0) ∷ (20, 0) ∷ (21, 0) ∷ (21, 0) ∷ (21, 0) ∷ (20, 0) ∷ (20, 0) ∷ []
+-- The lent lengths of a launch of 3 cells: as many words as cells, three times as many for the log; 20 before 21.
+pub bare-lengths : map toldAs
+    (bareLent 3 3 9 ∷ bareLent 3 2 9 ∷ bareLent 3 4 9 ∷ bareLent 3 3 8 ∷ bareLent 3 3 10 ∷ bareLent 3 3 3 ∷ bareLent 3 3 6 ∷ bareLent 3 2 8 ∷ bareLent 3 4 3 ∷ []) ≡
+    (0, 0) ∷ (20, 0) ∷ (20, 0) ∷ (21, 0) ∷ (21, 0) ∷ (21, 0) ∷ (21, 0) ∷ (20, 0) ∷ (20, 0) ∷ []
 unfolding computing orZero toldAs
 bare-lengths = refl
 
 -- Numbers before rows, rows before lent lengths: 10 and 3; 3 and 20; 7 and 21; 20 and 21.
 pub bare-stages : map toldAs
-    (bareRefusal (0 ∷ 0 ∷ 0 ∷ 0 ∷ []) 1 1 1000001 (7 ∷ []) (7 ∷ 7 ∷ [])
+    (bareRefusal (0 ∷ 0 ∷ 0 ∷ 0 ∷ []) 1 1 1000001 (7 ∷ []) (7 ∷ 7 ∷ 7 ∷ [])
     ∷ bareRefusal (0 ∷ 0 ∷ 0 ∷ 0 ∷ []) 1 1 0 [] []
     ∷ bareRefusal (37 ∷ 0 ∷ 0 ∷ 0 ∷ 32 ∷ 0 ∷ 0 ∷ 0 ∷ []) 1 1 0 (7 ∷ []) []
     ∷ bareRefusal (37 ∷ 0 ∷ 0 ∷ 0 ∷ []) 1 1 0 [] []
     ∷ bareRefusal (37 ∷ 0 ∷ 0 ∷ 0 ∷ []) 1 1 0 (7 ∷ []) []
     ∷ bareRefusal (37 ∷ 0 ∷ 0 ∷ 0 ∷ []) 1 1 0 (7 ∷ []) (7 ∷ 7 ∷ [])
+    ∷ bareRefusal (37 ∷ 0 ∷ 0 ∷ 0 ∷ []) 1 1 0 (7 ∷ []) (7 ∷ 7 ∷ 7 ∷ [])
     ∷ [])
-    ≡ (10, 0) ∷ (3, 0) ∷ (7, 1) ∷ (20, 0) ∷ (21, 0) ∷ (0, 0) ∷ []
+    ≡ (10, 0) ∷ (3, 0) ∷ (7, 1) ∷ (20, 0) ∷ (21, 0) ∷ (21, 0) ∷ (0, 0) ∷ []
 unfolding computing orZero toldAs
 bare-stages = refl
 
@@ -70,22 +72,29 @@ bareLaunch table threads cells limit lentCells lentLog = (
 )
 
 -- Three threads, TID, STORE of each thread's number: what was in the log is not read, and what was in the cells is the launch's.
-pub bare-passed : bareLaunch (2 ∷ 0 ∷ 0 ∷ 0 ∷ 17 ∷ 0 ∷ 0 ∷ 0 ∷ []) 3 4 2 (5 ∷ 6 ∷ 7 ∷ 8 ∷ []) (replicate 8 9) ≡ (
+pub bare-passed : bareLaunch (2 ∷ 0 ∷ 0 ∷ 0 ∷ 17 ∷ 0 ∷ 0 ∷ 0 ∷ []) 3 4 2 (5 ∷ 6 ∷ 7 ∷ 8 ∷ []) (replicate 12 9) ≡ (
   answer.Ran (record { verdict = Passed; row = 2; rows = 2; steps = 6; barriers = 0 }),
-  (0 ∷ 1 ∷ 2 ∷ 8 ∷ [], 0 ∷ 0 ∷ 0 ∷ 0 ∷ 1 ∷ 2 ∷ 4 ∷ 0 ∷ []),
+  (0 ∷ 1 ∷ 2 ∷ 8 ∷ [], 0 ∷ 0 ∷ 0 ∷ 0 ∷ 1 ∷ 2 ∷ 4 ∷ 0 ∷ 0 ∷ 0 ∷ 0 ∷ 0 ∷ []),
 )
 unfolding computing bareLaunch
 bare-passed = refl
 
 -- Thread 1 stops at its STORE; thread 0's has been made.
-pub bare-race : bareLaunch (2 ∷ 1 ∷ 0 ∷ 0 ∷ 37 ∷ 0 ∷ 0 ∷ 0 ∷ 17 ∷ 0 ∷ 1 ∷ 0 ∷ []) 3 2 10 (5 ∷ 6 ∷ []) (replicate 4 9) ≡
-    (answer.Ran (record { verdict = Race 1 0 WriteWrite 0; row = 2; rows = 2; steps = 4; barriers = 1 }), (0 ∷ 6 ∷ [], 0 ∷ 0 ∷ 1 ∷ 0 ∷ []))
+pub bare-race : bareLaunch (2 ∷ 1 ∷ 0 ∷ 0 ∷ 37 ∷ 0 ∷ 0 ∷ 0 ∷ 17 ∷ 0 ∷ 1 ∷ 0 ∷ []) 3 2 10 (5 ∷ 6 ∷ []) (replicate 6 9) ≡
+    (answer.Ran (record { verdict = Race 1 0 WriteWrite 0; row = 2; rows = 2; steps = 4; barriers = 1 }), (0 ∷ 6 ∷ [], 0 ∷ 0 ∷ 1 ∷ 0 ∷ 0 ∷ 0 ∷ []))
 unfolding computing bareLaunch
 bare-race = refl
 
+-- All three add their numbers plus 1 to cell 1: the adders stand in the last third of the log.
+pub bare-added : bareLaunch
+    (2 ∷ 0 ∷ 0 ∷ 0 ∷ 1 ∷ 1 ∷ 1 ∷ 0 ∷ 4 ∷ 2 ∷ 0 ∷ 1 ∷ 18 ∷ 1 ∷ 2 ∷ 0 ∷ []) 3 2 10 (5 ∷ 6 ∷ []) (replicate 6 9)
+    ≡ (answer.Ran (record { verdict = Passed; row = 4; rows = 4; steps = 12; barriers = 0 }), (5 ∷ 12 ∷ [], 0 ∷ 0 ∷ 0 ∷ 0 ∷ 0 ∷ 7 ∷ []))
+unfolding computing bareLaunch
+bare-added = refl
+
 -- A refusal leaves both buffers.
-pub bare-refused : bareLaunch (2 ∷ 0 ∷ 0 ∷ 0 ∷ 17 ∷ 0 ∷ 0 ∷ 0 ∷ []) 0 2 10 (5 ∷ 6 ∷ []) (replicate 4 9) ≡
-    (answer.Refused (ThreadsOutOfRange 0), (5 ∷ 6 ∷ [], replicate 4 9))
+pub bare-refused : bareLaunch (2 ∷ 0 ∷ 0 ∷ 0 ∷ 17 ∷ 0 ∷ 0 ∷ 0 ∷ []) 0 2 10 (5 ∷ 6 ∷ []) (replicate 6 9) ≡
+    (answer.Refused (ThreadsOutOfRange 0), (5 ∷ 6 ∷ [], replicate 6 9))
 unfolding computing bareLaunch
 bare-refused = refl
 
@@ -98,9 +107,9 @@ tids n = bytesOfRows (replicate n 2)
     bytesOfRows (op ∷ ops) = op ∷ 0 ∷ 0 ∷ 0 ∷ bytesOfRows ops
 
 pub bare-most : map toldAs
-    (bareRefusal (tids 256) 32 1024 1000000 (replicate 1024 7) (replicate 2048 7)
-    ∷ bareRefusal (tids 257) 32 1024 1000000 (replicate 1024 7) (replicate 2048 7)
-    ∷ bareRefusal [] 32 1025 1000000 (replicate 1025 7) (replicate 2050 7)
+    (bareRefusal (tids 256) 32 1024 1000000 (replicate 1024 7) (replicate 3072 7)
+    ∷ bareRefusal (tids 257) 32 1024 1000000 (replicate 1024 7) (replicate 3072 7)
+    ∷ bareRefusal [] 32 1025 1000000 (replicate 1025 7) (replicate 3075 7)
     ∷ [])
     ≡ (0, 0) ∷ (2, 0) ∷ (9, 0) ∷ []
 unfolding computing orZero toldAs tids
@@ -152,14 +161,14 @@ writer-refusal = refl
 
 -- The whole-file entry. Lent lengths on both sides, 20 before 21 before 24; more output than 17,408 bytes is welcome.
 pub file-lengths : map toldAs
-    (fileLent 1024 2048 17408 ∷ fileLent 1024 2048 17409
-    ∷ fileLent 1023 2048 17408 ∷ fileLent 1025 2048 17408 ∷ fileLent 0 2048 17408
-    ∷ fileLent 1024 2047 17408 ∷ fileLent 1024 2049 17408 ∷ fileLent 1024 2048 17407 ∷ fileLent 1024 2048 0
-    ∷ fileLent 1023 2047 17407 ∷ fileLent 1024 2047 17407 ∷ fileLent 1023 2048 17407
+    (fileLent 1024 3072 17408 ∷ fileLent 1024 3072 17409
+    ∷ fileLent 1023 3072 17408 ∷ fileLent 1025 3072 17408 ∷ fileLent 0 3072 17408
+    ∷ fileLent 1024 3071 17408 ∷ fileLent 1024 3073 17408 ∷ fileLent 1024 2048 17408 ∷ fileLent 1024 3072 17407 ∷ fileLent 1024 3072 0
+    ∷ fileLent 1023 3071 17407 ∷ fileLent 1024 3071 17407 ∷ fileLent 1023 3072 17407
     ∷ [])
     ≡ (0, 0) ∷ (0, 0)
     ∷ (20, 0) ∷ (20, 0) ∷ (20, 0)
-    ∷ (21, 0) ∷ (21, 0) ∷ (24, 0) ∷ (24, 0)
+    ∷ (21, 0) ∷ (21, 0) ∷ (21, 0) ∷ (24, 0) ∷ (24, 0)
     ∷ (20, 0) ∷ (21, 0) ∷ (20, 0)
     ∷ []
 unfolding computing orZero toldAs
@@ -172,20 +181,20 @@ aFile = lines "kernel=1/threads=2/cells=3/limit=9/rows=5/row=2,0,0,0/row=1,1,1,0
 unfoldable pub printedFor : List ℕ
 printedFor = lines "verdict=passed/row=-/thread=-/other=-/kind=-/at=-/rows=5/steps=10/barriers=0/cell=1/cell=2/cell=4294967295/end=report"
 
--- The report is written, 118 bytes; behind it, behind the three cells and behind the six words of the log all is kept.
-pub file-answer : map (λ n. fileAnswer aFile (replicate 1024 9) (replicate 2048 8) (replicate n 7)) (17408 ∷ 20000 ∷ []) ≡ written.Wrote 118 ∷ written.Wrote 118 ∷ []
+-- The report is written, 118 bytes; behind it, behind the three cells and behind the nine words of the log all is kept.
+pub file-answer : map (λ n. fileAnswer aFile (replicate 1024 9) (replicate 3072 8) (replicate n 7)) (17408 ∷ 20000 ∷ []) ≡ written.Wrote 118 ∷ written.Wrote 118 ∷ []
 unfolding computing aFile
 file-answer = refl
 
-pub file-cells : fileCellsAfter aFile (replicate 1024 9) (replicate 2048 8) (replicate 17408 7) ≡ 1 ∷ 2 ∷ 4294967295 ∷ replicate 1021 9
+pub file-cells : fileCellsAfter aFile (replicate 1024 9) (replicate 3072 8) (replicate 17408 7) ≡ 1 ∷ 2 ∷ 4294967295 ∷ replicate 1021 9
 unfolding computing aFile
 file-cells = refl
 
-pub file-log : fileLogAfter aFile (replicate 1024 9) (replicate 2048 8) (replicate 17408 7) ≡ 1 ∷ 2 ∷ 0 ∷ 1 ∷ 2 ∷ 0 ∷ replicate 2042 8
+pub file-log : fileLogAfter aFile (replicate 1024 9) (replicate 3072 8) (replicate 17408 7) ≡ 1 ∷ 2 ∷ 0 ∷ 1 ∷ 2 ∷ 0 ∷ 0 ∷ 0 ∷ 0 ∷ replicate 3063 8
 unfolding computing aFile
 file-log = refl
 
-pub file-output : fileOutputAfter aFile (replicate 1024 9) (replicate 2048 8) (replicate 17408 7) ≡ printedFor ++ replicate (17408 - 118) 7
+pub file-output : fileOutputAfter aFile (replicate 1024 9) (replicate 3072 8) (replicate 17408 7) ≡ printedFor ++ replicate (17408 - 118) 7
 unfolding computing aFile printedFor
 file-output = refl
 

@@ -1,12 +1,12 @@
 -- Laws of the definitions that several crates cite: a table's rows and their bytes, the sizes of masks, and a few on numbers. Assumes nothing.
 use mathlib.Core.Path.{_≡_, refl, ap, _∙_}
 use mathlib.Core.Logic.{_⊎_, inl, inr, ⊎-elim}
-use mathlib.Core.List.{List, [], _∷_, map}
-use mathlib.Core.Bool.{Bool, true, false, _&&_, and-eq-true-iff}
+use mathlib.Core.List.{List, [], _∷_}
+use mathlib.Core.Bool.{Bool, true, _&&_, and-eq-true-iff}
 use Prim.Native.Nat.{ℕ, zero, suc, _+_, _*_, _/_, _<_, _≤_}
 use native.Mathlib.Nat.{eq-or-lt-of-le, le-of-suc-le-suc}
 use native.Mathlib.Omega.{arith}
-use lib.ListN.{length, getD, replicate, length-map, take, drop}
+use lib.ListN.{length, getD, replicate, take, drop}
 use lib.Seq.{take-at}
 use Rattle.spec.specs.Op.{Op, IF, ELSE, ENDIF, WHILE, ENDWHILE, opOf, opTable}
 use Rattle.spec.specs.Table.{rowOf, rowsOf, rowAt, role, opening}
@@ -106,11 +106,6 @@ unfolding holding
 holding-size a [] regs = refl
 holding-size a (b ∷ m) [] = ap suc (holding-size a m [])
 holding-size a (b ∷ m) (r ∷ regs) = ap suc (holding-size a m regs)
-
-pub wiped-size : (ms : List Mask) (c : ℕ) → length (getD (map (map (λ b. false)) ms) c []) ≡ length (getD ms c [])
-wiped-size [] c = refl
-wiped-size (m ∷ ms) zero = length-map m (λ b. false)
-wiped-size (m ∷ ms) (suc c) = wiped-size ms c
 
 pub top-cons : (f : Saved) (v : List Saved) → topOpener (f ∷ v) ≡ f .opener
 unfolding topOpener

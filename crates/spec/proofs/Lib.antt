@@ -1,4 +1,5 @@
 pub mod Laws
+pub mod LogLaws
 pub mod Computing
 pub mod OpTable
 pub mod RefusalTable

@@ -1,39 +1,71 @@
 -- The access rules and the log, computed: what an access leaves, whom it enters, whom it meets. Assumes nothing.
 use mathlib.Core.Path.{_≡_, refl}
-use mathlib.Core.List.{[], _∷_, map}
-use Rattle.spec.specs.Answers.{ReadWrite, WriteRead, WriteWrite}
-use Rattle.spec.specs.Op.{LOAD, STORE}
+use mathlib.Core.List.{List, [], _∷_, map}
+use mathlib.Core.Bool.{true, false}
+use Rattle.spec.specs.Answers.{Verdict, Race, ReadWrite, WriteRead, WriteWrite, ReadAdd, AddRead, WriteAdd, AddWrite}
+use Rattle.spec.specs.Op.{LOAD, STORE, ATOMICADD}
 use Rattle.spec.specs.Table.{rowOf, cellByte, kindOf}
 use Rattle.spec.specs.Shape.{shapeOf, total, bound, address}
-use Rattle.spec.specs.Access.{load, store, cellAfter, registersAfter}
-use Rattle.spec.specs.Mask.{maskWord}
-use Rattle.spec.specs.Log.{Log, logWords, emptyLog, cleared, logged, testedMask, conflictMask, raceKind}
+use Rattle.spec.specs.Access.{Kind, load, store, atomicAdd, reads, writes, adds, mode, agree, cellAfter, registersAfter}
+use Rattle.spec.specs.Mask.{Mask, maskWord}
+use Rattle.spec.specs.Log.{Log, masksOf, logWords, emptyLog, nobody, cleared, logged, conflicting, testedMask, conflictMask, raceKind}
+use Rattle.spec.specs.LockStep.{Step, continues, stops, initialState, update, tryAccess}
 use Rattle.spec.proofs.Computing.{computing}
 
--- A load leaves its cell and takes its value into register d; a store leaves its value and no register.
+-- A load leaves its cell and takes its value into register d; a store leaves its value and no register; an add leaves the sum and no register.
 pub cells-left : cellAfter load 5 ∷ cellAfter (store 9) 5 ∷ cellAfter (store 0) 5 ∷ [] ≡ 5 ∷ 9 ∷ 0 ∷ []
 unfolding computing
 cells-left = refl
 
-pub registers-left : registersAfter load 2 5 (10 ∷ 11 ∷ 12 ∷ 13 ∷ []) ∷ registersAfter (store 9) 2 5 (10 ∷ 11 ∷ 12 ∷ 13 ∷ []) ∷ [] ≡
-    (10 ∷ 11 ∷ 5 ∷ 13 ∷ []) ∷ (10 ∷ 11 ∷ 12 ∷ 13 ∷ []) ∷ []
+-- Sums up to 2^32 - 1 as they are, 2^32 and above modulo 2^32; an add of 0, and an add to 0.
+pub cells-grown :
+    cellAfter (atomicAdd 9) 5
+    ∷ cellAfter (atomicAdd 0) 5
+    ∷ cellAfter (atomicAdd 9) 0
+    ∷ cellAfter (atomicAdd 1) 4294967294
+    ∷ cellAfter (atomicAdd 1) 4294967295
+    ∷ cellAfter (atomicAdd 4294967295) 7
+    ∷ cellAfter (atomicAdd 2147483648) 2147483650
+    ∷ cellAfter (atomicAdd 4294967295) 4294967295
+    ∷ []
+    ≡ 14 ∷ 5 ∷ 9 ∷ 4294967295 ∷ 0 ∷ 6 ∷ 2 ∷ 4294967294 ∷ []
+unfolding computing
+cells-grown = refl
+
+pub registers-left : map (λ k. registersAfter k 2 5 (10 ∷ 11 ∷ 12 ∷ 13 ∷ [])) (load ∷ store 9 ∷ atomicAdd 9 ∷ []) ≡
+    (10 ∷ 11 ∷ 5 ∷ 13 ∷ []) ∷ (10 ∷ 11 ∷ 12 ∷ 13 ∷ []) ∷ (10 ∷ 11 ∷ 12 ∷ 13 ∷ []) ∷ []
 unfolding computing
 registers-left = refl
 
--- LOAD has its cell's number in Ra, STORE in Rd; a STORE's value is Ra.
-pub bytes-of-accesses : cellByte LOAD (rowOf 16 3 4 0) ∷ cellByte STORE (rowOf 17 3 4 0) ∷ [] ≡ 4 ∷ 3 ∷ []
+-- LOAD has its cell's number in Ra, STORE and ATOMIC ADD in Rd; their value is Ra.
+pub bytes-of-accesses : cellByte LOAD (rowOf 16 3 4 0) ∷ cellByte STORE (rowOf 17 3 4 0) ∷ cellByte ATOMICADD (rowOf 18 3 4 0) ∷ [] ≡ 4 ∷ 3 ∷ 3 ∷ []
 unfolding computing
 bytes-of-accesses = refl
 
-pub kinds-of-accesses : kindOf LOAD 7 ∷ kindOf STORE 7 ∷ [] ≡ load ∷ store 7 ∷ []
+pub kinds-of-accesses : kindOf LOAD 7 ∷ kindOf STORE 7 ∷ kindOf ATOMICADD 7 ∷ [] ≡ load ∷ store 7 ∷ atomicAdd 7 ∷ []
 unfolding computing
 kinds-of-accesses = refl
 
+pub modes : map mode (load ∷ store 7 ∷ store 0 ∷ atomicAdd 7 ∷ atomicAdd 0 ∷ []) ≡ reads ∷ writes ∷ writes ∷ adds ∷ adds ∷ []
+unfolding computing
+modes = refl
+
+-- Only two that read, and two that add, agree.
+pub agreeing : map (λ m. agree m reads ∷ agree m writes ∷ agree m adds ∷ []) (reads ∷ writes ∷ adds ∷ []) ≡
+    (true ∷ false ∷ false ∷ []) ∷ (false ∷ false ∷ false ∷ []) ∷ (false ∷ false ∷ true ∷ []) ∷ []
+unfolding computing
+agreeing = refl
+
 -- Two threads and three cells.
-pub shape : let L = shapeOf 2 (7 ∷ 8 ∷ 9 ∷ []) in L .threads ∷ L .cells ∷ total L ∷ bound L LOAD ∷ bound L STORE ∷ address L LOAD 1 ∷ address L STORE 2 ∷ [] ≡
-    2 ∷ 3 ∷ 3 ∷ 3 ∷ 3 ∷ 1 ∷ 2 ∷ []
+pub shape : let L = shapeOf 2 (7 ∷ 8 ∷ 9 ∷ []) in L .threads ∷ L .cells ∷ total L ∷ [] ≡ 2 ∷ 3 ∷ 3 ∷ []
 unfolding computing
 shape = refl
+
+pub reached : let L = shapeOf 2 (7 ∷ 8 ∷ 9 ∷ []) in
+    map (bound L) (LOAD ∷ STORE ∷ ATOMICADD ∷ []) ∷ (address L LOAD 1 ∷ address L STORE 2 ∷ address L ATOMICADD 0 ∷ address L ATOMICADD 2 ∷ []) ∷ [] ≡
+    (3 ∷ 3 ∷ 3 ∷ []) ∷ (1 ∷ 2 ∷ 0 ∷ 2 ∷ []) ∷ []
+unfolding computing
+reached = refl
 
 -- Three threads and two cells: threads 0 and 2 load cell 1, thread 2 stores it as well, and thread 1 stores cell 0.
 unfoldable pub someLog : Log
@@ -41,9 +73,27 @@ someLog = logged (logged (logged (logged (emptyLog 3 2) 1 0 load) 1 2 load) 1 2 
 
 -- All readers, then all writers. Every thread that read is kept; nobody enters the other mask; clearing clears both.
 pub log-words : logWords (emptyLog 3 2) ∷ logWords (logged (emptyLog 3 2) 0 1 load) ∷ logWords someLog ∷ logWords (cleared someLog) ∷ [] ≡
-    (0 ∷ 0 ∷ 0 ∷ 0 ∷ []) ∷ (2 ∷ 0 ∷ 0 ∷ 0 ∷ []) ∷ (0 ∷ 5 ∷ 2 ∷ 4 ∷ []) ∷ (0 ∷ 0 ∷ 0 ∷ 0 ∷ []) ∷ []
+    (0 ∷ 0 ∷ 0 ∷ 0 ∷ 0 ∷ 0 ∷ []) ∷ (2 ∷ 0 ∷ 0 ∷ 0 ∷ 0 ∷ 0 ∷ []) ∷ (0 ∷ 5 ∷ 2 ∷ 4 ∷ 0 ∷ 0 ∷ []) ∷ (0 ∷ 0 ∷ 0 ∷ 0 ∷ 0 ∷ 0 ∷ []) ∷ []
 unfolding computing someLog
 log-words = refl
+
+-- An add enters the adder mask of its cell and no other; every thread that added is kept.
+pub adds-logged :
+    map logWords
+    (logged (emptyLog 3 2) 0 1 (atomicAdd 9)
+    ∷ logged (logged (emptyLog 3 2) 1 0 (atomicAdd 9)) 1 2 (atomicAdd 0)
+    ∷ logged someLog 1 1 (atomicAdd 9)
+    ∷ logged (logged (logged someLog 1 1 (atomicAdd 9)) 1 1 load) 0 0 (store 9)
+    ∷ cleared (logged someLog 1 1 (atomicAdd 9))
+    ∷ [])
+    ≡ (0 ∷ 0 ∷ 0 ∷ 0 ∷ 2 ∷ 0 ∷ [])
+    ∷ (0 ∷ 0 ∷ 0 ∷ 0 ∷ 0 ∷ 5 ∷ [])
+    ∷ (0 ∷ 5 ∷ 2 ∷ 4 ∷ 0 ∷ 2 ∷ [])
+    ∷ (0 ∷ 7 ∷ 3 ∷ 4 ∷ 0 ∷ 2 ∷ [])
+    ∷ (0 ∷ 0 ∷ 0 ∷ 0 ∷ 0 ∷ 0 ∷ [])
+    ∷ []
+unfolding computing someLog
+adds-logged = refl
 
 -- A load is tested against the writers, a store against readers and writers.
 pub tested : map maskWord (testedMask someLog 0 load ∷ testedMask someLog 1 load ∷ testedMask someLog 0 (store 1) ∷ testedMask someLog 1 (store 1) ∷ []) ≡
@@ -66,3 +116,95 @@ pub kinds : raceKind someLog 1 2 load ∷ raceKind someLog 1 0 (store 9) ∷ rac
     WriteRead ∷ ReadWrite ∷ WriteWrite ∷ WriteWrite ∷ []
 unfolding computing someLog
 kinds = refl
+
+-- Eight threads and two cells, of which cell 1 is used. Bit 0 of a thread's number says that it read, bit 1 that it wrote, bit 2 that it added: every
+-- combination has its thread. No run comes to such a log, since it would have stopped before; but by it all tests are told apart.
+unfoldable pub everyLog : Log
+everyLog =
+    let none : Mask = false ∷ false ∷ false ∷ false ∷ false ∷ false ∷ false ∷ false ∷ [] in
+    record {
+      readers = none ∷ (false ∷ true ∷ false ∷ true ∷ false ∷ true ∷ false ∷ true ∷ []) ∷ [];
+      writers = none ∷ (false ∷ false ∷ true ∷ true ∷ false ∷ false ∷ true ∷ true ∷ []) ∷ [];
+      adders = none ∷ (false ∷ false ∷ false ∷ false ∷ true ∷ true ∷ true ∷ true ∷ []) ∷ [];
+    }
+
+unfoldable pub someKinds : List Kind
+someKinds = load ∷ store 9 ∷ atomicAdd 9 ∷ []
+
+pub every-log-words : logWords everyLog ∷ logWords (cleared everyLog) ∷ logWords (logged everyLog 0 7 (atomicAdd 9)) ∷ [] ≡
+    (0 ∷ 170 ∷ 0 ∷ 204 ∷ 0 ∷ 240 ∷ []) ∷ (0 ∷ 0 ∷ 0 ∷ 0 ∷ 0 ∷ 0 ∷ []) ∷ (0 ∷ 170 ∷ 0 ∷ 204 ∷ 128 ∷ 240 ∷ []) ∷ []
+unfolding computing everyLog
+every-log-words = refl
+
+pub masks-by-mode : map (λ m. map maskWord (masksOf everyLog m)) (reads ∷ writes ∷ adds ∷ []) ≡ (0 ∷ 170 ∷ []) ∷ (0 ∷ 204 ∷ []) ∷ (0 ∷ 240 ∷ []) ∷ []
+unfolding computing everyLog
+masks-by-mode = refl
+
+-- Nobody is a mask for as many threads.
+pub nobodies : nobody (true ∷ false ∷ true ∷ []) ∷ nobody [] ∷ [] ≡ (false ∷ false ∷ false ∷ []) ∷ [] ∷ []
+unfolding computing
+nobodies = refl
+
+-- By mode: whom a load, a store and an add conflict with.
+pub conflicts-by-mode : map (λ m. map (λ k. maskWord (conflicting everyLog 1 m k)) someKinds) (reads ∷ writes ∷ adds ∷ []) ≡
+    (0 ∷ 170 ∷ 170 ∷ []) ∷ (204 ∷ 204 ∷ 204 ∷ []) ∷ (240 ∷ 240 ∷ 0 ∷ []) ∷ []
+unfolding computing everyLog someKinds
+conflicts-by-mode = refl
+
+-- All but those who only read; all but the one who did nothing; all but those who only added. Cell 0 has met nobody.
+pub every-tested : map (λ k. maskWord (testedMask everyLog 1 k)) someKinds ∷ map (λ k. maskWord (testedMask everyLog 0 k)) someKinds ∷ [] ≡
+    (252 ∷ 254 ∷ 238 ∷ []) ∷ (0 ∷ 0 ∷ 0 ∷ []) ∷ []
+unfolding computing everyLog someKinds
+every-tested = refl
+
+-- The accesses of threads 0, 1, 4 and 7: nobody meets itself.
+pub every-conflict : map (λ t. map (λ k. maskWord (conflictMask everyLog 1 t k)) someKinds) (0 ∷ 1 ∷ 4 ∷ 7 ∷ []) ≡
+    (252 ∷ 254 ∷ 238 ∷ []) ∷ (252 ∷ 252 ∷ 236 ∷ []) ∷ (236 ∷ 238 ∷ 238 ∷ []) ∷ (124 ∷ 126 ∷ 110 ∷ []) ∷ []
+unfolding computing everyLog someKinds
+every-conflict = refl
+
+-- The kind of a race with each thread that conflicts. Of r, w, a: w before a before r, and never r to a load or a to an add.
+pub kinds-of-loads : map (λ u. raceKind everyLog 1 u load) (2 ∷ 3 ∷ 4 ∷ 5 ∷ 6 ∷ 7 ∷ []) ≡
+    WriteRead ∷ WriteRead ∷ AddRead ∷ AddRead ∷ WriteRead ∷ WriteRead ∷ []
+unfolding computing everyLog
+kinds-of-loads = refl
+
+pub kinds-of-stores : map (λ u. raceKind everyLog 1 u (store 9)) (1 ∷ 2 ∷ 3 ∷ 4 ∷ 5 ∷ 6 ∷ 7 ∷ []) ≡
+    ReadWrite ∷ WriteWrite ∷ WriteWrite ∷ AddWrite ∷ AddWrite ∷ WriteWrite ∷ WriteWrite ∷ []
+unfolding computing everyLog
+kinds-of-stores = refl
+
+pub kinds-of-adds : map (λ u. raceKind everyLog 1 u (atomicAdd 9)) (1 ∷ 2 ∷ 3 ∷ 5 ∷ 6 ∷ 7 ∷ []) ≡
+    ReadAdd ∷ WriteAdd ∷ WriteAdd ∷ ReadAdd ∷ WriteAdd ∷ WriteAdd ∷ []
+unfolding computing everyLog
+kinds-of-adds = refl
+
+-- The other is the lowest that conflicts, not the lowest that accessed. Three threads; thread 0 added and thread 1 read; thread 0 added and thread 1
+-- wrote and added; thread 0 read and thread 1 added; thread 0 read and thread 1 wrote and read.
+unfoldable pub lowerAgrees : List Log
+lowerAgrees =
+    logged (logged (emptyLog 3 1) 0 0 (atomicAdd 5)) 0 1 load
+    ∷ logged (logged (logged (emptyLog 3 1) 0 0 (atomicAdd 5)) 0 1 (store 5)) 0 1 (atomicAdd 5)
+    ∷ logged (logged (emptyLog 3 1) 0 0 load) 0 1 (atomicAdd 5)
+    ∷ logged (logged (logged (emptyLog 3 1) 0 0 load) 0 1 (store 5)) 0 1 load
+    ∷ []
+
+-- Thread 2's access of cell 0, and its verdict where it races.
+unfoldable pub stoppedWith : Step → List Verdict
+stoppedWith (continues s) = []
+stoppedWith (stops v s) = v ∷ []
+
+unfoldable pub third : Kind → Log → List Verdict
+third k G = let s = initialState 3 (7 ∷ []) in stoppedWith (tryAccess (update s (s .regs) (s .cells) G (s .steps)) 2 4 0 k)
+
+pub third-adds : map (third (atomicAdd 9)) lowerAgrees ≡ (Race 2 1 ReadAdd 0 ∷ []) ∷ (Race 2 1 WriteAdd 0 ∷ []) ∷ (Race 2 0 ReadAdd 0 ∷ []) ∷ (Race 2 0 ReadAdd 0 ∷ []) ∷ []
+unfolding computing lowerAgrees stoppedWith third
+third-adds = refl
+
+pub third-loads : map (third load) lowerAgrees ≡ (Race 2 0 AddRead 0 ∷ []) ∷ (Race 2 0 AddRead 0 ∷ []) ∷ (Race 2 1 AddRead 0 ∷ []) ∷ (Race 2 1 WriteRead 0 ∷ []) ∷ []
+unfolding computing lowerAgrees stoppedWith third
+third-loads = refl
+
+pub third-stores : map (third (store 9)) lowerAgrees ≡ (Race 2 0 AddWrite 0 ∷ []) ∷ (Race 2 0 AddWrite 0 ∷ []) ∷ (Race 2 0 ReadWrite 0 ∷ []) ∷ (Race 2 0 ReadWrite 0 ∷ []) ∷ []
+unfolding computing lowerAgrees stoppedWith third
+third-stores = refl

@@ -120,3 +120,46 @@ pub outside-is-bad : played straying 1 (5 ∷ 6 ∷ []) (of 2 0) ≡
     record { allPossible = true; ended = false; bad = true; mayMove = false; mayRelease = false; cells = 5 ∷ 6 ∷ []; atReleases = [] }
 unfolding computing played isRun straying of
 outside-is-bad = refl
+
+-- All add t + 1 to cell 0; behind a BARRIER all load it; behind another each adds what it loaded to its own cell.
+unfoldable pub summing : Table
+summing =
+    rowOf 2 0 0 0
+    ∷ rowOf 1 1 1 0
+    ∷ rowOf 4 2 0 1
+    ∷ rowOf 18 3 2 0
+    ∷ rowOf 37 0 0 0
+    ∷ rowOf 16 4 3 0
+    ∷ rowOf 37 0 0 0
+    ∷ rowOf 18 0 4 0 ∷ []
+
+-- Thread 1 first, and thread 0 first: both runs end with the same cells, which are the same at each release too.
+pub sums-agree :
+    played summing 2 (4 ∷ 5 ∷ []) (of 4 1 ++ (of 4 0 ++ (release ∷ row 1 ∷ row 0 ∷ release ∷ row 1 ∷ row 0 ∷ [])))
+    ∷ played summing 2 (4 ∷ 5 ∷ []) (of 3 0 ++ (of 3 1 ++ (row 0 ∷ row 1 ∷ release ∷ row 0 ∷ row 1 ∷ release ∷ row 0 ∷ row 1 ∷ [])))
+    ∷ []
+    ≡ replicate 2 (record {
+      allPossible = true;
+      ended = true;
+      bad = false;
+      mayMove = false;
+      mayRelease = false;
+      cells = 14 ∷ 12 ∷ [];
+      atReleases = (7 ∷ 5 ∷ []) ∷ (7 ∷ 5 ∷ []) ∷ [];
+    })
+unfolding computing played isRun summing of
+sums-agree = refl
+
+-- The same without BARRIERs: where thread 0 has loaded, thread 1's add ends the run badly; where both have added, thread 0's load does.
+unfoldable pub hasty : Table
+hasty = rowOf 2 0 0 0 ∷ rowOf 1 1 1 0 ∷ rowOf 4 2 0 1 ∷ rowOf 18 3 2 0 ∷ rowOf 16 4 3 0 ∷ []
+
+pub add-after-load : played hasty 2 (4 ∷ 5 ∷ []) (of 5 0 ++ of 4 1) ≡
+    record { allPossible = true; ended = false; bad = true; mayMove = false; mayRelease = false; cells = 5 ∷ 5 ∷ []; atReleases = [] }
+unfolding computing played isRun hasty of
+add-after-load = refl
+
+pub load-after-add : played hasty 2 (4 ∷ 5 ∷ []) (of 4 0 ++ (of 4 1 ++ (row 0 ∷ []))) ≡
+    record { allPossible = true; ended = false; bad = true; mayMove = false; mayRelease = false; cells = 7 ∷ 5 ∷ []; atReleases = [] }
+unfolding computing played isRun hasty of
+load-after-add = refl

@@ -4,7 +4,7 @@ use mathlib.Core.List.{List, [], _∷_, _++_, map}
 use Prim.Native.Nat.{ℕ, zero, suc}
 use lib.ListN.{length, replicate}
 use Rattle.spec.specs.Op.{CALC, MEM, IF, ELSE, ENDIF, WHILE, ENDWHILE, BARRIER, UNKNOWN, opOf}
-use Rattle.spec.specs.Op.{SET, TID, COUNT, ADD, SUB, MUL, AND, OR, XOR, SHR, SAR, EQ, LT, SLT, LOAD, STORE}
+use Rattle.spec.specs.Op.{SET, TID, COUNT, ADD, SUB, MUL, AND, OR, XOR, SHR, SAR, EQ, LT, SLT, LOAD, STORE, ATOMICADD}
 use Rattle.spec.specs.Op.{setForm, dForm, dabForm, daForm, aForm, noForm, unknownForm, opTable, formOf}
 use Rattle.spec.proofs.Computing.{computing}
 
@@ -12,10 +12,10 @@ unfoldable pub bytesFrom : ℕ → ℕ → List ℕ
 bytesFrom first zero = []
 bytesFrom first (suc n) = first ∷ bytesFrom (suc first) n
 
--- 1 SET; 2 TID, 3 COUNT; 4 to 14; 16 LOAD, 17 STORE; 32 IF, 33 ELSE, 34 ENDIF, 35 WHILE, 36 ENDWHILE, 37 BARRIER.
+-- 1 SET; 2 TID, 3 COUNT; 4 to 14; 16 LOAD, 17 STORE, 18 ATOMIC ADD; 32 IF, 33 ELSE, 34 ENDIF, 35 WHILE, 36 ENDWHILE, 37 BARRIER.
 pub forms : map formOf (bytesFrom 0 256) ≡
     (unknownForm ∷ setForm ∷ dForm ∷ dForm ∷ replicate 11 dabForm)
-    ++ (unknownForm ∷ daForm ∷ daForm ∷ replicate 14 unknownForm)
+    ++ (unknownForm ∷ daForm ∷ daForm ∷ daForm ∷ replicate 13 unknownForm)
     ++ (aForm ∷ noForm ∷ noForm ∷ aForm ∷ noForm ∷ noForm ∷ replicate 218 unknownForm)
 unfolding computing bytesFrom
 forms = refl
@@ -28,7 +28,7 @@ op-table-size = refl
 pub ops : map opOf (bytesFrom 0 257) ≡
     UNKNOWN
     ∷ map CALC (SET ∷ TID ∷ COUNT ∷ ADD ∷ SUB ∷ MUL ∷ AND ∷ OR ∷ XOR ∷ SHR ∷ SAR ∷ EQ ∷ LT ∷ SLT ∷ [])
-    ++ (UNKNOWN ∷ MEM LOAD ∷ MEM STORE ∷ replicate 14 UNKNOWN)
+    ++ (UNKNOWN ∷ MEM LOAD ∷ MEM STORE ∷ MEM ATOMICADD ∷ replicate 13 UNKNOWN)
     ++ (IF ∷ ELSE ∷ ENDIF ∷ WHILE ∷ ENDWHILE ∷ BARRIER ∷ replicate 219 UNKNOWN)
 unfolding computing bytesFrom
 ops = refl

@@ -2,9 +2,11 @@
 use mathlib.Core.Path.{_≡_, refl}
 use mathlib.Core.List.{List, [], _∷_, map}
 use Prim.Native.Nat.{ℕ}
-use Rattle.spec.specs.Answers.{Verdict, Passed, Race, Outside, Diverged, Spent, ReadWrite, WriteRead, WriteWrite, Subject}
+use Rattle.spec.specs.Answers.{Verdict, Passed, Race, Outside, Diverged, Spent, Subject}
+use Rattle.spec.specs.Answers.{ReadWrite, WriteRead, WriteWrite, ReadAdd, AddRead, WriteAdd, AddWrite}
 use Rattle.spec.specs.declared.Subject.the-variants as subject
-use Rattle.spec.specs.Report.{reportOf, refusalReport}
+use Rattle.spec.specs.Report.{kindText, reportOf, refusalReport}
+use Rattle.spec.specs.Text.{text}
 use Rattle.spec.specs.Examples.{lines}
 use Rattle.spec.proofs.Computing.{computing}
 
@@ -28,6 +30,22 @@ pub run-reports : map (λ v. reportOf (stopped v) someCells)
     ∷ []
 unfolding computing stopped someCells
 run-reports = refl
+
+-- The other's letter first: r it read, w it wrote, a it added.
+pub kind-texts : map kindText (ReadWrite ∷ WriteRead ∷ WriteWrite ∷ ReadAdd ∷ AddRead ∷ WriteAdd ∷ AddWrite ∷ []) ≡
+    text "rw" ∷ text "wr" ∷ text "ww" ∷ text "ra" ∷ text "ar" ∷ text "wa" ∷ text "aw" ∷ []
+unfolding computing
+kind-texts = refl
+
+-- Races of adds are reported as the others are.
+pub add-reports : map (λ k. reportOf (stopped (Race 2 1 k 5)) (7 ∷ [])) (ReadAdd ∷ AddRead ∷ WriteAdd ∷ AddWrite ∷ []) ≡
+    lines "verdict=race/row=11/thread=2/other=1/kind=ra/at=5/rows=12/steps=130/barriers=14/cell=7/end=report"
+    ∷ lines "verdict=race/row=11/thread=2/other=1/kind=ar/at=5/rows=12/steps=130/barriers=14/cell=7/end=report"
+    ∷ lines "verdict=race/row=11/thread=2/other=1/kind=wa/at=5/rows=12/steps=130/barriers=14/cell=7/end=report"
+    ∷ lines "verdict=race/row=11/thread=2/other=1/kind=aw/at=5/rows=12/steps=130/barriers=14/cell=7/end=report"
+    ∷ []
+unfolding computing stopped
+add-reports = refl
 
 -- A refusal's report has its number and place, and no cells.
 pub refusal-reports : reportOf (subject.Refused 11 257) someCells ∷ reportOf (subject.Refused 12 0) [] ∷ refusalReport 22 17408 ∷ [] ≡

@@ -4,7 +4,7 @@ use mathlib.Core.List.{List, [], _∷_, _++_, map}
 use mathlib.Core.Bool.{Bool, true, false}
 use Prim.Native.Nat.{ℕ, _+_}
 use lib.ListN.{getD, take, replicate}
-use Rattle.spec.specs.Access.{load, store}
+use Rattle.spec.specs.Access.{load, store, atomicAdd}
 use Rattle.spec.specs.Op.{CALC, SET, MEM, LOAD, IF, ELSE, ENDIF, WHILE, ENDWHILE, BARRIER, UNKNOWN}
 use Rattle.spec.specs.Table.{Table, rowOf}
 use Rattle.spec.specs.Shape.{Shape, shapeOf}
@@ -137,13 +137,13 @@ two-barriers = refl
 unfoldable pub crossing : Table
 crossing = rowOf 2 0 0 0 ∷ rowOf 32 0 0 0 ∷ rowOf 17 1 0 0 ∷ rowOf 33 0 0 0 ∷ rowOf 16 2 1 0 ∷ rowOf 34 0 0 0 ∷ []
 
-unfoldable pub comesTo : List Move → List ℕ × (List Bool × Bool)
-comesTo ms = let g = leaves crossing 3 (9 ∷ []) ms in (g .cells, (may crossing 3 (9 ∷ []) ms, g .bad))
+unfoldable pub comesTo : Table → List Move → List ℕ × (List Bool × Bool)
+comesTo T ms = let g = leaves T 3 (9 ∷ []) ms in (g .cells, (may T 3 (9 ∷ []) ms, g .bad))
 
 unfoldable pub nothing : List Bool
 nothing = false ∷ false ∷ false ∷ false ∷ false ∷ false ∷ []
 
-pub bad-ends : map comesTo (of 3 2 ∷ (of 3 2 ++ of 3 0) ∷ (of 3 2 ++ of 3 1) ∷ (of 3 1 ++ of 3 2) ∷ (of 3 0 ++ of 3 2) ∷ []) ≡
+pub bad-ends : map (comesTo crossing) (of 3 2 ∷ (of 3 2 ++ of 3 0) ∷ (of 3 2 ++ of 3 1) ∷ (of 3 1 ++ of 3 2) ∷ (of 3 0 ++ of 3 2) ∷ []) ≡
     (2 ∷ [], (true ∷ true ∷ true ∷ false ∷ false ∷ false ∷ [], false))
     ∷ (2 ∷ [], (nothing, true))
     ∷ (2 ∷ [], (nothing, true))
@@ -153,10 +153,96 @@ pub bad-ends : map comesTo (of 3 2 ∷ (of 3 2 ++ of 3 0) ∷ (of 3 2 ++ of 3 1)
 unfolding computing of may crossing comesTo nothing
 bad-ends = refl
 
+-- Three threads: thread 0 loads cell 0, thread 1 stores its number there, thread 2 adds its number. An add after another's load or store, and a load or
+-- a store after another's add, ends the run badly.
+unfoldable pub mingling : Table
+mingling =
+    rowOf 2 0 0 0
+    ∷ rowOf 1 1 1 0
+    ∷ rowOf 5 2 0 1
+    ∷ rowOf 32 0 0 0
+    ∷ rowOf 32 0 2 0
+    ∷ rowOf 18 3 0 0
+    ∷ rowOf 33 0 0 0
+    ∷ rowOf 17 3 0 0
+    ∷ rowOf 34 0 0 0
+    ∷ rowOf 33 0 0 0
+    ∷ rowOf 16 4 3 0
+    ∷ rowOf 34 0 0 0
+    ∷ []
+
+pub bad-adds : map (comesTo mingling) (of 6 2 ∷ (of 5 0 ++ of 6 2) ∷ (of 6 2 ++ of 5 0) ∷ (of 6 1 ++ of 6 2) ∷ (of 6 2 ++ of 6 1) ∷ []) ≡
+    (11 ∷ [], (true ∷ true ∷ true ∷ false ∷ false ∷ false ∷ [], false))
+    ∷ (9 ∷ [], (nothing, true))
+    ∷ (11 ∷ [], (nothing, true))
+    ∷ (1 ∷ [], (nothing, true))
+    ∷ (11 ∷ [], (nothing, true))
+    ∷ []
+unfolding computing of may mingling comesTo nothing
+bad-adds = refl
+
+-- Thread t adds R2, which is 10 + t, to cell R1, which is cell 1.
+unfoldable pub gathering : Table
+gathering = rowOf 2 0 0 0 ∷ rowOf 1 1 1 0 ∷ rowOf 1 2 10 0 ∷ rowOf 4 2 2 0 ∷ rowOf 18 1 2 0 ∷ []
+
+unfoldable pub gathered : List Move → List ℕ × Bool
+gathered ms = let g = leaves gathering 3 (5 ∷ 4294967290 ∷ []) ms in (g .cells, g .bad)
+
+-- Adds of different threads are no race, and in every order they leave the same cells, modulo 2^32.
+pub adds-in-any-order : map gathered
+    (of 5 0
+    ∷ of 5 2
+    ∷ (of 5 0 ++ of 5 2)
+    ∷ (of 5 2 ++ of 5 0)
+    ∷ (of 5 0 ++ (of 5 1 ++ of 5 2))
+    ∷ (of 5 1 ++ (of 5 2 ++ of 5 0))
+    ∷ (of 5 2 ++ (of 5 1 ++ of 5 0))
+    ∷ [])
+    ≡ (5 ∷ 4 ∷ [], false)
+    ∷ (5 ∷ 6 ∷ [], false)
+    ∷ (5 ∷ 16 ∷ [], false)
+    ∷ (5 ∷ 16 ∷ [], false)
+    ∷ (5 ∷ 27 ∷ [], false)
+    ∷ (5 ∷ 27 ∷ [], false)
+    ∷ (5 ∷ 27 ∷ [], false)
+    ∷ []
+unfolding computing of gathering gathered
+adds-in-any-order = refl
+
+-- An add leaves its thread's registers, goes to the next row, and is recorded as an add, with its value.
+pub registers-kept : map stand (leaves gathering 3 (5 ∷ 4294967290 ∷ []) (of 5 2 ++ of 4 0) .threads) ≡
+    (4, (0 ∷ 1 ∷ 10 ∷ 0 ∷ 0 ∷ [], replicate 5 0)) ∷ (0, (replicate 5 0, replicate 5 0)) ∷ (5, (2 ∷ 1 ∷ 12 ∷ 0 ∷ 0 ∷ [], replicate 5 0)) ∷ []
+unfolding computing of gathering stand
+registers-kept = refl
+
+pub recorded-adds : map (leaves gathering 3 (5 ∷ 4294967290 ∷ []) (of 5 2 ++ of 5 0) .made) (0 ∷ 1 ∷ 2 ∷ []) ≡
+    (record { cell = 1; kind = atomicAdd 10 } ∷ []) ∷ [] ∷ (record { cell = 1; kind = atomicAdd 12 } ∷ []) ∷ []
+unfolding computing of gathering
+recorded-adds = refl
+
+-- An add of 0 is an add: thread 1's load after thread 0's, and thread 0's after thread 1's load.
+pub zero-adds : map (λ ms. leaves (rowOf 18 0 1 0 ∷ rowOf 16 2 0 0 ∷ []) 2 (9 ∷ []) ms .bad)
+    ((row 0 ∷ row 1 ∷ []) ∷ (row 0 ∷ row 1 ∷ row 1 ∷ []) ∷ (row 1 ∷ row 1 ∷ row 0 ∷ []) ∷ [])
+    ≡ false ∷ true ∷ true ∷ []
+unfolding computing
+zero-adds = refl
+
 -- One thread's own accesses of one cell are no race.
 pub own-accesses : leaves (rowOf 16 1 0 0 ∷ rowOf 17 0 1 0 ∷ rowOf 16 1 0 0 ∷ rowOf 17 0 1 0 ∷ []) 2 (9 ∷ []) (of 4 1) .bad ≡ false
 unfolding computing of
 own-accesses = refl
+
+-- Its own adds too: add, load, add, store, add.
+unfoldable pub adding : Table
+adding = rowOf 18 0 1 0 ∷ rowOf 16 1 0 0 ∷ rowOf 18 0 1 0 ∷ rowOf 17 0 1 0 ∷ rowOf 18 0 1 0 ∷ []
+
+pub own-adds : map (λ k. leaves adding 2 (9 ∷ []) (of k 1) .cells) (1 ∷ 2 ∷ 3 ∷ 4 ∷ 5 ∷ []) ≡ (9 ∷ []) ∷ (9 ∷ []) ∷ (18 ∷ []) ∷ (9 ∷ []) ∷ (18 ∷ []) ∷ []
+unfolding computing of adding
+own-adds = refl
+
+pub own-adds-well : leaves adding 2 (9 ∷ []) (of 5 1) .bad ≡ false
+unfolding computing of adding
+own-adds-well = refl
 
 -- `circling` to its end: two releases in the loop and one behind it, and the cells just before each.
 pub three-releases : played circling 2 (9 ∷ 9 ∷ [])
@@ -260,10 +346,10 @@ pub count-of-threads : map (λ th. take 3 (th .regs))
 unfolding computing of
 count-of-threads = refl
 
--- Address cells - 1 and address cells, of five cells, by LOAD and by STORE.
+-- Address cells - 1 and address cells, of five cells, by LOAD, by STORE and by ATOMIC ADD.
 pub edge-of-cells : map (λ x. leaves (rowOf 1 1 4 0 ∷ rowOf 1 2 5 0 ∷ x ∷ []) 1 (10 ∷ 11 ∷ 12 ∷ 13 ∷ 14 ∷ []) (of 3 0) .bad)
-    (rowOf 16 3 1 0 ∷ rowOf 16 3 2 0 ∷ rowOf 17 1 2 0 ∷ rowOf 17 2 1 0 ∷ [])
-    ≡ false ∷ true ∷ false ∷ true ∷ []
+    (rowOf 16 3 1 0 ∷ rowOf 16 3 2 0 ∷ rowOf 17 1 2 0 ∷ rowOf 17 2 1 0 ∷ rowOf 18 1 2 0 ∷ rowOf 18 2 1 0 ∷ [])
+    ≡ false ∷ true ∷ false ∷ true ∷ false ∷ true ∷ []
 unfolding computing of
 edge-of-cells = refl
 

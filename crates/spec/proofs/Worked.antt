@@ -7,6 +7,7 @@ use Rattle.spec.specs.LaunchFile.{Launch, Checked, refused, accepted, fi
 use Rattle.spec.specs.Entries.{launchRun, printed}
 use Rattle.spec.specs.Examples.{Worked, examples}
 use Rattle.spec.specs.RunExamples.{runExamples}
+use Rattle.spec.specs.AddExamples.{addExamples}
 use Rattle.spec.proofs.Computing.{computing}
 
 unfoldable pub finalLog : Checked Launch → List ℕ
@@ -26,3 +27,7 @@ worked = refl
 pub worked-runs : map computed runExamples ≡ map expected runExamples
 unfolding computing computed expected finalLog
 worked-runs = refl
+
+pub worked-adds : map computed addExamples ≡ map expected addExamples
+unfolding computing computed expected finalLog
+worked-adds = refl

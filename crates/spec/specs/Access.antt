@@ -4,34 +4,52 @@ use mathlib.Core.Bool.{Bool, true, false, not, _&&_}
 use Prim.Native.Nat.{ℕ}
 use lib.Dec.{eqb}
 use lib.ListN.{set}
+use Rattle.spec.specs.Word.{add}
 
--- A store says the value that it stores.
+-- A store says the value that it stores, an atomic add the value that it adds.
 pub data Kind : Type 0 where
   load : Kind
   store : ℕ → Kind
+  atomicAdd : ℕ → Kind
 
--- "The kernel table", LOAD and STORE: what the access leaves in its cell, by what the cell held before.
+-- "The kernel table", LOAD and STORE; item 1: what the access leaves in its cell, by what the cell held before. An add grows it modulo 2^32.
 unfoldable pub cellAfter : Kind → ℕ → ℕ
 cellAfter load old = old
 cellAfter (store v) old = v
+cellAfter (atomicAdd v) old = add old v
 
--- The thread's registers after the access, d being the row's byte d and `old` what the cell held.
+-- The thread's registers after the access, d being the row's byte d and `old` what the cell held. Only a load returns something.
 unfoldable pub registersAfter : Kind → (d old : ℕ) → List ℕ → List ℕ
 registersAfter load d old regs = set regs d old
 registersAfter (store v) d old regs = regs
+registersAfter (atomicAdd v) d old regs = regs
+
+-- What an access does to its cell, whatever the value.
+pub data Mode : Type 0 where
+  reads writes adds : Mode
+
+unfoldable pub mode : Kind → Mode
+mode load = reads
+mode (store v) = writes
+mode (atomicAdd v) = adds
 
 pub record Access : Type 0 where
   pub cell : ℕ
   pub kind : Kind
 
--- "The threads' own machine": two accesses of one cell by different threads race if one of them at least is a store.
--- So two kinds are compatible if both only read.
-unfoldable pub compatible : Kind → Kind → Bool
-compatible load load = true
-compatible load (store w) = false
-compatible (store v) load = false
-compatible (store v) (store w) = false
+-- The conflict table, for two accesses of one cell by different threads. "The threads' own machine": they race if one of them at least is a store;
+-- item 1: an add races with a load or a store, but not with an add. So two modes agree if both read, or if both add.
+unfoldable pub agree : Mode → Mode → Bool
+agree reads reads = true
+agree reads writes = false
+agree reads adds = false
+agree writes reads = false
+agree writes writes = false
+agree writes adds = false
+agree adds reads = false
+agree adds writes = false
+agree adds adds = true
 
 -- The conflict of two accesses that different threads make.
 unfoldable pub conflict : Access → Access → Bool
-conflict x y = eqb (x .cell) (y .cell) && not (compatible (x .kind) (y .kind))
+conflict x y = eqb (x .cell) (y .cell) && not (agree (mode (x .kind)) (mode (y .kind)))

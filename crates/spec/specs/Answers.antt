@@ -4,7 +4,7 @@ use mathlib.Core.Option.{Option, none, some}
 use mathlib.Core.Bool.{Bool, true, false}
 use mathlib.Core.List.{List, [], _∷_}
 pub use Rattle.spec.specs.declared.AccessKind.{AccessKind}
-pub use Rattle.spec.specs.declared.AccessKind.the-variants.{ReadWrite, WriteRead, WriteWrite}
+pub use Rattle.spec.specs.declared.AccessKind.the-variants.{ReadWrite, WriteRead, WriteWrite, ReadAdd, AddRead, WriteAdd, AddWrite}
 pub use Rattle.spec.specs.declared.Verdict.{Verdict}
 pub use Rattle.spec.specs.declared.Verdict.the-variants.{Passed, Race, Outside, Diverged, Spent}
 pub use Rattle.spec.specs.declared.Outcome.{Outcome}

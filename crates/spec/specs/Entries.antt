@@ -5,7 +5,7 @@ use mathlib.Core.Option.{Option, none, some}
 use Prim.Native.Nat.{ℕ, _*_, _/_, _%_}
 use lib.Dec.{eqb, leb}
 use lib.ListN.{length, drop}
-use Rattle.spec.specs.Limits.{maxThreads, maxCells, maxRows, maxLimit, fileCells, fileLog, fileOutput}
+use Rattle.spec.specs.Limits.{maxThreads, maxCells, maxRows, maxLimit, logPerCell, fileCells, fileLog, fileOutput}
 use Rattle.spec.specs.Answers.{Outcome, Refusal, TableLength, TooManyRows, ThreadsOutOfRange, CellsOutOfRange, LimitOutOfRange, CellsLength}
 use Rattle.spec.specs.Answers.{LogLength, OutputLength, ReportCells, ReportTooLong}
 use Rattle.spec.specs.Answers.{Answer, Written, Subject, refusalNumber, refusalPlace, unless, first}
@@ -38,7 +38,7 @@ bareNumbers bytes threads cells limit =
 
 -- From the state, 20 and 21.
 unfoldable pub bareLent : (cells cellWords logWords : ℕ) → Option Refusal
-bareLent cells cellWords logWords = first (unless (eqb cellWords cells) CellsLength ∷ unless (eqb logWords (2 * cells)) LogLength ∷ [])
+bareLent cells cellWords logWords = first (unless (eqb cellWords cells) CellsLength ∷ unless (eqb logWords (logPerCell * cells)) LogLength ∷ [])
 
 -- The rows are checked between the two.
 unfoldable pub bareRefusal : (table : List ℕ) → (threads cells limit : ℕ) → (lentCells lentLog : List ℕ) → Option Refusal

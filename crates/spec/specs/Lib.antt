@@ -21,4 +21,5 @@ pub mod Reading
 pub mod Entries
 pub mod Examples
 pub mod RunExamples
+pub mod AddExamples
 pub mod Demands

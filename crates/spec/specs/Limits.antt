@@ -30,12 +30,16 @@ words = 2 ^ 32
 abbrev pub bytes : ℕ
 bytes = 256
 
+-- Words of the log for each cell.
+abbrev pub logPerCell : ℕ
+logPerCell = 3
+
 -- What the whole-file entry has to be lent: words for the cells, words for the log, bytes for the report.
 abbrev pub fileCells : ℕ
 fileCells = 1024
 
 abbrev pub fileLog : ℕ
-fileLog = 2048
+fileLog = 3072
 
 abbrev pub fileOutput : ℕ
 fileOutput = 17408

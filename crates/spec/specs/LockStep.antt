@@ -113,7 +113,7 @@ tryAccess s t d c k =
     let others = conflictMask (s .log) c t k in
     cond (any others) (stops (Race t (lowest others) (raceKind (s .log) c (lowest others) k) c) s) (continues (madeAccess s t d c k))
 
--- LOAD and STORE for thread t: a number not below the cell count is outside, which is told before a race.
+-- LOAD, STORE and ATOMIC ADD for thread t: a number not below the cell count is outside, which is told before a race.
 unfoldable pub accessTurn : Shape → Mem → Row → LockState → ℕ → Step
 accessTurn L m x s t =
     let c = reg s t (cellByte m x) in
@@ -171,7 +171,7 @@ whileRow T x s = leaveOrStay T (countSteps (s .enabled) s) (savedAtWhile (s .row
 unfoldable pub endwhileRow : LockState → LockState
 endwhileRow s = advance (topOpener (s .saved)) (s .enabled) (s .saved) (countSteps (s .enabled) s)
 
--- All pass a BARRIER: both logs are cleared and barriers grows by 1.
+-- All pass a BARRIER: the log is cleared and barriers grows by 1.
 unfoldable pub passBarrier : LockState → LockState
 passBarrier s =
     record {

@@ -1,26 +1,38 @@
--- The lock-step run's log: for each cell a reader mask and a writer mask. "The lock-step run", state, LOAD and STORE. Assumes nothing.
+-- The lock-step run's log: for each cell a reader mask, a writer mask and an adder mask. "The lock-step run", state, LOAD and STORE; item 1.
+-- Assumes nothing.
 use mathlib.Core.List.{List, [], _++_, map}
 use mathlib.Core.Bool.{true, false, cond}
 use Prim.Native.Nat.{ℕ}
 use lib.ListN.{getD, set, replicate}
-use Rattle.spec.specs.Answers.{AccessKind, ReadWrite, WriteRead, WriteWrite}
+use Rattle.spec.specs.Answers.{AccessKind, ReadWrite, WriteRead, WriteWrite, ReadAdd, AddRead, WriteAdd, AddWrite}
 use Rattle.spec.specs.Mask.{Mask, maskWord, has, union}
-use Rattle.spec.specs.Access.{Kind, load, store}
+use Rattle.spec.specs.Access.{Kind, load, store, atomicAdd, Mode, reads, writes, adds, mode, agree}
 
 pub record Log : Type 0 where
   pub readers : List Mask
   pub writers : List Mask
+  pub adders : List Mask
 
--- The log buffer holds all reader masks, then all writer masks.
+-- The masks of the threads that have accessed the cells in this mode.
+unfoldable pub masksOf : Log → Mode → List Mask
+masksOf G reads = G .readers
+masksOf G writes = G .writers
+masksOf G adds = G .adders
+
+-- The log buffer holds all reader masks, then all writer masks, then all adder masks.
 unfoldable pub logWords : Log → List ℕ
-logWords G = map maskWord (G .readers) ++ map maskWord (G .writers)
+logWords G = map maskWord (G .readers) ++ (map maskWord (G .writers) ++ map maskWord (G .adders))
 
 -- At the start the log is zero; n threads.
 unfoldable pub emptyLog : (n cells : ℕ) → Log
-emptyLog n cells = record { readers = replicate cells (replicate n false); writers = replicate cells (replicate n false) }
+emptyLog n cells = let none = replicate cells (replicate n false) in record { readers = none; writers = none; adders = none }
+
+-- At a barrier all masks are cleared.
+unfoldable pub nobody : Mask → Mask
+nobody m = map (λ b. false) m
 
 unfoldable pub cleared : Log → Log
-cleared G = record { readers = map (map (λ b. false)) (G .readers); writers = map (map (λ b. false)) (G .writers) }
+cleared G = record { readers = map nobody (G .readers); writers = map nobody (G .writers); adders = map nobody (G .adders) }
 
 -- Thread t enters the mask of cell c.
 unfoldable pub withThread : List Mask → ℕ → ℕ → List Mask
@@ -28,19 +40,25 @@ withThread masks c t = set masks c (set (getD masks c []) t true)
 
 -- Thread t's access of cell c, logged by its kind.
 unfoldable pub logged : Log → (c t : ℕ) → Kind → Log
-logged G c t load = record { readers = withThread (G .readers) c t; writers = G .writers }
-logged G c t (store v) = record { readers = G .readers; writers = withThread (G .writers) c t }
+logged G c t load = record { readers = withThread (G .readers) c t; writers = G .writers; adders = G .adders }
+logged G c t (store v) = record { readers = G .readers; writers = withThread (G .writers) c t; adders = G .adders }
+logged G c t (atomicAdd v) = record { readers = G .readers; writers = G .writers; adders = withThread (G .adders) c t }
 
--- The threads of the masks that an access of this kind is tested against: a LOAD against the writers, a STORE against readers and writers.
+-- The threads that have accessed cell c in mode m, where that conflicts with an access of kind k; else nobody.
+unfoldable pub conflicting : Log → (c : ℕ) → Mode → Kind → Mask
+conflicting G c m k = let those = getD (masksOf G m) c [] in cond (agree m (mode k)) (nobody those) those
+
+-- All that an access of kind k conflicts with. By the conflict table a LOAD is tested against writers and adders, a STORE against all three, an
+-- ATOMIC ADD against readers and writers.
 unfoldable pub testedMask : Log → ℕ → Kind → Mask
-testedMask G c load = getD (G .writers) c []
-testedMask G c (store v) = union (getD (G .writers) c []) (getD (G .readers) c [])
+testedMask G c k = union (conflicting G c writes k) (union (conflicting G c adds k) (conflicting G c reads k))
 
 -- The conflict mask of thread t's access: another thread among those.
 unfoldable pub conflictMask : Log → (c t : ℕ) → Kind → Mask
 conflictMask G c t k = set (testedMask G c k) t false
 
--- The kind of a race with thread u: ww where u wrote (even if it read as well), rw where it only read; a LOAD meets a writer.
+-- The kind of a race with thread u, the other's letter first: of the modes by which u conflicts with the access, w before a before r.
 unfoldable pub raceKind : Log → (c u : ℕ) → Kind → AccessKind
-raceKind G c u load = WriteRead
-raceKind G c u (store v) = cond (has (getD (G .writers) c []) u) WriteWrite ReadWrite
+raceKind G c u load = cond (has (conflicting G c writes load) u) WriteRead AddRead
+raceKind G c u (store v) = cond (has (conflicting G c writes (store v)) u) WriteWrite (cond (has (conflicting G c adds (store v)) u) AddWrite ReadWrite)
+raceKind G c u (atomicAdd v) = cond (has (conflicting G c writes (atomicAdd v)) u) WriteAdd ReadAdd

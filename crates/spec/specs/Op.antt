@@ -14,7 +14,7 @@ pub data Calc : Type 0 where
 
 -- Ops that access a cell.
 pub data Mem : Type 0 where
-  LOAD STORE : Mem
+  LOAD STORE ATOMICADD : Mem
 
 -- UNKNOWN stands for every byte that is no op. A table that has one is refused, so no run comes to it.
 pub data Op : Type 0 where
@@ -27,7 +27,7 @@ unfoldable pub opTable : List Op
 opTable =
     UNKNOWN ∷ CALC SET ∷ CALC TID ∷ CALC COUNT ∷ CALC ADD ∷ CALC SUB ∷ CALC MUL ∷ CALC AND
     ∷ CALC OR ∷ CALC XOR ∷ CALC SHR ∷ CALC SAR ∷ CALC EQ ∷ CALC LT ∷ CALC SLT ∷ UNKNOWN
-    ∷ MEM LOAD ∷ MEM STORE ∷ replicate 14 UNKNOWN
+    ∷ MEM LOAD ∷ MEM STORE ∷ MEM ATOMICADD ∷ replicate 13 UNKNOWN
     ++ (IF ∷ ELSE ∷ ENDIF ∷ WHILE ∷ ENDWHILE ∷ BARRIER ∷ replicate 218 UNKNOWN)
 
 unfoldable pub opOf : ℕ → Op
@@ -54,6 +54,7 @@ form (CALC LT) = dabForm
 form (CALC SLT) = dabForm
 form (MEM LOAD) = daForm
 form (MEM STORE) = daForm
+form (MEM ATOMICADD) = daForm
 form IF = aForm
 form ELSE = noForm
 form ENDIF = noForm

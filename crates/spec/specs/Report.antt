@@ -2,7 +2,8 @@
 use mathlib.Core.List.{List, [], _∷_, _++_, map}
 use Prim.Native.Nat.{ℕ}
 use Prim.Native.String.{String}
-use Rattle.spec.specs.Answers.{AccessKind, ReadWrite, WriteRead, WriteWrite, Verdict, Passed, Race, Outside, Diverged, Spent, Outcome, Subject, Value, Details}
+use Rattle.spec.specs.Answers.{AccessKind, ReadWrite, WriteRead, WriteWrite, ReadAdd, AddRead, WriteAdd, AddWrite}
+use Rattle.spec.specs.Answers.{Verdict, Passed, Race, Outside, Diverged, Spent, Outcome, Subject, Value, Details}
 use Rattle.spec.specs.declared.Subject.the-variants as subject
 use Rattle.spec.specs.declared.Value.the-variants as value
 use Rattle.spec.specs.Text.{text, newline, equals, hyphen, decimal}
@@ -19,6 +20,10 @@ unfoldable pub kindText : AccessKind → List ℕ
 kindText ReadWrite = text "rw"
 kindText WriteRead = text "wr"
 kindText WriteWrite = text "ww"
+kindText ReadAdd = text "ra"
+kindText AddRead = text "ar"
+kindText WriteAdd = text "wa"
+kindText AddWrite = text "aw"
 
 -- What stands behind a line's `=`.
 unfoldable pub valueText : Value → List ℕ

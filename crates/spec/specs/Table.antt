@@ -5,8 +5,8 @@ use mathlib.Core.List.{List, [], _∷_, tail}
 use mathlib.Core.Bool.{Bool, true, false, cond}
 use Prim.Native.Nat.{ℕ, zero, suc, _<_}
 use lib.ListN.{length, getD, drop}
-use Rattle.spec.specs.Access.{Kind, load, store}
-use Rattle.spec.specs.Op.{Op, CALC, Mem, MEM, LOAD, STORE, IF, ELSE, ENDIF, WHILE, ENDWHILE, BARRIER, UNKNOWN, opOf}
+use Rattle.spec.specs.Access.{Kind, load, store, atomicAdd}
+use Rattle.spec.specs.Op.{Op, CALC, Mem, MEM, LOAD, STORE, ATOMICADD, IF, ELSE, ENDIF, WHILE, ENDWHILE, BARRIER, UNKNOWN, opOf}
 
 pub record Row : Type 0 where
   pub op : Op
@@ -40,10 +40,12 @@ rowAt T r = getD T r noRow
 unfoldable pub cellByte : Mem → Row → ℕ
 cellByte LOAD x = x .a
 cellByte STORE x = x .d
+cellByte ATOMICADD x = x .d
 
 unfoldable pub kindOf : Mem → ℕ → Kind
 kindOf LOAD v = load
 kindOf STORE v = store v
+kindOf ATOMICADD v = atomicAdd v
 
 -- What a row is to the constructs: none of their rows, or it opens one, divides an IF in two, or closes one.
 pub data Role : Type 0 where

@@ -5,6 +5,10 @@ pub enum AccessKind {
     ReadWrite,
     WriteRead,
     WriteWrite,
+    ReadAdd,
+    AddRead,
+    WriteAdd,
+    AddWrite,
 }
 
 // How a launch ended.

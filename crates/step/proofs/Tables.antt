@@ -5,7 +5,7 @@ use Prim.Native.Nat.{ℕ, zero, suc, _+_, _*_, _<_, _≤_}
 use native.Mathlib.Omega.{arith}
 use native.Mathlib.Decide.{ℕ-discrete}
 use lib.ListN.{length, getD, drop}
-use Rattle.spec.specs.Op.{Calc, SET, TID, COUNT, ADD, SUB, MUL, AND, OR, XOR, SHR, SAR, EQ, LT, SLT, Op, CALC, Mem, MEM, LOAD, STORE, UNKNOWN, opOf, opTable}
+use Rattle.spec.specs.Op.{Calc, SET, TID, COUNT, ADD, SUB, MUL, AND, OR, XOR, SHR, SAR, EQ, LT, SLT, Op, CALC, Mem, MEM, LOAD, STORE, ATOMICADD, UNKNOWN, opOf, opTable}
 use Rattle.spec.specs.Table.{Row, rowOf, rowsOf, rowAt}
 use Rattle.spec.specs.LockStep.{LockState}
 use Rattle.spec.proofs.Laws.{rows-length, row-bytes}
@@ -52,11 +52,12 @@ compute-asks op d a b d′ a′ b′ ed ea eb A =
       right = λ h. omega (arith, A .right h);
     }
 
--- Ops 16 and 17 access a cell.
-pub mem-op : (k : ℕ) → 16 ≤ k → k ≤ 17 → (m : Mem) × (opOf k ≡ MEM m)
+-- Ops 16 to 18 access a cell.
+pub mem-op : (k : ℕ) → 16 ≤ k → k ≤ 18 → (m : Mem) × (opOf k ≡ MEM m)
 unfolding opOf opTable
-mem-op k h l = by (ℕ-discrete k 16)
+mem-op k h l = by (ℕ-discrete k 16) (ℕ-discrete k 17)
   where
-    by : Dec (k ≡ 16) → (m : Mem) × (opOf k ≡ MEM m)
-    by (yes e) = (LOAD, ap opOf e)
-    by (no n) = (STORE, ap opOf (let z : k ≡ 17 = omega arith in z))
+    by : Dec (k ≡ 16) → Dec (k ≡ 17) → (m : Mem) × (opOf k ≡ MEM m)
+    by (yes e) d = (LOAD, ap opOf e)
+    by (no n) (yes e) = (STORE, ap opOf e)
+    by (no n) (no f) = (ATOMICADD, ap opOf (let z : k ≡ 18 = omega arith in z))

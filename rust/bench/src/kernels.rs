@@ -11,6 +11,8 @@ const ME: u8 = 0;
 const ONE: u8 = 1;
 /// 1 for every other thread.
 const ODD: u8 = 2;
+/// Always 0.
+const ZERO: u8 = 15;
 
 const BARRIER: Row = [op::BARRIER, 0, 0, 0];
 
@@ -48,6 +50,16 @@ pub(crate) fn arithmetic() -> Vec<Row> {
 /// Loads and stores, and a loop's two rows among 34.
 pub(crate) fn load_store() -> Vec<Row> {
     endless(&ACCESS.repeat(16))
+}
+
+/// Each thread adds 1 to its own cell, and a loop's two rows among 34.
+pub(crate) fn add_own() -> Vec<Row> {
+    endless(&[[op::ATOMIC_ADD, ME, ONE, 0]; 32])
+}
+
+/// All threads add 1 to one cell, and a loop's two rows among 34.
+pub(crate) fn add_one() -> Vec<Row> {
+    endless(&[[op::ATOMIC_ADD, ZERO, ONE, 0]; 32])
 }
 
 /// Computing rows, loads and stores; half of the threads in each part of an IF.

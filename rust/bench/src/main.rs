@@ -26,6 +26,11 @@ fn loops() {
         "load and store",
         &measure::bare(&kernels::load_store(), 32, 32),
     );
+    speed(
+        "add, own cells",
+        &measure::bare(&kernels::add_own(), 32, 32),
+    );
+    speed("add, one cell", &measure::bare(&kernels::add_one(), 32, 32));
     speed("mixed", &measure::bare(&kernels::mixed(), 32, 32));
     let barrier = kernels::barrier(ROUND);
     speed("barrier, 32 cells", &measure::bare(&barrier, 32, 32));
@@ -56,6 +61,7 @@ fn threads() {
     for (name, rows) in [
         ("arithmetic", kernels::arithmetic()),
         ("load and store", kernels::load_store()),
+        ("add, own cells", kernels::add_own()),
         ("mixed", kernels::mixed()),
     ] {
         heading(&format!("threads, {name}"), "Mrows/s");

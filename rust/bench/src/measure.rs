@@ -44,7 +44,7 @@ fn time(repeats: u32, run: &mut impl FnMut() -> u32) -> Duration {
 pub(crate) fn bare(rows: &[Row], threads: u32, cells: u32) -> Best {
     let table = rows.concat();
     let mut lent_cells = vec![0; cells as usize];
-    let mut lent_log = vec![0; 2 * cells as usize];
+    let mut lent_log = vec![0; checker::log_words(cells as usize)];
     let (mut our_cells, mut our_log) = (lent_cells.clone(), lent_log.clone());
     best(
         1,

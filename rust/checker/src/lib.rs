@@ -1,5 +1,6 @@
-//! A checker of barrier kernels in lock step, written from document 01 and its
-//! readings alone. Every entry answers every input: none of them panics.
+//! A checker of barrier kernels in lock step, written from document 01, item 1
+//! of document 02 and their readings alone. Every entry answers every input:
+//! none of them panics.
 
 mod file;
 mod limits;
@@ -15,8 +16,6 @@ pub use limits::*;
 pub use report::{write_report, Subject};
 pub use table::op;
 pub use verdict::{AccessKind, Outcome, Verdict};
-
-use memory::Memory;
 
 /// A bare launch: refusals 1, 2, 8, 9, 10, rows, then 20, 21. The lent cells
 /// hold the launch's cells and keep what the run leaves; a refusal changes no
@@ -51,14 +50,9 @@ pub fn observed_launch(
     let program = table::decode(table)?;
     let cells = cells as usize;
     Refusal::unless(lent_cells.len() == cells, number::LENT_CELLS, 0)?;
-    Refusal::unless(lent_log.len() == 2 * cells, number::LENT_LOG, 0)?;
-    let mut memory = Memory::new(lent_cells, lent_log);
+    Refusal::unless(lent_log.len() == log_words(cells), number::LENT_LOG, 0)?;
     Ok(lock_step::run(
-        &program,
-        threads,
-        limit,
-        &mut memory,
-        at_barrier,
+        &program, threads, limit, lent_cells, lent_log, at_barrier,
     ))
 }
 
@@ -77,7 +71,7 @@ pub fn check_file(
     Refusal::unless(out.len() >= REPORT_ROOM, number::FILE_OUTPUT, 0)?;
     let cells = &mut lent_cells[..launch.cells.len()];
     cells.copy_from_slice(&launch.cells);
-    let mut memory = Memory::new(cells, lent_log);
-    let outcome = lock_step::run(&program, launch.threads, launch.limit, &mut memory, |_| {});
-    write_report(Subject::Ran(outcome), memory.cells(), out)
+    let (threads, limit) = (launch.threads, launch.limit);
+    let outcome = lock_step::run(&program, threads, limit, cells, lent_log, |_| {});
+    write_report(Subject::Ran(outcome), cells, out)
 }

@@ -15,9 +15,14 @@ pub const MAX_FILE: usize = 32_768;
 /// Words of cells that the whole-file entry is lent.
 pub const LENT_CELLS: usize = MAX_CELLS as usize;
 /// Words of log that the whole-file entry is lent.
-pub const LENT_LOG: usize = 2 * LENT_CELLS;
+pub const LENT_LOG: usize = log_words(LENT_CELLS);
 /// Bytes of output that the whole-file entry needs at least.
 pub const REPORT_ROOM: usize = 17_408;
+
+/// Words of log for so many cells: a reader, a writer and an adder mask each.
+pub const fn log_words(cells: usize) -> usize {
+    3 * cells
+}
 
 /// The refusal numbers of "Turned back", by name.
 pub mod number {
@@ -47,7 +52,7 @@ pub mod number {
     pub const FILE_LENGTH: u32 = 12;
     /// Lent cells not as many as said.
     pub const LENT_CELLS: u32 = 20;
-    /// Lent log not twice the cells.
+    /// Lent log not three times the cells.
     pub const LENT_LOG: u32 = 21;
     /// Report buffer too short.
     pub const REPORT_BUFFER: u32 = 22;

@@ -6,14 +6,32 @@ use crate::registers::{Enabled, Registers};
 use crate::table::{Instr, Program};
 use crate::verdict::{Outcome, Verdict};
 
-/// Runs a checked program for 1 to 32 threads. `at_barrier` sees the cells
-/// just before each counted barrier.
-#[inline(never)] // Its loop needs the machine's registers for itself.
+/// Runs a checked program for 1 to 32 threads over the lent cells and a log at
+/// least three times as long. `at_barrier` sees the cells just before each
+/// counted barrier.
 pub(crate) fn run(
     program: &Program,
     threads: u32,
     limit: u32,
-    memory: &mut Memory,
+    cells: &mut [u32],
+    log: &mut [u32],
+    at_barrier: impl FnMut(&[u32]),
+) -> Outcome {
+    if program.adds() {
+        let mut memory = Memory::<true>::new(cells, log);
+        run_rows(program, threads, limit, &mut memory, at_barrier)
+    } else {
+        let mut memory = Memory::<false>::new(cells, log);
+        run_rows(program, threads, limit, &mut memory, at_barrier)
+    }
+}
+
+#[inline(never)] // Its loop needs the machine's registers for itself.
+fn run_rows<const ADDS: bool>(
+    program: &Program,
+    threads: u32,
+    limit: u32,
+    memory: &mut Memory<ADDS>,
     mut at_barrier: impl FnMut(&[u32]),
 ) -> Outcome {
     let code = program.code();
@@ -31,7 +49,6 @@ pub(crate) fn run(
         if rows == limit {
             break Verdict::Spent { row: row as u32 };
         }
-        let mut next = row + 1;
         let mut stepping = enabled.count();
         match instr {
             Instr::Set { d, value } => registers.fill(&enabled, d, |_| u32::from(value)),
@@ -60,6 +77,12 @@ pub(crate) fn run(
                     break stopped(row, stop);
                 }
             }
+            Instr::AtomicAdd { d, a } => {
+                if let Err(stop) = memory.atomic_add(&registers, &enabled, d, a) {
+                    steps += steps_below(stop.thread, &enabled);
+                    break stopped(row, stop);
+                }
+            }
             Instr::If { a, level } => {
                 saved[slot(level)] = enabled.mask();
                 enabled.set(registers.truth(&enabled, a));
@@ -80,12 +103,12 @@ pub(crate) fn run(
                     enabled.set(remaining);
                 } else {
                     enabled.set(saved[slot(level)]);
-                    next = usize::from(exit);
+                    row = before(exit);
                 }
             }
             Instr::EndWhile { head } => {
                 from_end = true;
-                next = usize::from(head);
+                row = before(head);
             }
             Instr::Barrier => {
                 stepping = 0;
@@ -100,7 +123,7 @@ pub(crate) fn run(
         }
         steps += stepping;
         rows += 1;
-        row = next;
+        row = row.wrapping_add(1);
     };
     Outcome {
         verdict,
@@ -114,6 +137,12 @@ pub(crate) fn run(
 #[inline(always)]
 const fn slot(level: u8) -> usize {
     level as usize % MAX_NESTING
+}
+
+/// The row before a jump's target: every row ends by going on to the next.
+#[inline(always)]
+const fn before(target: u16) -> usize {
+    (target as usize).wrapping_sub(1)
 }
 
 /// A shift of 32 or more gives 0.

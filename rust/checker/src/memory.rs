@@ -1,6 +1,7 @@
-//! Cells and their access log: who read and who wrote each cell since the
-//! last counted barrier ("The lock-step run").
+//! Cells and their access log: who read, who wrote and who added to each cell
+//! since the last counted barrier ("The lock-step run", and item 1).
 
+use crate::limits::log_words;
 use crate::registers::{Enabled, Registers, Threads};
 use crate::table::Reg;
 use crate::verdict::AccessKind;
@@ -13,25 +14,29 @@ pub(crate) struct Stop {
     pub conflict: Option<(u32, AccessKind)>,
 }
 
-/// The lent cells and log: all reader masks, then all writer masks.
-pub(crate) struct Memory<'a> {
+/// The lent cells and log: all reader masks, all writer masks, then all adder
+/// masks. A kernel without ATOMIC ADD has `ADDS` false: its adder masks stay 0,
+/// and loads, stores and barriers are spared them.
+pub(crate) struct Memory<'a, const ADDS: bool> {
     cells: &'a mut [u32],
     readers: &'a mut [u32],
     writers: &'a mut [u32],
+    adders: &'a mut [u32],
 }
 
-impl<'a> Memory<'a> {
-    /// Takes a log at least twice as long as the cells, and clears it.
+impl<'a, const ADDS: bool> Memory<'a, ADDS> {
+    /// Takes a log at least three times as long as the cells, and clears it.
     pub(crate) fn new(cells: &'a mut [u32], log: &'a mut [u32]) -> Self {
+        let log = &mut log[..log_words(cells.len())];
+        log.fill(0);
         let (readers, rest) = log.split_at_mut(cells.len());
-        let (writers, _) = rest.split_at_mut(cells.len());
-        let mut memory = Self {
+        let (writers, adders) = rest.split_at_mut(cells.len());
+        Self {
             cells,
             readers,
             writers,
-        };
-        memory.clear_log();
-        memory
+            adders,
+        }
     }
 
     pub(crate) fn cells(&self) -> &[u32] {
@@ -41,6 +46,9 @@ impl<'a> Memory<'a> {
     pub(crate) fn clear_log(&mut self) {
         self.readers.fill(0);
         self.writers.fill(0);
+        if ADDS {
+            self.adders.fill(0);
+        }
     }
 
     /// LOAD Rd = cell numbered Ra, lowest thread first.
@@ -52,11 +60,12 @@ impl<'a> Memory<'a> {
         d: Reg,
         a: Reg,
     ) -> Result<(), Stop> {
-        // Equal lengths let one bounds check serve all three slices.
+        // Equal lengths let one bounds check serve all slices.
         let count = self.cells.len();
         let cells = &self.cells[..count];
         let readers = &mut self.readers[..count];
         let writers = &self.writers[..count];
+        let adders = if ADDS { &self.adders[..count] } else { &[] };
         for thread in Threads(enabled.mask()) {
             let at = registers.get(a, thread);
             let cell = at as usize;
@@ -64,9 +73,9 @@ impl<'a> Memory<'a> {
                 return Err(outside(thread, at));
             }
             let me = 1 << thread;
-            let wrote = writers[cell] & !me;
-            if wrote != 0 {
-                return Err(race(thread, at, wrote, AccessKind::Wr));
+            let added = if ADDS { adders[cell] } else { 0 };
+            if (writers[cell] | added) & !me != 0 {
+                return Err(self.load_race(thread, at));
             }
             readers[cell] |= me;
             registers.put(d, thread, cells[cell]);
@@ -87,6 +96,7 @@ impl<'a> Memory<'a> {
         let cells = &mut self.cells[..count];
         let readers = &self.readers[..count];
         let writers = &mut self.writers[..count];
+        let adders = if ADDS { &self.adders[..count] } else { &[] };
         for thread in Threads(enabled.mask()) {
             let at = registers.get(d, thread);
             let cell = at as usize;
@@ -94,36 +104,83 @@ impl<'a> Memory<'a> {
                 return Err(outside(thread, at));
             }
             let me = 1 << thread;
-            let touched = (readers[cell] | writers[cell]) & !me;
-            if touched != 0 {
-                return Err(race(
-                    thread,
-                    at,
-                    touched,
-                    store_kind(touched, writers[cell]),
-                ));
+            let added = if ADDS { adders[cell] } else { 0 };
+            if (readers[cell] | writers[cell] | added) & !me != 0 {
+                return Err(self.store_race(thread, at));
             }
             writers[cell] |= me;
             cells[cell] = registers.get(a, thread);
         }
         Ok(())
     }
-}
 
-/// ww where the lowest conflicting thread wrote, rw where it only read.
-#[cold]
-fn store_kind(conflict: u32, writers: u32) -> AccessKind {
-    let lowest = conflict & conflict.wrapping_neg();
-    if writers & lowest != 0 {
-        AccessKind::Ww
-    } else {
-        AccessKind::Rw
+    /// ATOMIC ADD: the cell numbered Rd grows by Ra, lowest thread first.
+    #[inline(always)]
+    pub(crate) fn atomic_add(
+        &mut self,
+        registers: &Registers,
+        enabled: &Enabled,
+        d: Reg,
+        a: Reg,
+    ) -> Result<(), Stop> {
+        if !ADDS {
+            return Ok(()); // never met: said so that no code is made for it
+        }
+        let count = self.cells.len();
+        let cells = &mut self.cells[..count];
+        let readers = &self.readers[..count];
+        let writers = &self.writers[..count];
+        let adders = &mut self.adders[..count];
+        for thread in Threads(enabled.mask()) {
+            let at = registers.get(d, thread);
+            let cell = at as usize;
+            if cell >= count {
+                return Err(outside(thread, at));
+            }
+            let me = 1 << thread;
+            if (readers[cell] | writers[cell]) & !me != 0 {
+                return Err(self.add_race(thread, at));
+            }
+            adders[cell] |= me;
+            cells[cell] = cells[cell].wrapping_add(registers.get(a, thread));
+        }
+        Ok(())
+    }
+
+    #[cold]
+    fn load_race(&self, thread: u32, at: u32) -> Stop {
+        let cell = at as usize;
+        let written = (self.writers[cell], AccessKind::Wr);
+        let added = (self.adders[cell], AccessKind::Ar);
+        race(thread, at, &[written, added])
+    }
+
+    #[cold]
+    fn store_race(&self, thread: u32, at: u32) -> Stop {
+        let cell = at as usize;
+        let written = (self.writers[cell], AccessKind::Ww);
+        let added = (self.adders[cell], AccessKind::Aw);
+        let read = (self.readers[cell], AccessKind::Rw);
+        race(thread, at, &[written, added, read])
+    }
+
+    #[cold]
+    fn add_race(&self, thread: u32, at: u32) -> Stop {
+        let cell = at as usize;
+        let written = (self.writers[cell], AccessKind::Wa);
+        let read = (self.readers[cell], AccessKind::Ra);
+        race(thread, at, &[written, read])
     }
 }
 
-#[cold]
-fn outside(thread: u32, at: u32) -> Stop {
-    let conflict = None;
+/// The masks are those of the accesses that conflict, in the order in which
+/// they are shown; the lowest thread of them all is the other.
+fn race(thread: u32, at: u32, masks: &[(u32, AccessKind)]) -> Stop {
+    let others = !(1 << thread);
+    let all = masks.iter().fold(0, |all, (mask, _)| all | mask & others);
+    let lowest = all & all.wrapping_neg();
+    let shown = masks.iter().find(|(mask, _)| mask & lowest != 0);
+    let conflict = shown.map(|&(_, kind)| (lowest.trailing_zeros(), kind));
     Stop {
         thread,
         at,
@@ -132,8 +189,8 @@ fn outside(thread: u32, at: u32) -> Stop {
 }
 
 #[cold]
-fn race(thread: u32, at: u32, conflict: u32, kind: AccessKind) -> Stop {
-    let conflict = Some((conflict.trailing_zeros(), kind));
+fn outside(thread: u32, at: u32) -> Stop {
+    let conflict = None;
     Stop {
         thread,
         at,

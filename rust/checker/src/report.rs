@@ -103,6 +103,10 @@ const fn kind_word(kind: AccessKind) -> &'static str {
         AccessKind::Rw => "rw",
         AccessKind::Wr => "wr",
         AccessKind::Ww => "ww",
+        AccessKind::Ra => "ra",
+        AccessKind::Ar => "ar",
+        AccessKind::Wa => "wa",
+        AccessKind::Aw => "aw",
     }
 }
 

@@ -21,6 +21,7 @@ pub mod op {
     pub const SLT: u8 = 14;
     pub const LOAD: u8 = 16;
     pub const STORE: u8 = 17;
+    pub const ATOMIC_ADD: u8 = 18;
     pub const IF: u8 = 32;
     pub const ELSE: u8 = 33;
     pub const ENDIF: u8 = 34;
@@ -57,6 +58,7 @@ const fn forms() -> [Form; 256] {
     }
     forms[op::LOAD as usize] = Form::Da;
     forms[op::STORE as usize] = Form::Da;
+    forms[op::ATOMIC_ADD as usize] = Form::Da;
     forms[op::IF as usize] = Form::A;
     forms[op::WHILE as usize] = Form::A;
     forms[op::ELSE as usize] = Form::Nothing;
@@ -133,6 +135,10 @@ pub(crate) enum Instr {
         d: Reg,
         a: Reg,
     },
+    AtomicAdd {
+        d: Reg,
+        a: Reg,
+    },
     If {
         a: Reg,
         level: u8,
@@ -167,6 +173,12 @@ impl Program {
     /// The rows in order.
     pub(crate) fn code(&self) -> &[Instr] {
         &self.rows[..self.len]
+    }
+
+    /// Whether there is an ATOMIC ADD row.
+    pub(crate) fn adds(&self) -> bool {
+        let is_add = |instr: &Instr| matches!(instr, Instr::AtomicAdd { .. });
+        self.code().iter().any(is_add)
     }
 }
 
@@ -245,6 +257,7 @@ impl Decoder {
             op::SLT => Instr::Slt(dab),
             op::LOAD => Instr::Load { d, a },
             op::STORE => Instr::Store { d, a },
+            op::ATOMIC_ADD => Instr::AtomicAdd { d, a },
             op::IF => self.begin_if(row, a)?,
             op::ELSE => self.read_else(row)?,
             op::ENDIF => self.end_if(row)?,
@@ -322,7 +335,7 @@ mod tests {
     #[test]
     fn forms_cover_exactly_the_known_ops() {
         let known: Vec<usize> = (0..256).filter(|&i| FORMS[i] != Form::Unknown).collect();
-        let expected: Vec<usize> = (1..=14).chain(16..=17).chain(32..=37).collect();
+        let expected: Vec<usize> = (1..=14).chain(16..=18).chain(32..=37).collect();
         assert_eq!(known, expected);
     }
 

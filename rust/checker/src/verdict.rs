@@ -1,7 +1,8 @@
 //! What a launch came to.
 
 /// How two accesses to one cell conflict: the other's first, then the
-/// acting thread's.
+/// acting thread's. Where the other conflicts by several, a write is shown
+/// before an add, and an add before a read.
 #[derive(Clone, Copy, Debug, PartialEq, Eq, Hash, PartialOrd, Ord)]
 pub enum AccessKind {
     /// The other only read, the thread stores.
@@ -10,6 +11,14 @@ pub enum AccessKind {
     Wr,
     /// The other wrote, the thread stores.
     Ww,
+    /// The other read and didn't write, the thread adds.
+    Ra,
+    /// The other added and didn't write, the thread loads.
+    Ar,
+    /// The other wrote, the thread adds.
+    Wa,
+    /// The other added and didn't write, the thread stores.
+    Aw,
 }
 
 /// How the run ended.

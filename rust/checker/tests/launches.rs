@@ -2,17 +2,8 @@
 
 mod common;
 
-use checker::{observed_launch, AccessKind, Outcome, Verdict};
+use checker::{observed_launch, AccessKind, Verdict};
 use common::*;
-
-fn outcome(verdict: Verdict, rows: u32, steps: u32, barriers: u32) -> Outcome {
-    Outcome {
-        verdict,
-        rows,
-        steps,
-        barriers,
-    }
-}
 
 fn p1_rows() -> Vec<Row> {
     vec![
@@ -307,14 +298,14 @@ fn a_loop_in_a_loop_saves_its_mask_anew() {
 #[test]
 fn barriers_are_observed_before_the_row_is_counted() {
     let rows = [tid(0), store(0, 0), BARRIER, BARRIER, store(0, 1)];
-    let (mut cells, mut log) = ([7, 7], [0; 4]);
+    let (mut cells, mut log) = ([7, 7], [0; 6]);
     let mut seen = Vec::new();
     let found = observed_launch(&rows.concat(), 2, 2, 9, &mut cells, &mut log, |cells| {
         seen.push(cells.to_vec());
     });
     assert_eq!(found, Ok(outcome(Verdict::Passed, 5, 6, 2)));
     assert_eq!(seen, [[0, 1], [0, 1]]);
-    assert_eq!((cells, log), ([0, 0], [0, 0, 1, 2]));
+    assert_eq!((cells, log), ([0, 0], [0, 0, 1, 2, 0, 0]));
 }
 
 #[test]

@@ -37,10 +37,11 @@ fn bare_launches_in_order() {
 #[test]
 fn lent_buffers_fit_exactly() {
     for (cells, log, expected) in [
-        (1, 4, refusal(20, 0)),
-        (3, 3, refusal(20, 0)),
-        (2, 3, refusal(21, 0)),
+        (1, 6, refusal(20, 0)),
+        (3, 5, refusal(20, 0)),
         (2, 5, refusal(21, 0)),
+        (2, 7, refusal(21, 0)),
+        (2, 4, refusal(21, 0)), // twice the cells
         (2, 0, refusal(21, 0)),
     ] {
         let (mut lent_cells, mut lent_log) = (vec![5; cells], vec![6; log]);
@@ -48,18 +49,20 @@ fn lent_buffers_fit_exactly() {
         assert_eq!(found, Err(expected));
         assert_eq!((lent_cells, lent_log), (vec![5; cells], vec![6; log]));
     }
+    let fitting = bare_launch(&[], 1, 2, 0, &mut [5; 2], &mut [6; 6]);
+    assert!(fitting.is_ok());
 }
 
 #[test]
 fn rows_3_unknown_op() {
-    for op in [0, 15, 18, 31, 38, 255] {
+    for op in [0, 15, 19, 31, 38, 255] {
         assert_eq!(refused(&[tid(0), [op, 255, 255, 255]]), refusal(3, 1));
     }
 }
 
 #[test]
 fn rows_4_operands() {
-    let wrong: [Row; 21] = [
+    let wrong: [Row; 28] = [
         [1, 16, 0, 0],
         [2, 16, 0, 0],
         [2, 0, 1, 0],
@@ -72,6 +75,13 @@ fn rows_4_operands() {
         [16, 0, 16, 0],
         [16, 0, 0, 1],
         [17, 0, 0, 1],
+        [18, 16, 0, 0],
+        [18, 255, 15, 0],
+        [18, 0, 16, 0],
+        [18, 15, 255, 0],
+        [18, 0, 0, 1],
+        [18, 0, 0, 16],
+        [18, 15, 15, 255],
         [32, 1, 0, 0],
         [32, 0, 16, 0],
         [32, 0, 0, 1],
@@ -258,13 +268,15 @@ fn files_rows_come_after_all_lines_and_count_from_0() {
 #[test]
 fn whole_file_buffers() {
     for (cells, log, out, expected) in [
-        (1_023, 2_047, 0, 20),
-        (1_025, 2_048, 17_408, 20),
-        (3, 6, 17_408, 20),
-        (1_024, 2_047, 17_407, 21),
-        (1_024, 2_049, 17_408, 21),
-        (1_024, 2_048, 17_407, 24),
-        (1_024, 2_048, 0, 24),
+        (1_023, 3_071, 0, 20),
+        (1_025, 3_072, 17_408, 20),
+        (3, 9, 17_408, 20),
+        (1_024, 3_071, 17_407, 21),
+        (1_024, 3_073, 17_408, 21),
+        (1_024, 2_048, 17_408, 21),
+        (1_024, 9, 17_408, 21), // three times the file's own cells
+        (1_024, 3_072, 17_407, 24),
+        (1_024, 3_072, 0, 24),
     ] {
         let (mut lent_cells, mut lent_log, mut room) = (vec![5; cells], vec![6; log], vec![7; out]);
         let found = check_file(P1.as_bytes(), &mut lent_cells, &mut lent_log, &mut room);

@@ -132,6 +132,10 @@ fn kind(ours: sekufoyi::AccessKind) -> AccessKind {
         sekufoyi::AccessKind::Rw => AccessKind::Rw,
         sekufoyi::AccessKind::Wr => AccessKind::Wr,
         sekufoyi::AccessKind::Ww => AccessKind::Ww,
+        sekufoyi::AccessKind::Ra => AccessKind::Ra,
+        sekufoyi::AccessKind::Ar => AccessKind::Ar,
+        sekufoyi::AccessKind::Wa => AccessKind::Wa,
+        sekufoyi::AccessKind::Aw => AccessKind::Aw,
     }
 }
 
@@ -140,6 +144,10 @@ fn kind_for(theirs: AccessKind) -> sekufoyi::AccessKind {
         AccessKind::Rw => sekufoyi::AccessKind::Rw,
         AccessKind::Wr => sekufoyi::AccessKind::Wr,
         AccessKind::Ww => sekufoyi::AccessKind::Ww,
+        AccessKind::Ra => sekufoyi::AccessKind::Ra,
+        AccessKind::Ar => sekufoyi::AccessKind::Ar,
+        AccessKind::Wa => sekufoyi::AccessKind::Wa,
+        AccessKind::Aw => sekufoyi::AccessKind::Aw,
     }
 }
 

@@ -53,8 +53,8 @@ fn lend(seed: u64) -> Lent {
 
 fn wrong_size(rng: &mut Rng, which: usize) -> usize {
     match which {
-        0 => rng.pick(&[1_023, 1_025, 0, 2_048]),
-        1 => rng.pick(&[2_047, 2_049, 0, 1_024]),
+        0 => rng.pick(&[1_023, 1_025, 0, 3_072]),
+        1 => rng.pick(&[3_071, 3_073, 2_048, 0, 1_024, 4_096]),
         _ => rng.pick(&[0, 1, 17_407, 17_407, 1_024]),
     }
 }

@@ -62,9 +62,19 @@ fn subject(rng: &mut Rng) -> Subject {
     })
 }
 
+const KINDS: [AccessKind; 7] = [
+    AccessKind::Rw,
+    AccessKind::Wr,
+    AccessKind::Ww,
+    AccessKind::Ra,
+    AccessKind::Ar,
+    AccessKind::Wa,
+    AccessKind::Aw,
+];
+
 fn verdict(rng: &mut Rng) -> Verdict {
     let [row, thread, other, at] = std::array::from_fn(|_| digits(rng));
-    let kind = rng.pick(&[AccessKind::Rw, AccessKind::Wr, AccessKind::Ww]);
+    let kind = rng.pick(&KINDS);
     match rng.below(7) {
         0 => Verdict::Passed,
         1 => Verdict::Outside { row, thread, at },

@@ -1,14 +1,16 @@
 //! The two checkers agree, and a checker with a fault is found out.
 
-use checker::{Outcome, Refusal, Subject, LENT_LOG, REPORT_ROOM};
+use checker::{
+    log_words, parse_file, AccessKind, Outcome, Refusal, Subject, Verdict, LENT_LOG, REPORT_ROOM,
+};
 use compare::{compare_all, compare_seed, Checker, Independent, Kind, Numbers};
 
 #[test]
 fn the_verified_library_agrees_with_the_independent_checker() {
-    let tally = compare_all(1 << 40, 3_200, |_| ()).unwrap_or_else(|found| panic!("{found}"));
+    let tally = compare_all(1 << 40, 4_800, |_| ()).unwrap_or_else(|found| panic!("{found}"));
     assert_eq!(
         [Kind::File, Kind::Bare, Kind::Report].map(|kind| tally.of(kind)),
-        [2_400, 600, 200]
+        [3_600, 900, 300]
     );
     for answer in ["passed", "race", "outside", "diverged", "spent"] {
         let answer = format!("verdict={answer}");
@@ -32,7 +34,7 @@ fn the_verified_library_agrees_with_the_independent_checker() {
 }
 
 /// The independent checker with one mistake.
-#[derive(Clone, Copy)]
+#[derive(Clone, Copy, Debug)]
 enum Faulty {
     PlaceOffByOne,
     ChangesTheLastCell,
@@ -44,6 +46,12 @@ enum Faulty {
     TellsTheLogBeforeTheCells,
     TellsCellsBeforeThreads,
     TellsTheBufferBeforeTheCells,
+    ForgetsTheAdders,
+    PutsTheAddersBeforeTheWriters,
+    LeavesTheAddersAsLent,
+    TakesALogOfTwoKinds,
+    SwapsTheLetters,
+    ShowsAnAddBeforeAWrite,
 }
 
 /// A refusal whose place is 0.
@@ -79,6 +87,71 @@ impl Faulty {
         }
         answer
     }
+
+    /// Does the mistake to the log that a run of so many cells has left.
+    fn spoil_log(self, log: &mut [u32], lent: &[u32], cells: usize) {
+        let [writers, adders] = [cells..2 * cells, 2 * cells..3 * cells];
+        match self {
+            Faulty::ForgetsTheAdders => log[adders].fill(0),
+            Faulty::PutsTheAddersBeforeTheWriters => {
+                log[writers.start..adders.end].rotate_left(cells)
+            }
+            Faulty::LeavesTheAddersAsLent => {
+                for word in adders {
+                    log[word] |= lent[word];
+                }
+            }
+            _ => {}
+        }
+    }
+
+    /// Whether a log that is too short by one kind of mask is taken.
+    fn takes(self, log: &[u32], words: usize) -> bool {
+        matches!(self, Faulty::TakesALogOfTwoKinds) && 3 * log.len() == 2 * words
+    }
+
+    /// The kind that the mistake makes of a race, with the masks of its cell.
+    fn spoil_kind(self, verdict: &mut Verdict, log: &[u32], cells: usize) {
+        let Verdict::Race {
+            kind, other, at, ..
+        } = verdict
+        else {
+            return;
+        };
+        match self {
+            Faulty::SwapsTheLetters => *kind = swapped(*kind),
+            Faulty::ShowsAnAddBeforeAWrite => {
+                let added = log[2 * cells + *at as usize] >> *other & 1 == 1;
+                *kind = match *kind {
+                    AccessKind::Wr if added => AccessKind::Ar,
+                    AccessKind::Ww if added => AccessKind::Aw,
+                    kind => kind,
+                };
+            }
+            _ => {}
+        }
+    }
+}
+
+/// The acting thread's letter first.
+fn swapped(kind: AccessKind) -> AccessKind {
+    match kind {
+        AccessKind::Rw => AccessKind::Wr,
+        AccessKind::Wr => AccessKind::Rw,
+        AccessKind::Ww => AccessKind::Ww,
+        AccessKind::Ra => AccessKind::Ar,
+        AccessKind::Ar => AccessKind::Ra,
+        AccessKind::Wa => AccessKind::Aw,
+        AccessKind::Aw => AccessKind::Wa,
+    }
+}
+
+/// The same in a report, whose line `kind=` is its fifth.
+fn swap_letters(report: &mut [u8]) {
+    let kind = report.split_mut(|&byte| byte == b'\n').nth(4);
+    if let Some([b'k', b'i', b'n', b'd', b'=', letters @ ..]) = kind {
+        letters.reverse();
+    }
 }
 
 impl Checker for Faulty {
@@ -89,7 +162,18 @@ impl Checker for Faulty {
         log: &mut [u32],
         output: &mut [u8],
     ) -> Result<usize, Refusal> {
+        let lent = log.to_vec();
+        if self.takes(log, LENT_LOG) {
+            let mut longer = vec![0; LENT_LOG];
+            return Independent.check_file(file, cells, &mut longer, output);
+        }
         let answer = Independent.check_file(file, cells, log, output);
+        if let (Ok(launch), Ok(written)) = (parse_file(file), answer) {
+            self.spoil_log(log, &lent, launch.cells.len());
+            if matches!(self, Faulty::SwapsTheLetters) {
+                swap_letters(&mut output[..written]);
+            }
+        }
         let answer = match (self, answer.map_err(|refusal| refusal.number)) {
             (Faulty::TellsTheOutputBeforeTheLog, Err(21)) if output.len() < REPORT_ROOM => {
                 refused(24)
@@ -107,17 +191,24 @@ impl Checker for Faulty {
         cells: &mut [u32],
         log: &mut [u32],
     ) -> Result<Outcome, Refusal> {
-        let mut answer = Independent.bare_launch(table, numbers, cells, log);
         let Numbers { cells: said, .. } = numbers;
+        let (lent, count) = (log.to_vec(), said as usize);
+        if self.takes(log, log_words(count)) {
+            let mut longer = vec![0; log_words(count)];
+            return Independent.bare_launch(table, numbers, cells, &mut longer);
+        }
+        let mut answer = Independent.bare_launch(table, numbers, cells, log);
         answer = match (self, answer.map_err(|refusal| refusal.number)) {
             (Faulty::TellsCellsBeforeThreads, Err(8)) if !(1..=1_024).contains(&said) => refused(9),
-            (Faulty::TellsTheLogBeforeTheCells, Err(20)) if log.len() != 2 * said as usize => {
+            (Faulty::TellsTheLogBeforeTheCells, Err(20)) if log.len() != log_words(count) => {
                 refused(21)
             }
             _ => answer,
         };
-        if let (Faulty::CountsAStepTooMany, Ok(outcome)) = (self, &mut answer) {
-            outcome.steps += 1;
+        if let Ok(outcome) = &mut answer {
+            outcome.steps += u32::from(matches!(self, Faulty::CountsAStepTooMany));
+            self.spoil_kind(&mut outcome.verdict, log, count);
+            self.spoil_log(log, &lent, count);
         }
         self.spoil(answer, cells, log, &mut [])
     }
@@ -129,6 +220,9 @@ impl Checker for Faulty {
         output: &mut [u8],
     ) -> Result<usize, Refusal> {
         let answer = Independent.write_report(subject, cells, output);
+        if let (Faulty::SwapsTheLetters, Ok(written)) = (self, answer) {
+            swap_letters(&mut output[..written]);
+        }
         let answer = match (self, answer.map_err(|refusal| refusal.number)) {
             // A report has no fewer bytes than this.
             (Faulty::TellsTheBufferBeforeTheCells, Err(23)) if output.len() < 50 => refused(22),
@@ -140,7 +234,7 @@ impl Checker for Faulty {
 
 /// Whether the fault shows in some launch of a kind among the first seeds.
 fn found_out(faulty: Faulty, kind: Kind) -> bool {
-    (0..1_600)
+    (0..16_000)
         .filter(|&seed| Kind::of(seed) == kind)
         .any(|seed| compare_seed(seed, &faulty, &Independent).is_err())
 }
@@ -155,8 +249,13 @@ fn a_fault_in_files_is_found_out() {
         Faulty::ClearsTheLogOnRefusal,
         Faulty::TellsTheOutputBeforeTheLog,
         Faulty::TellsTheLogBeforeTheCells,
+        Faulty::ForgetsTheAdders,
+        Faulty::PutsTheAddersBeforeTheWriters,
+        Faulty::LeavesTheAddersAsLent,
+        Faulty::TakesALogOfTwoKinds,
+        Faulty::SwapsTheLetters,
     ] {
-        assert!(found_out(faulty, Kind::File));
+        assert!(found_out(faulty, Kind::File), "{faulty:?}");
     }
 }
 
@@ -170,8 +269,14 @@ fn a_fault_in_bare_launches_is_found_out() {
         Faulty::ClearsTheLogOnRefusal,
         Faulty::TellsTheLogBeforeTheCells,
         Faulty::TellsCellsBeforeThreads,
+        Faulty::ForgetsTheAdders,
+        Faulty::PutsTheAddersBeforeTheWriters,
+        Faulty::LeavesTheAddersAsLent,
+        Faulty::TakesALogOfTwoKinds,
+        Faulty::SwapsTheLetters,
+        Faulty::ShowsAnAddBeforeAWrite,
     ] {
-        assert!(found_out(faulty, Kind::Bare));
+        assert!(found_out(faulty, Kind::Bare), "{faulty:?}");
     }
 }
 
@@ -181,8 +286,9 @@ fn a_fault_in_reports_is_found_out() {
         Faulty::PlaceOffByOne,
         Faulty::ChangesTheLastByte,
         Faulty::TellsTheBufferBeforeTheCells,
+        Faulty::SwapsTheLetters,
     ] {
-        assert!(found_out(faulty, Kind::Report));
+        assert!(found_out(faulty, Kind::Report), "{faulty:?}");
     }
 }
 

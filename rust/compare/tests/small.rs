@@ -1,6 +1,7 @@
 //! The launches that the explorer plays every run of: what it finds of the independent checker's answers holds of the verified
 //! library's too, because they are the same.
 
+use checker::log_words;
 use compare::{Checker, Independent, Numbers, Verified};
 
 /// The explorer's seeds, in its own test and some more.
@@ -18,8 +19,8 @@ fn small_launches_are_answered_alike() {
             limit: LIMIT,
         };
         let run = |checker: &dyn Fn(&mut [u32], &mut [u32]) -> String| {
-            let (mut cells, mut log) =
-                (launch.cells.clone(), vec![u32::MAX; 2 * launch.cells.len()]);
+            let mut cells = launch.cells.clone();
+            let mut log = vec![u32::MAX; log_words(cells.len())];
             (checker(&mut cells, &mut log), cells, log)
         };
         let ours = run(&|cells, log| {

@@ -1,7 +1,7 @@
 //! The claim that ties the lock-step verdict to all runs of the threads' own
 //! machine, checked from outside.
 
-use checker::{observed_launch, Outcome, Verdict};
+use checker::{log_words, observed_launch, Outcome, Verdict};
 use generator::SmallLaunch;
 
 use crate::machine::{Kernel, Standing, State};
@@ -59,7 +59,7 @@ pub fn check(launch: &SmallLaunch) -> Result<Confirmed, String> {
 
 fn run_lock_step(launch: &SmallLaunch) -> Result<LockStep, String> {
     let mut cells = launch.cells.clone();
-    let mut log = vec![0; 2 * cells.len()];
+    let mut log = vec![0; log_words(cells.len())];
     let count = cells.len() as u32;
     let mut barriers = vec![];
     let outcome = observed_launch(

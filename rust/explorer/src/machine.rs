@@ -1,5 +1,6 @@
-//! "The threads' own machine": written from that section and from "The kernel
-//! table" alone. Nothing here knows of masks or of the lock-step run.
+//! "The threads' own machine": written from that section, from "The kernel
+//! table" and from item 1 alone. Nothing here knows of masks or of the
+//! lock-step run.
 
 use std::cmp::Ordering;
 
@@ -98,18 +99,33 @@ struct Thread {
     loops: Vec<LoopCount>,
 }
 
+/// What an access does to its cell.
+#[derive(Clone, Copy, Debug, PartialEq, Eq, Hash, PartialOrd, Ord)]
+enum Kind {
+    Load,
+    Store,
+    Add,
+}
+
+impl Kind {
+    /// Loads agree with loads and adds with adds, in any order.
+    fn agrees_with(self, other: Self) -> bool {
+        self == other && self != Kind::Store
+    }
+}
+
 /// A record of one access.
 #[derive(Clone, Copy, Debug, PartialEq, Eq, Hash, PartialOrd, Ord)]
 struct Access {
     cell: u32,
     thread: usize,
-    store: bool,
+    kind: Kind,
 }
 
 impl Access {
-    /// One cell, different threads, at least one a store.
+    /// One cell, different threads, and kinds that don't agree.
     fn races_with(self, other: Self) -> bool {
-        self.cell == other.cell && self.thread != other.thread && (self.store || other.store)
+        self.cell == other.cell && self.thread != other.thread && !self.kind.agrees_with(other.kind)
     }
 }
 
@@ -136,7 +152,8 @@ pub enum Move {
 pub enum BadEnd {
     /// An access outside the cells.
     Outside,
-    /// Two records of one cell by different threads, at least one a store.
+    /// Two records of one cell by different threads: at least one a store, or
+    /// one an add and the other a load.
     Race,
 }
 
@@ -240,13 +257,19 @@ impl State {
             3 => thread.registers[d] = count,
             4..=14 => thread.registers[d] = compute(op, x, y),
             16 => {
-                self.access(number, x, false)?;
+                self.access(number, x, Kind::Load)?;
                 self.threads[number].registers[d] = self.cells[x as usize];
             }
             17 => {
                 let at = thread.registers[d];
-                self.access(number, at, true)?;
+                self.access(number, at, Kind::Store)?;
                 self.cells[at as usize] = x;
+            }
+            18 => {
+                let at = thread.registers[d];
+                self.access(number, at, Kind::Add)?;
+                let cell = &mut self.cells[at as usize];
+                *cell = compute(4, *cell, x);
             }
             IF if x == 0 => thread.row = jump,
             ELSE => thread.row = jump,
@@ -258,15 +281,11 @@ impl State {
     }
 
     /// Enters an access in the record, unless it ends the run badly.
-    fn access(&mut self, thread: usize, cell: u32, store: bool) -> Result<(), BadEnd> {
+    fn access(&mut self, thread: usize, cell: u32, kind: Kind) -> Result<(), BadEnd> {
         if cell as usize >= self.cells.len() {
             return Err(BadEnd::Outside);
         }
-        let access = Access {
-            cell,
-            thread,
-            store,
-        };
+        let access = Access { cell, thread, kind };
         if self.record.iter().any(|&other| access.races_with(other)) {
             return Err(BadEnd::Race);
         }
@@ -367,6 +386,19 @@ mod tests {
         assert_eq!([31, 32, most].map(|y| compute(11, top, y)), [most; 3]);
         assert_eq!([31, 32, most].map(|y| compute(11, top - 1, y)), [0; 3]);
         assert_eq!((compute(13, top, 0), compute(14, top, 0)), (0, 1));
+    }
+
+    #[test]
+    fn only_loads_and_only_adds_agree() {
+        use Kind::{Add, Load, Store};
+        let kinds = [Load, Store, Add];
+        let agree = kinds.map(|one| kinds.map(|other| one.agrees_with(other)));
+        let (yes, no) = (true, false);
+        assert_eq!(agree, [[yes, no, no], [no, no, no], [no, no, yes]]);
+        let access = |cell, thread, kind| Access { cell, thread, kind };
+        assert!(access(1, 0, Add).races_with(access(1, 1, Load)));
+        assert!(!access(1, 0, Add).races_with(access(1, 0, Load)));
+        assert!(!access(1, 0, Add).races_with(access(2, 1, Load)));
     }
 
     #[test]

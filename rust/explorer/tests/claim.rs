@@ -115,3 +115,65 @@ fn the_two_loop_barrier_is_stuck() {
     ];
     assert_eq!(check(&launch(2, &rows, &[0])), Ok(Confirmed::Stuck));
 }
+
+/// Thread's number in R0, 1 in R1, and R15 is 0: all mean cell 0 by it.
+const ADD: [u8; 4] = [18, 15, 1, 0];
+const LOAD: [u8; 4] = [16, 3, 15, 0];
+const STORE: [u8; 4] = [17, 15, 0, 0];
+
+#[test]
+fn adds_of_all_threads_pass_in_every_order() {
+    // Unequal amounts, and a sum that wraps.
+    let rows = [TID, ONE, ADD, [18, 15, 0, 0], BARRIER, LOAD, [17, 0, 3, 0]];
+    let one_cell = launch(3, &rows[..4], &[u32::MAX]);
+    assert_eq!(check(&one_cell), Ok(Confirmed::Passed));
+    // After a barrier all may load the sum; storing it over the sum is a race.
+    let loaded = launch(3, &rows[..6], &[5, 0, 0]);
+    assert_eq!(check(&loaded), Ok(Confirmed::Passed));
+    let stored = launch(3, &rows, &[5, 0, 0]);
+    assert_eq!(check(&stored), Ok(Confirmed::EndsBadly));
+}
+
+#[test]
+fn an_add_beside_anothers_load_or_store_ends_badly() {
+    for access in [LOAD, STORE] {
+        for [first, second] in [[ADD, access], [access, ADD]] {
+            let rows = [TID, ONE, begin_if(0), first, ELSE, second, ENDIF];
+            let found = check(&launch(2, &rows, &[0]));
+            assert_eq!(found, Ok(Confirmed::EndsBadly), "{first:?}, {second:?}");
+        }
+    }
+    let rows = [TID, ONE, begin_if(0), ADD, ELSE, ADD, ENDIF];
+    assert_eq!(check(&launch(2, &rows, &[0])), Ok(Confirmed::Passed));
+}
+
+#[test]
+fn own_accesses_beside_an_add_pass() {
+    let rows = [TID, ONE, begin_if(0), ADD, LOAD, STORE, ADD, ENDIF];
+    assert_eq!(check(&launch(2, &rows, &[0])), Ok(Confirmed::Passed));
+}
+
+#[test]
+fn a_release_parts_adds_from_loads_and_stores() {
+    for access in [LOAD, STORE] {
+        let late = [begin_if(0), access, ENDIF].concat();
+        let rows = |middle: &[[u8; 4]]| [&[TID, ONE, ADD], middle].concat().concat();
+        let parted = [rows(&[BARRIER]), late.clone()].concat();
+        let together = [rows(&[]), late].concat();
+        let of = |table: Vec<u8>| SmallLaunch {
+            table,
+            threads: 2,
+            cells: vec![7],
+        };
+        assert_eq!(check(&of(parted)), Ok(Confirmed::Passed));
+        assert_eq!(check(&of(together)), Ok(Confirmed::EndsBadly));
+    }
+}
+
+#[test]
+fn an_add_outside_ends_badly() {
+    // Thread 1's own cell isn't there; its amount would be.
+    let rows = [TID, ONE, [18, 0, 15, 0]];
+    assert_eq!(check(&launch(2, &rows, &[0])), Ok(Confirmed::EndsBadly));
+    assert_eq!(check(&launch(2, &rows, &[0, 0])), Ok(Confirmed::Passed));
+}

@@ -61,7 +61,12 @@ pub fn store(d: u8, a: u8) -> Row {
     [op::STORE, d, a, 0]
 }
 
-pub fn begin_if(a: u8) -> Row {
+/// The cell numbered Rd grows by Ra.
+pub fn atomic_add(d: u8, a: u8) -> Row {
+    [op::ATOMIC_ADD, d, a, 0]
+}
+
+pub const fn begin_if(a: u8) -> Row {
     [op::IF, 0, a, 0]
 }
 

@@ -1,5 +1,7 @@
 //! Bare launches, with buffers and lengths right and wrong.
 
+use checker::{log_words, LENT_CELLS, LENT_LOG};
+
 use crate::damage::hurt_rows;
 use crate::headers::{out_of_range, LIMIT};
 use crate::plan::Plan;
@@ -41,14 +43,14 @@ pub fn bare(rng: &mut Rng, any_plan: impl FnOnce(&mut Rng) -> Plan) -> BareLaunc
 }
 
 fn of(rng: &mut Rng, plan: Plan) -> BareLaunch {
-    let cells = plan.cells.len() as u32;
+    let log = log_words(plan.cells.len());
     BareLaunch {
         table: plan.table(),
         threads: plan.threads,
-        cells,
+        cells: plan.cells.len() as u32,
         limit: plan.limit,
         lent_cells: plan.cells,
-        lent_log: (0..2 * cells).map(|_| rng.word()).collect(),
+        lent_log: (0..log).map(|_| rng.word()).collect(),
     }
 }
 
@@ -82,9 +84,7 @@ fn hurt(rng: &mut Rng, launch: &mut BareLaunch) {
         4 => launch.cells = rng.pick(&[0, 1_025, u32::MAX, 1_024, 1]),
         5 => launch.limit = rng.pick(&[1_000_001, u32::MAX]),
         6 => resize(rng, &mut launch.lent_cells),
-        7 => resize(rng, &mut launch.lent_log),
-        // Half the log, as if readers and writers shared a word.
-        _ => launch.lent_log.truncate(launch.cells as usize),
+        _ => resize_log(rng, launch),
     }
 }
 
@@ -95,9 +95,19 @@ fn resize(rng: &mut Rng, words: &mut Vec<u32>) {
     let target = match rng.below(6) {
         0 | 1 => len + 1,
         2 | 3 => len.saturating_sub(1),
-        _ => rng.pick(&[0, 0, 1_024, 2_048]),
+        _ => rng.pick(&[0, 0, LENT_CELLS, LENT_LOG]),
     };
     words.resize(target, 7);
+}
+
+/// As other buffers, or as if one kind of mask were missing, or two, or as if
+/// there were a kind more.
+fn resize_log(rng: &mut Rng, launch: &mut BareLaunch) {
+    if rng.percent(60) {
+        return resize(rng, &mut launch.lent_log);
+    }
+    let masks = rng.pick(&[1, 2, 2, 2, 4]);
+    launch.lent_log.resize(masks * launch.lent_cells.len(), 7);
 }
 
 /// The faults of a bare launch that a refusal of their own is told for, in
@@ -122,7 +132,7 @@ const FAULTS: [fn(&mut Rng, &mut BareLaunch, &Plan); 8] = [
         launch.table = rows;
     },
     |rng, launch, _| resize(rng, &mut launch.lent_cells),
-    |rng, launch, _| resize(rng, &mut launch.lent_log),
+    |rng, launch, _| resize_log(rng, launch),
 ];
 
 /// One fault of a small launch, or two, often such as are told one after the

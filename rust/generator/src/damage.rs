@@ -78,9 +78,9 @@ fn put_row(rng: &mut Rng, rows: &mut Vec<Row>, row: Row) {
 
 fn unknown_op(rng: &mut Rng, rows: &mut Vec<Row>) {
     let code = match rng.below(3) {
-        0 => rng.pick(&[0, 15, 18, 31, 38, 255]),
+        0 => rng.pick(&[0, 15, 19, 31, 38, 255]),
         1 => rng.range(38, 255) as u8,
-        _ => rng.range(18, 31) as u8,
+        _ => rng.range(19, 31) as u8,
     };
     let operand = rng.pick(&[0, 0, 16, 255]);
     put_row(rng, rows, [code, operand, 0, operand]);

@@ -84,11 +84,12 @@ fn full_table(rng: &mut Rng) -> Plan {
     while table.len() < rows - 3 {
         let (d, a, b) = (rng.range(2, 15), rng.below(16), rng.below(16));
         let regs = [d as u8, a as u8, b as u8];
-        table.push(match rng.below(12) {
+        table.push(match rng.below(13) {
             0 => BARRIER,
             1 => load(regs[0], 0),
             2 => store(0, regs[1]),
-            3 => [1, regs[0], rng.byte(), rng.byte()],
+            3 => atomic_add(0, regs[1]),
+            4 => [1, regs[0], rng.byte(), rng.byte()],
             _ => [rng.range(4, 14) as u8, regs[0], regs[1], regs[2]],
         });
     }
@@ -110,11 +111,15 @@ fn straight_table(rng: &mut Rng) -> Plan {
         ]);
     }
     // Row 255 is due, stops the run, or is its last.
-    match rng.below(4) {
+    let outside = rng.pick(&[load(3, 2), store(2, 3), atomic_add(2, 3)]);
+    let racing = rng.pick(&[store(15, 0), store(2, 0), atomic_add(15, 0)]);
+    let plain = rng.pick(&[tid(3), atomic_add(2, 1)]);
+    match rng.below(5) {
         0 => rows.splice(253.., [BARRIER, sub(1, 15, 1), ENDIF]),
-        1 => rows.splice(253.., [ENDIF, sub(2, 15, 1), load(3, 2)]),
+        1 => rows.splice(253.., [ENDIF, sub(2, 15, 1), outside]),
         2 => rows.splice(253.., [ENDIF, tid(2), store(15, 0)]),
-        _ => rows.splice(253.., [ENDIF, tid(2), tid(3)]),
+        3 => rows.splice(253.., [ENDIF, load(2, 15), racing]),
+        _ => rows.splice(253.., [ENDIF, tid(2), plain]),
     }
     .for_each(drop);
     let cells = edge_words(rng, threads);
@@ -125,24 +130,18 @@ fn straight_table(rng: &mut Rng) -> Plan {
     plan
 }
 
-/// 1,024 cells, each written by one thread in a strided loop.
+/// 1,024 cells, each written or added to by one thread in a strided loop.
 fn all_cells(rng: &mut Rng) -> Plan {
     let threads = rng.threads();
     let count_cells = rng.pick(&[1_023, 1_024, 1_024]);
     let end = rng.pick(&[count_cells, count_cells, count_cells + 1]);
-    let rows = vec![
-        tid(0),
-        count(1),
-        set(2, end),
-        lt(3, 0, 2),
-        begin_while(3),
-        load(4, 0),
-        mul(4, 4, 4),
-        store(0, 4),
-        add(0, 0, 1),
-        lt(3, 0, 2),
-        ENDWHILE,
-    ];
+    let mut rows = vec![tid(0), count(1), set(2, end), lt(3, 0, 2), begin_while(3)];
+    match rng.below(3) {
+        0 => rows.extend([atomic_add(0, 0), atomic_add(0, 2)]),
+        1 => rows.extend([load(4, 0), atomic_add(0, 4)]),
+        _ => rows.extend([load(4, 0), mul(4, 4, 4), store(0, 4)]),
+    }
+    rows.extend([add(0, 0, 1), lt(3, 0, 2), ENDWHILE]);
     let cells = edge_words(rng, count_cells);
     Plan::new(rng, threads, rows, cells)
 }
@@ -150,11 +149,12 @@ fn all_cells(rng: &mut Rng) -> Plan {
 /// No row or one row, one cell.
 fn nearly_empty(rng: &mut Rng) -> Plan {
     let threads = rng.threads();
-    let rows = match rng.below(5) {
+    let rows = match rng.below(6) {
         0 => vec![],
         1 => vec![BARRIER],
         2 => vec![store(0, 0)],
         3 => vec![load(15, 15)],
+        4 => vec![atomic_add(15, 0)],
         _ => vec![tid(15)],
     };
     let cells = edge_words(rng, 1);

@@ -56,9 +56,9 @@ pub fn small(seed: u64) -> SmallLaunch {
 
 fn any_plan(rng: &mut Rng) -> Plan {
     match rng.below(100) {
-        0..=41 => patterns::pattern(rng),
-        42..=72 => random::random(rng),
-        73..=84 => extremes::extreme(rng),
+        0..=51 => patterns::pattern(rng),
+        52..=74 => random::random(rng),
+        75..=84 => extremes::extreme(rng),
         _ => words::words(rng),
     }
 }

@@ -6,21 +6,35 @@ use crate::asm::*;
 use crate::plan::Plan;
 use crate::rng::Rng;
 
-const PATTERNS: [fn(&mut Rng) -> Plan; 14] = [
+const PATTERNS: [fn(&mut Rng) -> Plan; 28] = [
     reduction,
     scan,
     stencil,
     shared_histogram,
     ordered_histogram,
     private_histogram,
+    added_histogram,
+    added_histogram,
+    common_counter,
     nested_loops,
     two_loops,
+    two_loops,
     uneven_trips,
+    uneven_trips,
+    guarded_barrier,
+    guarded_barrier,
     guarded_barrier,
     reaching_the_end,
     rotating_counters,
     one_after_the_other,
     one_after_the_other,
+    one_after_the_other,
+    one_after_the_other,
+    one_after_the_other,
+    one_after_the_other,
+    one_after_the_other,
+    one_after_many,
+    one_after_many,
 ];
 
 /// One of the patterns.
@@ -36,7 +50,7 @@ fn words(rng: &mut Rng, count: u32) -> Vec<u32> {
 fn cells(rng: &mut Rng, least: u32) -> Vec<u32> {
     let count = match rng.below(12) {
         0 => 1_024,
-        1 => least + 1,
+        1 => (least + 1).min(1_024),
         2 if least > 1 => least - 1, // the last address is outside
         3 => rng.range(least, 1_024),
         _ => least,
@@ -52,12 +66,26 @@ fn tree_threads(rng: &mut Rng) -> u32 {
     }
 }
 
-/// A BARRIER, left out in about one of `times` kernels.
+/// A BARRIER, left out in about one of `times` kernels, or skipped by all.
 fn barrier_unless(rng: &mut Rng, times: u32) -> Vec<Row> {
-    if rng.one_in(times) {
-        vec![]
-    } else {
+    if !rng.one_in(times) {
         vec![BARRIER]
+    } else if rng.one_in(3) {
+        SKIPPED.to_vec()
+    } else {
+        vec![]
+    }
+}
+
+/// A BARRIER that nobody comes to.
+const SKIPPED: [Row; 3] = [begin_if(15), BARRIER, ENDIF];
+
+/// Mostly nothing, otherwise a BARRIER or a skipped one.
+fn between(rng: &mut Rng) -> Vec<Row> {
+    match rng.below(10) {
+        0 | 1 => vec![BARRIER],
+        2 => SKIPPED.to_vec(),
+        _ => vec![],
     }
 }
 
@@ -155,7 +183,8 @@ fn stencil(rng: &mut Rng) -> Plan {
     Plan::new(rng, threads, rows, cells)
 }
 
-/// All threads count into shared bins: races as soon as two meet.
+/// All threads count into shared bins by loads and stores: races as soon as
+/// two meet.
 fn shared_histogram(rng: &mut Rng) -> Plan {
     let threads = rng.threads();
     let bins = 1 << rng.range(0, 5);
@@ -218,6 +247,109 @@ fn private_histogram(rng: &mut Rng) -> Plan {
         ENDIF,
     ]);
     let cells = cells(rng, threads);
+    Plan::new(rng, threads, rows, cells)
+}
+
+/// Bins behind the data, emptied, added to and summed up; or with one of the
+/// mistakes that are made with them.
+fn added_histogram(rng: &mut Rng) -> Plan {
+    let threads = rng.threads();
+    let bins = 1 << rng.range(0, 4);
+    let mut rows = vec![
+        tid(0),
+        set(1, 1),
+        count(2), // the first bin
+        set(3, bins - 1),
+        load(5, 0),
+        and(4, 5, 3),
+        add(4, 4, 2), // this thread's bin
+    ];
+    if rng.one_in(3) {
+        rows.extend(empty_bins(bins));
+        rows.extend(barrier_unless(rng, 4));
+    }
+    rows.extend(add_to_bins(rng));
+    rows.extend(barrier_unless(rng, 4));
+    rows.extend(sum_of_bins(rng, bins));
+    let cells = cells(rng, threads + bins);
+    Plan::new(rng, threads, rows, cells)
+}
+
+/// Each thread adds to the bin numbered R4, or those with R5 true do.
+fn add_to_bins(rng: &mut Rng) -> Vec<Row> {
+    let added = atomic_add(4, rng.pick(&[1, 1, 0, 5]));
+    match rng.below(12) {
+        // Mistakes: the bin is loaded on this side of the barrier, stored over,
+        // or emptied by a thread meanwhile; the barrier is for some only.
+        0 => vec![load(6, 4), added],
+        1 => vec![added, load(6, 4)],
+        2 => vec![added, store(4, 1)],
+        3 => vec![added, eq(7, 0, 15), begin_if(7), store(2, 15), ENDIF],
+        4 => vec![begin_if(5), added, BARRIER, ENDIF],
+        5 | 6 => vec![begin_if(5), added, ENDIF],
+        _ => vec![added; rng.range(1, 3) as usize],
+    }
+}
+
+/// The first threads store 0 to the bins from R2 on, one each.
+fn empty_bins(bins: u32) -> Vec<Row> {
+    vec![
+        set(7, bins),
+        lt(7, 0, 7),
+        begin_if(7),
+        add(8, 0, 2),
+        store(8, 15),
+        ENDIF,
+    ]
+}
+
+/// All threads or one of them load all bins from R2 on; each puts the sum in
+/// its own cell, or adds it there.
+fn sum_of_bins(rng: &mut Rng, bins: u32) -> Vec<Row> {
+    let put = rng.pick(&[store(0, 9), store(0, 9), atomic_add(0, 9)]);
+    let sum = [
+        set(10, bins),
+        begin_while(10),
+        sub(10, 10, 1),
+        add(11, 10, 2),
+        load(12, 11),
+        add(9, 9, 12),
+        ENDWHILE,
+        put,
+    ];
+    if rng.one_in(2) {
+        return sum.to_vec();
+    }
+    let (mine, end) = ([eq(7, 0, 15), begin_if(7)], [ENDIF]);
+    [&mine[..], &sum, &end].concat()
+}
+
+/// One cell that all threads add to, some of them more often; then all load
+/// it, or one of them stores it, mostly behind a barrier.
+fn common_counter(rng: &mut Rng) -> Plan {
+    let threads = tree_threads(rng);
+    let at = rng.pick(&[0, 0, 1, threads, 1_023]);
+    let trips = match rng.below(3) {
+        0 => set(3, rng.below(4)),
+        1 => set(3, 1),
+        _ => add(3, 0, 1),
+    };
+    let mut rows = vec![tid(0), set(1, 1), set(2, at), trips, begin_while(3)];
+    rows.push(atomic_add(2, rng.pick(&[0, 1, 1, 3])));
+    match rng.below(8) {
+        0 | 1 => rows.push(BARRIER),
+        2 => rows.push(load(4, 2)), // as if the add had given it a number
+        _ => {}
+    }
+    rows.extend([sub(3, 3, 1), ENDWHILE]);
+    rows.extend(barrier_unless(rng, 3));
+    rows.extend(match rng.below(4) {
+        0 => vec![eq(5, 0, 15), begin_if(5), store(2, 15), ENDIF],
+        1 => vec![load(4, 2), BARRIER, atomic_add(2, 4)],
+        2 => vec![atomic_add(2, 15), load(4, 2)],
+        _ => vec![load(4, 2)],
+    });
+    let cells = cells(rng, at + 1);
     Plan::new(rng, threads, rows, cells)
 }
 
@@ -296,7 +428,7 @@ fn uneven_trips(rng: &mut Rng) -> Plan {
 /// Threads from some number on skip the work, and the barrier with it.
 fn guarded_barrier(rng: &mut Rng) -> Plan {
     let threads = rng.threads();
-    let busy = rng.pick(&[0, 1, threads - 1, threads]);
+    let busy = rng.pick(&[0, 1, threads / 2, threads - 1, threads]);
     let mut rows = vec![
         tid(0),
         set(1, 1),
@@ -324,13 +456,11 @@ fn reaching_the_end(rng: &mut Rng) -> Plan {
     if rng.one_in(4) {
         rows.extend([sub(4, 15, 3), sub(3, 15, 4)]); // the same by way of below 0
     }
-    rows.push(if rng.one_in(2) {
-        load(5, 3)
-    } else {
-        store(3, 0)
-    });
+    rows.push(rng.pick(&[load(5, 3), store(3, 0), atomic_add(3, 0)]));
     if rng.one_in(3) {
-        rows.extend([sub(3, 15, 1), load(5, 3)]); // cell number 2^32 - 1
+        // Cell number 2^32 - 1.
+        let far = rng.pick(&[load(5, 3), atomic_add(3, 15)]);
+        rows.extend([sub(3, 15, 1), far]);
     }
     let cells = words(rng, threads + spare);
     Plan::new(rng, threads, rows, cells)
@@ -356,48 +486,73 @@ fn rotating_counters(rng: &mut Rng) -> Plan {
     Plan::new(rng, threads, rows, cells)
 }
 
-/// One thread loads a cell, stores it or both; then another does, or all the
-/// others do, mostly without a barrier between.
+/// One thread loads a cell, stores it, adds to it or several of these; then
+/// another does, or all the others do, mostly without a barrier between.
 fn one_after_the_other(rng: &mut Rng) -> Plan {
     let threads = match rng.below(2) {
         0 => 32,
         _ => rng.threads().max(2),
     };
     // Often the first or the last thread, the mask's edges.
-    let [first, second] = std::array::from_fn(|_| match rng.below(4) {
-        0 => 0,
-        1 | 2 => threads - 1,
-        _ => rng.below(threads),
-    });
-    let accesses = |rng: &mut Rng| {
-        let (read, write) = (load(4, 5), store(5, 0));
-        rng.pick(&[
-            [read, write],
-            [write, read],
-            [read, read],
-            [write, write],
-            [read, tid(4)],
-            [write, tid(4)],
-        ])
-    };
+    let (any, last) = (rng.below(threads), threads - 1);
+    let (first, second) = rng.pick(&[(0, last), (last, 0), (any, last), (last, any)]);
+    let at = rng.pick(&[0, 0, 1, 6]);
     let mut rows = vec![
         tid(0),
+        count(1),
         set(2, first),
         set(3, second),
+        set(5, at),
         eq(6, 0, 2),
         begin_if(6),
     ];
     rows.extend(accesses(rng));
     rows.push(ENDIF);
-    if rng.one_in(4) {
-        rows.push(BARRIER);
-    }
+    rows.extend(between(rng));
     if rng.one_in(2) {
         rows.extend([eq(7, 0, 3), begin_if(7)]);
     } else {
         rows.extend([eq(7, 6, 15), begin_if(7)]);
     }
     rows.extend(accesses(rng));
+    rows.push(ENDIF);
+    let cells = cells(rng, at + 1);
+    Plan::new(rng, threads, rows, cells)
+}
+
+/// The cell numbered R5 loaded, stored or added to, or any two of these, or
+/// all three, in any order and each set as likely as another.
+fn accesses(rng: &mut Rng) -> Vec<Row> {
+    let kinds = [load(4, 5), store(5, 0), atomic_add(5, 1)];
+    let set = rng.range(1, 7);
+    let mut rows: Vec<Row> = (0..3)
+        .filter(|kind| set >> kind & 1 == 1)
+        .map(|kind| kinds[kind])
+        .collect();
+    let turn = rng.index(rows.len());
+    rows.rotate_left(turn);
+    if rng.one_in(2) {
+        rows.reverse();
+    }
+    rows
+}
+
+/// All threads load a cell or add to it, or those below some number, or the
+/// others; then one of all threads loads it, stores it or adds to it.
+fn one_after_many(rng: &mut Rng) -> Plan {
+    let threads = rng.threads().max(2);
+    let from = rng.below(threads);
+    let last = rng.pick(&[0, from, threads - 1]);
+    let mut rows = vec![tid(0), count(1), set(2, from), set(3, last)];
+    let many = rng.pick(&[load(4, 5), atomic_add(5, 1)]);
+    match rng.below(3) {
+        0 => rows.push(many),
+        1 => rows.extend([lt(6, 0, 2), begin_if(6), tid(7), ELSE, many, ENDIF]),
+        _ => rows.extend([lt(6, 0, 2), begin_if(6), many, ENDIF]),
+    }
+    rows.extend(between(rng));
+    rows.extend([eq(7, 0, 3), begin_if(7)]);
+    rows.push(rng.pick(&[load(4, 5), store(5, 0), atomic_add(5, 1)]));
     rows.push(ENDIF);
     let cells = cells(rng, 1);
     Plan::new(rng, threads, rows, cells)

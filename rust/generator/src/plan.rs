@@ -1,6 +1,6 @@
 //! A launch before it is written as a file.
 
-use checker::{bare_launch, Verdict};
+use checker::{bare_launch, log_words, Verdict};
 
 use crate::asm::Row;
 use crate::rng::Rng;
@@ -84,7 +84,7 @@ impl Plan {
     /// none.
     fn rows_needed(&self) -> Option<u32> {
         let mut cells = self.cells.clone();
-        let mut log = vec![0; 2 * cells.len()];
+        let mut log = vec![0; log_words(cells.len())];
         let count = cells.len() as u32;
         let table = self.table();
         let outcome = bare_launch(&table, self.threads, count, PROBE, &mut cells, &mut log);

@@ -12,9 +12,11 @@ use crate::rng::Rng;
 enum Reach {
     /// Each thread its own cell.
     Own,
-    /// Loads of any cell, no stores.
+    /// Loads of any cell, nothing else.
     ReadOnly,
-    /// Loads and stores of any cell, and now and then outside.
+    /// Adds to any cell, nothing else.
+    AddOnly,
+    /// All accesses to any cell, and now and then outside.
     Wild,
 }
 
@@ -24,6 +26,8 @@ struct Writer<'r> {
     most_rows: usize,
     most_depth: usize,
     reach: Reach,
+    /// Cells may be added to.
+    adds: bool,
     /// Conditions are the same for all threads.
     uniform: bool,
     /// Loops may lack their end.
@@ -52,7 +56,15 @@ fn cells(rng: &mut Rng, threads: u32) -> Vec<u32> {
 }
 
 fn writer(rng: &mut Rng) -> Writer<'_> {
-    let reach = rng.pick(&[Reach::Own, Reach::ReadOnly, Reach::Wild]);
+    let reach = rng.pick(&[
+        Reach::Own,
+        Reach::Own,
+        Reach::ReadOnly,
+        Reach::AddOnly,
+        Reach::Wild,
+        Reach::Wild,
+    ]);
+    let adds = rng.one_in(2);
     let (uniform, endless) = (rng.one_in(3), rng.one_in(8));
     let most_rows = rng.pick(&[4, 10, 20, 40, 80, 200]);
     let most_depth = rng.pick(&[1, 2, 3, 3, 8]);
@@ -62,6 +74,7 @@ fn writer(rng: &mut Rng) -> Writer<'_> {
         most_rows,
         most_depth,
         reach,
+        adds,
         uniform,
         endless,
     }
@@ -126,12 +139,14 @@ impl Writer<'_> {
 
     fn access(&mut self) {
         let (value, address) = (self.free(), self.address());
-        let load_only = self.reach == Reach::ReadOnly;
-        if load_only || self.rng.one_in(2) {
-            self.rows.push(load(value, address));
-        } else {
-            self.rows.push(store(address, value));
-        }
+        let row = match self.reach {
+            Reach::ReadOnly => load(value, address),
+            Reach::AddOnly => atomic_add(address, value),
+            _ if self.adds && self.rng.one_in(3) => atomic_add(address, value),
+            _ if self.rng.one_in(2) => load(value, address),
+            _ => store(address, value),
+        };
+        self.rows.push(row);
     }
 
     /// A register that holds a cell's number, most of the time.
@@ -235,7 +250,10 @@ fn tower(rng: &mut Rng) -> Plan {
         let begin = if is_loop { begin_while } else { begin_if };
         rows.extend([start, begin(counter)]);
     }
-    rows.extend([load(2, 0), add(2, 2, 1), store(0, 2)]);
+    match rng.below(3) {
+        0 => rows.push(atomic_add(rng.pick(&[0, 15]), 1)),
+        _ => rows.extend([load(2, 0), add(2, 2, 1), store(0, 2)]),
+    }
     if rng.one_in(2) {
         rows.push(BARRIER);
     }

@@ -18,12 +18,13 @@ pub struct SmallLaunch {
 pub fn small_launch(rng: &mut Rng) -> SmallLaunch {
     let threads = rng.pick(&[2, 2, 2, 3]);
     let count = rng.range(1, 3);
-    let rows = match rng.below(20) {
-        0..=2 => short_loop(rng),
-        3..=4 => exchange(rng),
-        5..=7 => two_arms(rng),
-        8 => turns(rng),
-        9 => two_loops(rng),
+    let rows = match rng.below(26) {
+        0..=3 => short_loop(rng),
+        4..=5 => exchange(rng),
+        6..=9 => two_arms(rng),
+        10 => turns(rng),
+        11 => two_loops(rng),
+        12..=15 => two_accesses(rng),
         _ => loose_rows(rng),
     };
     let cells = (0..count).map(|_| rng.below(3)).collect();
@@ -54,7 +55,7 @@ fn item(rng: &mut Rng, rows: &mut Vec<Row>, budget: &mut u32, depth: u32) {
     let room = *budget >= 2 && depth < 2;
     *budget = budget.saturating_sub(1);
     let a = register(rng);
-    match rng.below(12) {
+    match rng.below(13) {
         0 if room => {
             *budget -= 1;
             rows.push(begin_if(a));
@@ -77,6 +78,7 @@ fn item(rng: &mut Rng, rows: &mut Vec<Row>, budget: &mut u32, depth: u32) {
         4 | 5 => rows.push(BARRIER),
         6 | 7 => rows.push(store(a, register(rng))),
         8 => rows.push(load(register(rng), a)),
+        9 => rows.push(atomic_add(a, register(rng))),
         _ => rows.push(plain(rng)),
     }
 }
@@ -122,16 +124,21 @@ fn short_loop(rng: &mut Rng) -> Vec<Row> {
         add(2, 0, rng.pick(&[0, 1]))
     };
     let mut rows = vec![tid(0), set(1, 1), trips, begin_while(2)];
+    // Some loops lack their end. An endless sum would have a state for every
+    // word, so its amount is 0.
+    let ends = !rng.one_in(5);
+    let amount = if ends { 2 } else { 15 };
     for _ in 0..rng.range(1, 2) {
-        rows.push(match rng.below(5) {
+        rows.push(match rng.below(7) {
             0 => load(3, 0),
             1 => store(0, 2),
             2 => load(3, 1),
+            3 => atomic_add(rng.pick(&[0, 15]), amount),
             _ => BARRIER,
         });
     }
-    if !rng.one_in(5) {
-        rows.push(sub(2, 2, 1)); // else some thread's loop is endless
+    if ends {
+        rows.push(sub(2, 2, 1));
     }
     rows.push(ENDWHILE);
     if rng.one_in(3) {
@@ -140,9 +147,10 @@ fn short_loop(rng: &mut Rng) -> Vec<Row> {
     rows
 }
 
-/// Each thread stores its cell and loads its neighbour's.
+/// Each thread stores its cell, or adds to it, and loads its neighbour's.
 fn exchange(rng: &mut Rng) -> Vec<Row> {
-    let mut rows = vec![tid(0), set(1, 1), store(0, rng.pick(&[0, 1]))];
+    let put = rng.pick(&[store, store, atomic_add]);
+    let mut rows = vec![tid(0), set(1, 1), put(0, rng.pick(&[0, 1]))];
     rows.extend(maybe_barrier(rng));
     rows.push(if rng.one_in(3) {
         sub(2, 1, 0)
@@ -187,13 +195,43 @@ fn two_arms(rng: &mut Rng) -> Vec<Row> {
 fn arm(rng: &mut Rng, rows: &mut Vec<Row>) {
     // R2 is 0 here: all threads mean the same cell by it.
     let at = rng.pick(&[0, 2]);
-    match rng.below(8) {
+    match rng.below(10) {
         0 => rows.push(BARRIER),
         1 | 2 => rows.push(store(at, 1)),
         3 | 4 => rows.push(load(3, at)),
-        5 => rows.extend([store(at, 0), load(3, at)]),
-        6 => rows.extend([begin_while(0), BARRIER, sub(0, 0, 0), ENDWHILE]),
+        5 | 6 => rows.push(atomic_add(at, rng.pick(&[0, 1]))),
+        7 => rows.extend([rng.pick(&[store, atomic_add])(at, 0), load(3, at)]),
+        8 => rows.extend([begin_while(0), BARRIER, sub(0, 0, 0), ENDWHILE]),
         _ => {}
+    }
+}
+
+/// All threads access one cell in some way, or each its own, or some do; then
+/// so again.
+fn two_accesses(rng: &mut Rng) -> Vec<Row> {
+    let access = |rng: &mut Rng| {
+        let (at, amount) = (rng.pick(&[0, 15, 15]), rng.pick(&[0, 1]));
+        let added = atomic_add(at, amount);
+        let row = rng.pick(&[load(3, at), store(at, 0), added]);
+        by_all_or_some(rng, row)
+    };
+    let mut rows = vec![tid(0), set(1, 1)];
+    rows.extend(access(rng));
+    if rng.one_in(2) {
+        rows.extend(maybe_barrier(rng));
+    }
+    rows.extend(access(rng));
+    if rng.one_in(3) {
+        rows.push(rng.pick(&[store(0, 3), atomic_add(15, 3)]));
+    }
+    rows
+}
+
+fn by_all_or_some(rng: &mut Rng, row: Row) -> Vec<Row> {
+    match rng.below(4) {
+        0 => vec![begin_if(0), row, ENDIF],
+        1 => vec![begin_if(0), ELSE, row, ENDIF],
+        _ => vec![row],
     }
 }
 

@@ -6,8 +6,9 @@ use checker::op;
 use crate::asm::*;
 use crate::rng::Rng;
 
-/// Which bytes of a row its op reads as registers: d, a, b.
-const OPS: [(u8, [bool; 3]); 22] = {
+/// Which bytes of a row its op reads as registers: d, a, b. Accesses stand here
+/// twice, so that they come up more often.
+const OPS: [(u8, [bool; 3]); 26] = {
     const D: [bool; 3] = [true, false, false];
     const DAB: [bool; 3] = [true; 3];
     const DA: [bool; 3] = [true, true, false];
@@ -29,7 +30,11 @@ const OPS: [(u8, [bool; 3]); 22] = {
         (op::LT, DAB),
         (op::SLT, DAB),
         (op::LOAD, DA),
+        (op::LOAD, DA),
         (op::STORE, DA),
+        (op::STORE, DA),
+        (op::ATOMIC_ADD, DA),
+        (op::ATOMIC_ADD, DA),
         (op::IF, A),
         (op::ELSE, NONE),
         (op::ENDIF, NONE),
@@ -40,11 +45,11 @@ const OPS: [(u8, [bool; 3]); 22] = {
 };
 
 /// Ops next to the known ones.
-const NEAR: [u8; 6] = [0, 15, 18, 31, 38, 255];
+const NEAR: [u8; 6] = [0, 15, 19, 31, 38, 255];
 
 /// A small table with a fault or two, or at the edge of one.
 pub fn table(rng: &mut Rng) -> Vec<Row> {
-    match rng.below(24) {
+    match rng.below(25) {
         0..=12 => one_byte(rng),
         13 | 14 => one_op(rng),
         15 | 16 => loose(rng),
@@ -89,8 +94,7 @@ fn among(rng: &mut Rng, middle: Vec<Row>) -> Vec<Row> {
     rows
 }
 
-/// Register 15 or 16, or an unused byte that is not 0, in one byte of one op,
-/// each op and byte as likely as another.
+/// Register 15 or 16, or an unused byte that is not 0, in one byte of one op.
 fn one_byte(rng: &mut Rng) -> Vec<Row> {
     let rows = wrong_row_in_frame(rng);
     among(rng, rows)
@@ -129,7 +133,7 @@ fn one_op(rng: &mut Rng) -> Vec<Row> {
 
 fn unknown(rng: &mut Rng) -> Row {
     let code = match rng.below(4) {
-        0 => rng.range(18, 31) as u8,
+        0 => rng.range(19, 31) as u8,
         1 => rng.range(38, 255) as u8,
         _ => rng.pick(&NEAR),
     };

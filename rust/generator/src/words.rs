@@ -1,16 +1,20 @@
-//! Kernels over words at the edges: shifts, comparisons, truth values and
-//! addresses. Each thread has words of its own, so that one launch tries many.
+//! Kernels over words at the edges: shifts, comparisons, truth values, sums in
+//! cells and addresses. Each thread has words of its own, so that one launch
+//! tries many.
 
 use crate::asm::*;
 use crate::plan::Plan;
 use crate::rng::Rng;
 
-const KERNELS: [fn(&mut Rng) -> Plan; 7] = [
+const KERNELS: [fn(&mut Rng) -> Plan; 10] = [
+    shifts,
     shifts,
     shifts,
     comparisons,
     truths,
     truths,
+    sums,
+    addresses,
     addresses,
     addresses,
 ];
@@ -175,9 +179,38 @@ fn truths(rng: &mut Rng) -> Plan {
     Plan::new(rng, threads, rows, cells)
 }
 
-/// LOAD or STORE at an address that stands in the thread's own cell: mostly
-/// its own number, otherwise the last cell, the one behind it, or a number
-/// whose low bits are a cell's.
+/// A word of each thread added to a cell of its own and to one cell of all, by
+/// all threads or by some; both often wrap.
+fn sums(rng: &mut Rng) -> Plan {
+    let threads = if rng.one_in(3) { 32 } else { rng.threads() };
+    let both = [atomic_add(4, 2), atomic_add(5, 2)];
+    let mut rows = vec![
+        tid(0),
+        count(1),
+        add(4, 0, 1), // a cell of its own
+        add(5, 1, 1), // the cell of all
+        load(2, 0),
+    ];
+    if rng.one_in(3) {
+        rows.extend([set(3, 1), and(3, 0, 3), begin_if(3)]);
+        rows.extend(both);
+        rows.push(ENDIF);
+    } else {
+        rows.extend(both);
+    }
+    // Words that are far more than a cell's number, or less than 0.
+    let word = |rng: &mut Rng| match rng.below(3) {
+        0 => rng.word(),
+        1 => u32::MAX - rng.below(4),
+        _ => (1 << 31) + rng.below(4),
+    };
+    let cells = (0..2 * threads + 1).map(|_| word(rng)).collect();
+    Plan::new(rng, threads, rows, cells)
+}
+
+/// LOAD, STORE or ATOMIC ADD at an address that stands in the thread's own
+/// cell: mostly its own number, otherwise the last cell, the one behind it, or
+/// a number whose low bits are a cell's.
 fn addresses(rng: &mut Rng) -> Plan {
     let threads = rng.threads();
     let count = match rng.below(4) {
@@ -186,11 +219,7 @@ fn addresses(rng: &mut Rng) -> Plan {
         _ => threads + rng.below(8),
     };
     let mut rows = vec![tid(0), load(2, 0), BARRIER];
-    rows.push(if rng.one_in(2) {
-        load(3, 2)
-    } else {
-        store(2, 0)
-    });
+    rows.push(rng.pick(&[load(3, 2), store(2, 0), atomic_add(2, 0)]));
     rows.extend([add(3, 3, 0), store(0, 3)]);
     let mut cells: Vec<u32> = (0..count).map(|_| rng.word()).collect();
     for (thread, cell) in (0..threads).zip(&mut cells) {

@@ -3,7 +3,10 @@
 
 use std::collections::BTreeMap;
 
-use checker::{bare_launch, op, Refusal, MAX_FILE, MAX_LIMIT, MAX_ROWS};
+use checker::{
+    bare_launch, log_words, op, AccessKind, Outcome, Refusal, Verdict, MAX_FILE, MAX_LIMIT,
+    MAX_ROWS,
+};
 use generator::{BareLaunch, Plan};
 
 const SEEDS: u64 = 4_000;
@@ -200,7 +203,7 @@ fn two_faults_in_a_header() {
 
 /// What the row checks say of a table, with all else in order.
 fn rows_refused(table: &[u8]) -> Option<Refusal> {
-    bare_launch(table, 1, 1, 0, &mut [0], &mut [0, 0]).err()
+    bare_launch(table, 1, 1, 0, &mut [0], &mut [0; 3]).err()
 }
 
 /// The four bytes of a `row=` line that is spelt right.
@@ -258,7 +261,7 @@ fn each_byte_of_each_op_is_wrong_alone() {
     let mut counts = Counts::default();
     for table in tables() {
         let refused = rows_refused(&table);
-        for known in (1..=14).chain(16..=17).chain(32..=37) {
+        for known in (1..=14).chain(16..=18).chain(32..=37) {
             for byte in 1..4 {
                 if known == op::SET && byte > 1 {
                     continue;
@@ -276,6 +279,21 @@ fn each_byte_of_each_op_is_wrong_alone() {
         }
     }
     counts.expect(2);
+}
+
+#[test]
+fn unknown_ops_next_to_known_ones() {
+    let mut counts = Counts::default();
+    for table in tables() {
+        let refused = rows_refused(&table);
+        for unknown in [0, 15, 19, 31, 38, 255] {
+            let seen = refused.is_some_and(|Refusal { number, place }| {
+                number == 3 && table[4 * place as usize] == unknown
+            });
+            counts.see(format!("op {unknown}"), seen);
+        }
+    }
+    counts.expect(4);
 }
 
 /// How many constructs of a table are open at once, and of how many kinds.
@@ -327,7 +345,7 @@ fn faults(launch: &BareLaunch) -> Vec<&'static str> {
             few && rows_refused(&table[..table.len() / 4 * 4]).is_some(),
         ),
         ("20", cells != said),
-        ("21", log != 2 * said),
+        ("21", log != log_words(said)),
     ]
     .into_iter()
     .filter_map(|(name, earned)| earned.then_some(name))
@@ -354,11 +372,17 @@ fn two_faults_of_a_bare_launch() {
         let log = launch.lent_log.len();
         counts.see("one cell more", found == ["20"] && lent == cells + 1);
         counts.see("one cell fewer", found == ["20"] && lent + 1 == cells);
-        counts.see("one log word more", found == ["21"] && log == 2 * cells + 1);
-        counts.see(
-            "one log word fewer",
-            found == ["21"] && log + 1 == 2 * cells,
-        );
+        let mut see = |name: &str, length: usize| {
+            let seen = found == ["21"] && cells > 1 && log == length;
+            counts.see(format!("log of {name}"), seen);
+        };
+        see("one word more", 3 * cells + 1);
+        see("one word fewer", 3 * cells - usize::from(cells > 0));
+        see("one kind", cells);
+        see("two kinds", 2 * cells);
+        see("four kinds", 4 * cells);
+        see("a whole file", 3_072);
+        see("no word", 0);
     }
     counts.expect(5);
 }
@@ -406,7 +430,7 @@ fn truth_values_from_2_31_on() {
 #[test]
 fn addresses_at_the_end_and_behind_it() {
     let mut counts = Counts::default();
-    for access in [op::LOAD, op::STORE] {
+    for access in [op::LOAD, op::STORE, op::ATOMIC_ADD] {
         for plan in plans_with(&[[op::LOAD, 2, 0, 0], [op::BARRIER, 0, 0, 0]]) {
             if !plan
                 .rows
@@ -432,6 +456,174 @@ fn addresses_at_the_end_and_behind_it() {
         }
     }
     counts.expect(4);
+}
+
+/// A plan's outcome, its cells and the three masks of each cell, where it isn't
+/// refused.
+struct Ran {
+    outcome: Outcome,
+    before: Vec<u32>,
+    after: Vec<u32>,
+    log: Vec<u32>,
+}
+
+impl Ran {
+    fn of(plan: &Plan) -> Option<Self> {
+        let mut after = plan.cells.clone();
+        let mut log = vec![0; log_words(after.len())];
+        let (table, count) = (plan.rows.concat(), after.len() as u32);
+        let (threads, limit) = (plan.threads, plan.limit);
+        let outcome = bare_launch(&table, threads, count, limit, &mut after, &mut log).ok()?;
+        let before = plan.cells.clone();
+        Some(Self {
+            outcome,
+            before,
+            after,
+            log,
+        })
+    }
+
+    /// Reader, writer and adder mask of a cell.
+    fn masks(&self, cell: usize) -> [u32; 3] {
+        let cells = self.before.len();
+        [0, 1, 2].map(|kind| self.log[kind * cells + cell])
+    }
+
+    fn passed(&self) -> bool {
+        self.outcome.verdict == Verdict::Passed
+    }
+}
+
+fn ran() -> impl Iterator<Item = (Plan, Ran)> {
+    (0..SEEDS).map(generator::plan).filter_map(|plan| {
+        let ran = Ran::of(&plan)?;
+        Some((plan, ran))
+    })
+}
+
+/// The acting thread's letter.
+fn acting(kind: AccessKind) -> char {
+    match kind {
+        AccessKind::Wr | AccessKind::Ar => 'r',
+        AccessKind::Rw | AccessKind::Ww | AccessKind::Aw => 'w',
+        AccessKind::Ra | AccessKind::Wa => 'a',
+    }
+}
+
+/// The letters of the masks that hold a thread.
+fn letters(masks: [u32; 3], thread: u32) -> String {
+    let held = |mask: u32| mask >> thread & 1 == 1;
+    "rwa"
+        .chars()
+        .zip(masks)
+        .filter_map(|(letter, mask)| held(mask).then_some(letter))
+        .collect()
+}
+
+/// What the other had done to the cell, and what the thread then did. Nineteen
+/// of these are races: loads meet all but nothing and r, stores all but
+/// nothing, adds all but nothing and a.
+#[test]
+fn every_access_meets_all_that_another_can_have_done() {
+    let mut counts = Counts::default();
+    for letter in ["r", "w", "a"] {
+        for other in ["r", "w", "a", "rw", "ra", "wa", "rwa"] {
+            if letter == "w" || letter != other {
+                counts.see(format!("{other} then {letter}"), false);
+            }
+        }
+    }
+    assert_eq!(counts.0.len(), 19);
+    for (_, ran) in ran() {
+        if let Verdict::Race {
+            other, kind, at, ..
+        } = ran.outcome.verdict
+        {
+            let others = letters(ran.masks(at as usize), other);
+            counts.see(format!("{others} then {}", acting(kind)), true);
+        }
+    }
+    assert_eq!(counts.0.len(), 19);
+    counts.expect(6);
+}
+
+/// Who else has been there, and the thread itself.
+#[test]
+fn races_with_many_and_by_threads_that_were_there() {
+    let mut counts = Counts::default();
+    for (_, ran) in ran() {
+        let Verdict::Race {
+            thread,
+            other,
+            kind,
+            at,
+            ..
+        } = ran.outcome.verdict
+        else {
+            continue;
+        };
+        let masks = ran.masks(at as usize);
+        let many = masks.iter().any(|mask| mask.count_ones() > 2);
+        let own = letters(masks, thread);
+        let mut see = |name: &str, seen: bool| counts.see(format!("{kind:?}: {name}"), seen);
+        // A thread that stored is alone at the cell.
+        if !matches!(kind, AccessKind::Wr | AccessKind::Ww | AccessKind::Wa) {
+            see("many", many);
+            see("many, the thread too", many && !own.is_empty());
+            see("a higher thread", other > thread);
+        }
+        see("thread 31", thread == 31);
+        see("other 31", other == 31);
+        see("a cell but the first", at > 0);
+    }
+    counts.expect(2);
+}
+
+#[test]
+fn adds_of_many_threads_and_of_edge_words() {
+    let mut counts = Counts::default();
+    for (plan, ran) in ran().filter(|(_, ran)| ran.passed()) {
+        let cells = ran.before.len();
+        let adders = &ran.log[2 * cells..];
+        let has = |op: u8| plan.rows.iter().any(|row| row[0] == op);
+        let any = adders.iter().any(|&mask| mask != 0);
+        counts.see("all 32 threads", adders.contains(&u32::MAX));
+        counts.see("some threads", adders.iter().any(|m| m.count_ones() > 1));
+        counts.see(
+            "the last of all cells",
+            cells == 1_024 && adders[1_023] != 0,
+        );
+        let lower = |cell: &usize| ran.after[*cell] < ran.before[*cell];
+        let only_added = |cell: &usize| ran.masks(*cell)[1] == 0 && adders[*cell] != 0;
+        let wrapped = (0..cells).filter(only_added).any(|cell| lower(&cell));
+        counts.see("a sum that wraps", wrapped);
+        let all_three = (0..cells).any(|cell| ran.masks(cell).iter().all(|&mask| mask != 0));
+        counts.see("read, written and added to", all_three);
+        counts.see(
+            "before a barrier",
+            has(op::ATOMIC_ADD) && has(op::BARRIER) && !any,
+        );
+        counts.see("behind a barrier", any && ran.outcome.barriers > 0);
+    }
+    counts.expect(8);
+}
+
+/// A launch that passes, and races by an add if its barriers are left out.
+#[test]
+fn barriers_part_adds_from_other_accesses() {
+    let mut counts = Counts::default();
+    for (mut plan, ran) in ran() {
+        if ran.passed() && ran.outcome.barriers > 0 {
+            plan.rows.retain(|row| row[0] != op::BARRIER);
+            let together = Ran::of(&plan).map(|ran| ran.outcome.verdict);
+            if let Some(Verdict::Race { kind, .. }) = together {
+                counts.see(format!("{kind:?}"), true);
+            }
+        }
+    }
+    let kinds = ["Rw", "Wr", "Ww", "Ra", "Ar", "Wa", "Aw"];
+    kinds.iter().for_each(|kind| counts.see(*kind, false));
+    counts.expect(5);
 }
 
 #[test]

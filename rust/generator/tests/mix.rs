@@ -2,30 +2,46 @@
 
 use std::collections::BTreeMap;
 
-use checker::{bare_launch, check_file, Refusal, Verdict, LENT_CELLS, LENT_LOG, REPORT_ROOM};
+use checker::{
+    bare_launch, check_file, log_words, op, Refusal, Verdict, LENT_CELLS, LENT_LOG, REPORT_ROOM,
+};
 
 type Tally = BTreeMap<String, usize>;
 
-/// The report's first line, or the refusal's number.
-fn answer(file: &[u8]) -> String {
+/// The report's first line, its kind if it has one, or the refusal's number.
+fn answers(file: &[u8]) -> Vec<String> {
     let (mut cells, mut log) = (vec![0; LENT_CELLS], vec![0; LENT_LOG]);
     let mut out = vec![0; REPORT_ROOM];
     match check_file(file, &mut cells, &mut log, &mut out) {
         Ok(len) => {
             let report = std::str::from_utf8(&out[..len]).unwrap();
-            report.lines().next().unwrap().to_string()
+            let lines = report.lines().map(String::from);
+            let told = |line: &String| line.starts_with("verdict=") || line.starts_with("kind=");
+            lines.filter(told).collect()
         }
-        Err(Refusal { number, .. }) => format!("refused={number}"),
+        Err(Refusal { number, .. }) => vec![format!("refused={number}")],
     }
 }
 
-fn verdict_name(verdict: Verdict) -> &'static str {
-    match verdict {
+/// As the report's lines have it.
+fn verdict_names(verdict: Verdict) -> Vec<String> {
+    let name = match verdict {
         Verdict::Passed => "verdict=passed",
         Verdict::Race { .. } => "verdict=race",
         Verdict::Outside { .. } => "verdict=outside",
         Verdict::Diverged { .. } => "verdict=diverged",
         Verdict::Spent { .. } => "verdict=spent",
+    };
+    let kind = match verdict {
+        Verdict::Race { kind, .. } => format!("kind={kind:?}").to_lowercase(),
+        _ => "kind=-".to_string(),
+    };
+    vec![name.to_string(), kind]
+}
+
+fn count(tally: &mut Tally, names: Vec<String>) {
+    for name in names {
+        *tally.entry(name).or_default() += 1;
     }
 }
 
@@ -49,6 +65,11 @@ fn verdicts() -> Vec<String> {
     VERDICTS.map(String::from).to_vec()
 }
 
+fn kinds() -> Vec<String> {
+    let kinds = ["rw", "wr", "ww", "ra", "ar", "wa", "aw"];
+    kinds.iter().map(|kind| format!("kind={kind}")).collect()
+}
+
 fn refusals(numbers: &[u32]) -> Vec<String> {
     numbers.iter().map(|n| format!("refused={n}")).collect()
 }
@@ -57,9 +78,10 @@ fn refusals(numbers: &[u32]) -> Vec<String> {
 fn files() {
     let mut tally = Tally::new();
     for seed in 0..10_000 {
-        *tally.entry(answer(&generator::launch(seed))).or_default() += 1;
+        count(&mut tally, answers(&generator::launch(seed)));
     }
     expect(&tally, &verdicts(), 250);
+    expect(&tally, &kinds(), 40);
     expect(&tally, &refusals(&[2, 3, 4, 5, 6, 7, 8, 9, 10, 11, 12]), 40);
 }
 
@@ -79,16 +101,17 @@ fn bare_launches() {
             cells,
             log,
         );
-        let name = match found {
-            Ok(outcome) => verdict_name(outcome.verdict).to_string(),
+        let names = match found {
+            Ok(outcome) => verdict_names(outcome.verdict),
             Err(refusal) => {
                 assert_eq!(bare, before, "a refusal changes no buffer");
-                format!("refused={}", refusal.number)
+                vec![format!("refused={}", refusal.number)]
             }
         };
-        *tally.entry(name).or_default() += 1;
+        count(&mut tally, names);
     }
     expect(&tally, &verdicts(), 250);
+    expect(&tally, &kinds(), 40);
     expect(
         &tally,
         &refusals(&[1, 2, 3, 4, 5, 6, 7, 8, 9, 10, 20, 21]),
@@ -102,22 +125,39 @@ fn small_launches() {
     for seed in 0..10_000 {
         let small = generator::small(seed);
         let mut cells = small.cells.clone();
-        let mut log = vec![0; 2 * cells.len()];
-        let count = cells.len() as u32;
+        let mut log = vec![0; log_words(cells.len())];
+        let said = cells.len() as u32;
         let found = bare_launch(
             &small.table,
             small.threads,
-            count,
+            said,
             1_000,
             &mut cells,
             &mut log,
         );
         let outcome = found.expect("small launches are well-formed");
-        *tally
-            .entry(verdict_name(outcome.verdict).to_string())
-            .or_default() += 1;
+        count(&mut tally, verdict_names(outcome.verdict));
+        let passed = outcome.verdict == Verdict::Passed;
+        let met = log[2 * cells.len()..].iter().any(|m| m.count_ones() > 1);
+        if passed && met {
+            count(&mut tally, vec!["adds that meet".to_string()]);
+        }
     }
     expect(&tally, &verdicts(), 500);
+    expect(&tally, &kinds(), 60);
+    expect(&tally, &["adds that meet".to_string()], 300);
+}
+
+/// Kernels with and without adds, so that neither kind of run is rare.
+#[test]
+fn plans_with_adds() {
+    let adds = |seed: &u64| {
+        let rows = generator::plan(*seed).rows;
+        rows.iter().any(|row| row[0] == op::ATOMIC_ADD)
+    };
+    let with = (0..4_000).filter(adds).count();
+    println!("with adds: {with} of 4000");
+    assert!((1_200..2_800).contains(&with), "{with}");
 }
 
 #[test]

@@ -11,15 +11,24 @@ pub struct Refusal {
     pub place: u32,
 }
 
-/// How two accesses to one cell conflict: what the other did, then what the acting thread does.
+/// How two accesses to one cell conflict: what the other did, then what the acting thread does. Where the other conflicts in
+/// several ways, a write is shown before an add, and an add before a read.
 #[derive(Clone, Copy, Debug, PartialEq, Eq, Hash, PartialOrd, Ord)]
 pub enum AccessKind {
-    /// The other only read, the thread stores.
+    /// The other read, the thread stores.
     Rw,
     /// The other wrote, the thread loads.
     Wr,
     /// The other wrote, the thread stores.
     Ww,
+    /// The other read, the thread adds.
+    Ra,
+    /// The other added, the thread loads.
+    Ar,
+    /// The other wrote, the thread adds.
+    Wa,
+    /// The other added, the thread stores.
+    Aw,
 }
 
 /// How a run ended.
@@ -100,6 +109,10 @@ impl AccessKind {
             1 => Self::Rw,
             2 => Self::Wr,
             3 => Self::Ww,
+            4 => Self::Ra,
+            5 => Self::Ar,
+            6 => Self::Wa,
+            7 => Self::Aw,
             _ => panic!("the library answered kind {code}"),
         }
     }
@@ -109,6 +122,10 @@ impl AccessKind {
             Self::Rw => 1,
             Self::Wr => 2,
             Self::Ww => 3,
+            Self::Ra => 4,
+            Self::Ar => 5,
+            Self::Wa => 6,
+            Self::Aw => 7,
         }
     }
 }

@@ -11,7 +11,7 @@ pub use answers::{AccessKind, Outcome, Refusal, Subject, Verdict};
 /// Words of cells that [`check_file`] is lent.
 pub const LENT_CELLS: usize = 1_024;
 /// Words of log that [`check_file`] is lent.
-pub const LENT_LOG: usize = 2_048;
+pub const LENT_LOG: usize = 3_072;
 /// Bytes of output that [`check_file`] needs at least: enough for every report.
 pub const REPORT_ROOM: usize = 17_408;
 

@@ -56,8 +56,8 @@ fn the_file_of_p1_gives_its_report_and_keeps_what_is_behind() {
     let mut lent = Lent::new(LENT_CELLS, LENT_LOG, REPORT_ROOM);
     let mut expected = lent.clone();
     expected.cells[..3].copy_from_slice(&[2, 1, 1]);
-    // Packed: three words of readers, then three of writers.
-    expected.log[..6].copy_from_slice(&[1, 3, 2, 1, 0, 0]);
+    // Packed: three words of readers, then three of writers, then three of adders.
+    expected.log[..9].copy_from_slice(&[1, 3, 2, 1, 0, 0, 0, 0, 0]);
     expected.output[..P1_REPORT.len()].copy_from_slice(P1_REPORT.as_bytes());
     assert_eq!(lent.check(P1_FILE), Ok(P1_REPORT.len()));
     assert!(lent == expected);
@@ -66,13 +66,13 @@ fn the_file_of_p1_gives_its_report_and_keeps_what_is_behind() {
 #[test]
 fn check_file_refuses_wrong_buffers_and_leaves_them() {
     for (cells, log, output, number) in [
-        (1_023, 2_048, 17_408, 20),
-        (1_025, 2_048, 17_408, 20),
+        (1_023, 3_072, 17_408, 20),
+        (1_025, 3_072, 17_408, 20),
         (0, 0, 0, 20),
-        (1_024, 2_047, 17_408, 21),
-        (1_024, 2_049, 17_408, 21),
-        (1_024, 2_048, 17_407, 24),
-        (1_024, 2_048, 0, 24),
+        (1_024, 3_071, 17_408, 21),
+        (1_024, 3_073, 17_408, 21),
+        (1_024, 3_072, 17_407, 24),
+        (1_024, 3_072, 0, 24),
     ] {
         let mut lent = Lent::new(cells, log, output);
         let before = lent.clone();
@@ -93,15 +93,22 @@ fn a_refused_file_leaves_the_buffers() {
 
 #[test]
 fn the_bare_launch_of_p1() {
-    let (mut cells, mut log) = ([1; 3], [7; 6]);
+    let (mut cells, mut log) = ([1; 3], [7; 9]);
     let answer = bare_launch(&P1_TABLE, 2, 3, 100, &mut cells, &mut log);
     assert_eq!(answer, Ok(P1_OUTCOME));
-    assert_eq!((cells, log), ([2, 1, 1], [1, 3, 2, 1, 0, 0]));
+    assert_eq!((cells, log), ([2, 1, 1], [1, 3, 2, 1, 0, 0, 0, 0, 0]));
 }
 
 #[test]
 fn bare_launch_refuses_wrong_buffers_and_leaves_them() {
-    for (cells, log, number) in [(2, 6, 20), (4, 6, 20), (0, 0, 20), (3, 5, 21), (3, 7, 21)] {
+    for (cells, log, number) in [
+        (2, 9, 20),
+        (4, 9, 20),
+        (0, 0, 20),
+        (3, 6, 21),
+        (3, 8, 21),
+        (3, 10, 21),
+    ] {
         let mut lent = Lent::new(cells, log, 0);
         let before = lent.clone();
         let answer = bare_launch(&P1_TABLE, 2, 3, 100, &mut lent.cells, &mut lent.log);
@@ -112,7 +119,7 @@ fn bare_launch_refuses_wrong_buffers_and_leaves_them() {
 
 /// The outcome's words of a launch with two threads and one cell.
 fn words(table: &[u8], limit: u32) -> raw::OutcomeWords {
-    let answer = raw::bare_launch(table, 2, 1, limit, &mut [5], &mut [7; 2]);
+    let answer = raw::bare_launch(table, 2, 1, limit, &mut [5], &mut [7; 3]);
     assert!(answer.ran);
     assert_eq!(answer.refusal, [0, 0]);
     answer.outcome
@@ -131,6 +138,16 @@ fn words_without_meaning_are_zero() {
 }
 
 #[test]
+fn threads_add_into_one_cell() {
+    let (tid, set) = ([2, 0, 0, 0], [1, 1, 9, 0]);
+    let table = [tid, set, [18, 2, 1, 0]].concat();
+    let (mut cells, mut log) = ([u32::MAX], [7; 3]);
+    let answer = bare_launch(&table, 2, 1, 9, &mut cells, &mut log);
+    assert!(answer.is_ok_and(|outcome| outcome.verdict == Verdict::Passed));
+    assert_eq!((cells, log), ([17], [0, 0, 3]));
+}
+
+#[test]
 fn a_launch_that_passed_has_no_row() {
     assert_eq!(words(&[], 0), [1, 0, 0, 0, 0, 0, 0, 0, 0]);
     assert_eq!(words(&[2, 0, 0, 0], 9), [1, 0, 0, 0, 0, 0, 1, 2, 0]);
@@ -138,7 +155,7 @@ fn a_launch_that_passed_has_no_row() {
 
 #[test]
 fn the_answer_that_does_not_apply_is_zero() {
-    let answer = raw::bare_launch(&[], 33, 1, 0, &mut [5], &mut [7; 2]);
+    let answer = raw::bare_launch(&[], 33, 1, 0, &mut [5], &mut [7; 3]);
     assert!(!answer.ran);
     assert_eq!(answer.outcome, [0; 9]);
     assert_eq!(answer.refusal, [8, 0]);
@@ -201,9 +218,16 @@ fn the_report_of_a_refusal() {
 
 #[test]
 fn outcomes_come_back_from_their_words() {
+    use AccessKind::{Ar, Aw, Ra, Rw, Wa, Wr, Ww};
+    let races = [Rw, Wr, Ww, Ra, Ar, Wa, Aw].map(|kind| Verdict::Race {
+        row: 1,
+        thread: 2,
+        other: 3,
+        kind,
+        at: 4,
+    });
     for verdict in [
         Verdict::Passed,
-        P1_OUTCOME.verdict,
         Verdict::Outside {
             row: 1,
             thread: 2,
@@ -215,7 +239,10 @@ fn outcomes_come_back_from_their_words() {
             other: 3,
         },
         Verdict::Spent { row: 1 },
-    ] {
+    ]
+    .into_iter()
+    .chain(races)
+    {
         let outcome = Outcome {
             verdict,
             ..P1_OUTCOME

@@ -10,7 +10,12 @@ unfolding kindCode
 kind-code-spec =
     tie.close
     (tie.spec
-    (λ c. search needs) (λ c. search needs) (λ c. search needs)
+    (λ c. search needs) (λ c. search needs) (λ c. search needs) (λ c. search needs) (λ c. search needs)
+    (λ c. search needs) (λ c. search needs)
     (λ c. sym (ap kindCode (c .enum-told .given .1)))
     (λ c. sym (ap kindCode (c .enum-told2 .given .1)))
-    (λ c. sym (ap kindCode (c .enum-told3 .given .1))))
+    (λ c. sym (ap kindCode (c .enum-told3 .given .1)))
+    (λ c. sym (ap kindCode (c .enum-told4 .given .1)))
+    (λ c. sym (ap kindCode (c .enum-told5 .given .1)))
+    (λ c. sym (ap kindCode (c .enum-told6 .given .1)))
+    (λ c. sym (ap kindCode (c .enum-told7 .given .1))))

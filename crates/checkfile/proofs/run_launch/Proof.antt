@@ -1,4 +1,5 @@
 -- `checkfile::run_launch` meets its contract. The fronts of the lent buffers are the run's. Assumes nothing.
+use Rattle.spec.specs.Limits.{logPerCell}
 use Prim.Native.Nat.{_*_}
 use native.Mathlib.Omega.{arith}
 use borrow.Author.Needs.{needs}
@@ -19,7 +20,7 @@ slice-aggregate-run-2 : tie.Need-slice-aggregate-run-2
 slice-aggregate-run-2 c =
     let start = c .before .before .before .before .before .before .before .before .before .before .before in
     let pre = start .pre in
-    front-length (2 * length (start .args .words .now)) _ (omega (arith, pre .fewCells, pre .logLent))
+    front-length (logPerCell * length (start .args .words .now)) _ (omega (arith, pre .fewCells, pre .logLent))
 
 run-requires : tie.Need-run-requires
 run-requires c κs =
@@ -30,7 +31,7 @@ run-requires c κs =
     let pre = start .pre in
     let cells-front = front-length (length words) (place .last .1 .0)
     (omega (arith, placed-length _ _ _ _ _ _ _ _ pre _ (place .ensures), pre .fewCells, pre .cellsLent)) in
-    let log-front = front-length (2 * length words) (args .log .now) (omega (arith, pre .fewCells, pre .logLent)) in
+    let log-front = front-length (logPerCell * length words) (args .log .now) (omega (arith, pre .fewCells, pre .logLent)) in
     (pre .checked, pre .someThread, pre .fewThreads, pre .fewRuns, omega (arith, cells-front, log-front), omega (arith, cells-front, pre .fewCells))
 
 slice-aggregate-write-report : tie.Need-slice-aggregate-write-report
@@ -58,7 +59,7 @@ returns c =
     reported (args .table .now) (args .ends .now) (args .threads) (args .limit) words (args .cells .now) log (args .output .now) pre
     (place .last .1 .0) (run .last .1 .1 .1 .1 .0) (run .last .1 .1 .1 .1 .1 .0) _ _ _ (place .ensures)
     (as-long (length words) (run .last .1 .1 .1 .1 .0) (place .last .1 .0) (cells2 .given .0) (omega (arith, long, pre .fewCells, pre .cellsLent)))
-    (as-long (2 * length words) (run .last .1 .1 .1 .1 .1 .0) log (at-log .log .given .0) (omega (arith, pre .fewCells, pre .logLent)))
+    (as-long (logPerCell * length words) (run .last .1 .1 .1 .1 .1 .0) log (at-log .log .given .0) (omega (arith, pre .fewCells, pre .logLent)))
     (run .ensures) (write-report .ensures .0) (write-report .ensures .1 .0) (write-report .ensures .1 .1 .0)
 
 pub run-launch-spec : {M : Type 1} → statement M

@@ -97,7 +97,7 @@ access-row-requires c κs =
         small = q .0;
         target = subst (λ k. k < 16) (sym (d .ensures .0)) (q .1);
         source = subst (λ k. k < 16) (sym (a .ensures .0)) (q .2);
-        twice = pre .twice;
+        sized = pre .sized;
         cells-few = pre .cells-few;
       },
       record { state = pre .stands .state; memory = pre .stands .rep .memory },

@@ -1,7 +1,9 @@
 //! Helpers of the tests: launches from rows, files from launches.
 #![allow(dead_code)]
 
-use checker::{bare_launch, check_file, Outcome, Refusal, LENT_CELLS, LENT_LOG, REPORT_ROOM};
+use checker::{
+    bare_launch, check_file, Outcome, Refusal, Verdict, LENT_CELLS, LENT_LOG, REPORT_ROOM,
+};
 
 pub type Row = [u8; 4];
 
@@ -29,6 +31,9 @@ pub fn load(d: u8, a: u8) -> Row {
 pub fn store(d: u8, a: u8) -> Row {
     [17, d, a, 0]
 }
+pub fn atomic_add(d: u8, a: u8) -> Row {
+    [18, d, a, 0]
+}
 pub fn if_(a: u8) -> Row {
     [32, 0, a, 0]
 }
@@ -40,20 +45,40 @@ pub const ENDIF: Row = [34, 0, 0, 0];
 pub const ENDWHILE: Row = [36, 0, 0, 0];
 pub const BARRIER: Row = [37, 0, 0, 0];
 
+pub fn outcome(verdict: Verdict, rows: u32, steps: u32, barriers: u32) -> Outcome {
+    Outcome {
+        verdict,
+        rows,
+        steps,
+        barriers,
+    }
+}
+
 /// Runs a bare launch with buffers that fit; gives the cells as well.
 pub fn run(rows: &[Row], threads: u32, cells: &[u32], limit: u32) -> (Outcome, Vec<u32>) {
+    let (outcome, after, _) = run_logged(rows, threads, cells, limit);
+    (outcome, after)
+}
+
+/// As [`run`], with the log besides.
+pub fn run_logged(
+    rows: &[Row],
+    threads: u32,
+    cells: &[u32],
+    limit: u32,
+) -> (Outcome, Vec<u32>, Vec<u32>) {
     let mut after = cells.to_vec();
-    let mut log = vec![7; 2 * cells.len()];
+    let mut log = vec![7; 3 * cells.len()];
     let count = cells.len() as u32;
     let outcome = bare_launch(&rows.concat(), threads, count, limit, &mut after, &mut log);
-    (outcome.expect("a launch that isn't refused"), after)
+    (outcome.expect("a launch that isn't refused"), after, log)
 }
 
 /// The refusal of a bare table, which must leave the buffers alone.
 pub fn refused(rows: &[Row]) -> Refusal {
-    let (mut cells, mut log) = ([5; 2], [6; 4]);
+    let (mut cells, mut log) = ([5; 2], [6; 6]);
     let refusal = bare_launch(&rows.concat(), 2, 2, 9, &mut cells, &mut log).unwrap_err();
-    assert_eq!((cells, log), ([5; 2], [6; 4]));
+    assert_eq!((cells, log), ([5; 2], [6; 6]));
     refusal
 }
 

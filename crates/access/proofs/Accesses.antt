@@ -1,0 +1,216 @@
+-- One thread's access, by what it comes to: outside, a race, or made. Assumes nothing.
+use mathlib.Core.Path.{_≡_, refl, sym, _∙_, ap, ap₂, subst, subst₂}
+use mathlib.Core.Logic.{_⊎_, inl, inr}
+use mathlib.Core.List.{List, []}
+use mathlib.Core.Bool.{true, false, cond}
+use Prim.Native.Nat.{ℕ, _+_, _-_, _*_, _^_, _<_, _≤_}
+use native.Mathlib.Omega.{arith}
+use native.Mathlib.Decide.{ℕ-discrete}
+use borrow.Author.Tests.{eq-eqb, ne-eqb, le-leb, lt-leb}
+use lib.Dec.{leb}
+use lib.Bits.{bitAnd, bitOr}
+use lib.Count.{trailingZeros}
+use lib.ListN.{length, getD, set, length-set}
+use lib.Seq.{set-getD, getD-set-other}
+use Rattle.spec.specs.declared.AccessKind.{AccessKind}
+use Rattle.spec.specs.declared.Verdict.the-variants.{Race, Outside}
+use Rattle.spec.specs.Access.{Kind, load, store, atomicAdd, cellAfter, registersAfter}
+use Rattle.spec.specs.Op.{Mem, MEM, opOf}
+use Rattle.spec.specs.Word.{add}
+use Rattle.spec.specs.Table.{Row, cellByte, kindOf}
+use Rattle.spec.specs.Shape.{Shape, bound, address}
+use Rattle.spec.specs.Mask.{Mask, maskWord, any, lowest}
+use Rattle.spec.specs.Log.{logged, conflictMask, raceKind}
+use Rattle.spec.specs.LockStep.{LockState, Step, continues, stops, reg, madeAccess, tryAccess, accessTurn}
+use Rattle.masks.proofs.Bits.{or-more, or-less}
+use Rattle.masks.proofs.Words.{any-none, any-some, lowest-is}
+use Rattle.layout.specs.declared.Access.{Access}
+use Rattle.layout.specs.declared.Access.the-variants.{Done, Stop}
+use Rattle.layout.specs.Memory.{Regs, LogIs, Memory, Did, OneTurn, stepsOf, KeptBut, AccessAsks, shapeBy, cellBy, Transferred, CellRegister}
+use Rattle.layout.proofs.Buffers.{regs-set}
+use Rattle.layout.specs.Logging.{testedWord, kindWord, enteredWords}
+use Rattle.layout.proofs.LogBuffer.{conflict-size}
+use Rattle.layout.proofs.Turning.{kept-none}
+use Rattle.accesslog.proofs.LogTests.{which, mem-load, mem-store, mem-add, conflict-means, entered-means, kind-means}
+
+-- What a STORE and an ATOMIC ADD leave in the cell.
+pub cell-by-store : (op old word : ℕ) → op ≡ 17 → cellBy op old word ≡ word
+unfolding cellBy
+cell-by-store op old word e = rw (eq-eqb op 17 e)
+
+pub cell-by-add : (op old word : ℕ) → (op ≡ 17 → ⊥) → cellBy op old word ≡ add old word
+unfolding cellBy
+cell-by-add op old word f = rw (ne-eqb op 17 f)
+
+-- An access stores to no register but its own lane of register d; what follows one another keeps what all keep.
+pub transfer-keeps : (op d t j from i : ℕ) (regs cells regs′ cells′ : List ℕ) → j ≡ t → Transferred op (d * 32 + j) from i regs cells regs′ cells′
+    → KeptBut d (t + 1) regs regs′
+transfer-keeps op d t j from i regs cells regs′ cells′ e T k off = by (ℕ-discrete op 16)
+  where
+    by : Dec (op ≡ 16) → getD regs′ k 0 ≡ getD regs k 0
+    by (yes q) =
+        ap (λ x. getD x k 0) (T .load-regs q)
+        ∙ getD-set-other regs (d * 32 + j) k (getD cells i 0) 0 (λ p. off t (omega arith) (p ∙ ap (λ x. d * 32 + x) e))
+    by (no f) = ap (λ x. getD x k 0) (T .other-regs f)
+
+-- Within a row the buffers keep their lengths, so what was asked still holds, and a turn is one of the same launch.
+pub asks-still : (op d a : ℕ) (cells₀ log₀ cells log : List ℕ) → AccessAsks op d a cells₀ log₀ → length cells ≡ length cells₀ → length log ≡ length log₀
+    → AccessAsks op d a cells log
+asks-still op d a cells₀ log₀ cells log A c l =
+    record {
+      known = A .known;
+      small = A .small;
+      target = A .target;
+      source = A .source;
+      sized = omega (arith, A .sized);
+      cells-few = omega (arith, A .cells-few);
+    }
+
+pub turn-still : (n t : ℕ) (y : Mem) (x : Row) (cells₀ regs cells log regs′ cells′ log′ : List ℕ) (r : Access) → length cells ≡ length cells₀
+    → OneTurn (accessTurn (shapeBy n cells) y x) n t regs cells log r regs′ cells′ log′
+    → OneTurn (accessTurn (shapeBy n cells₀) y x) n t regs cells log r regs′ cells′ log′
+turn-still n t y x cells₀ regs cells log regs′ cells′ log′ r e d =
+    subst (λ k. OneTurn (accessTurn (record { threads = n; cells = k }) y x) n t regs cells log r regs′ cells′ log′) e d
+
+pub keeps-on : (d n t : ℕ) (xs ys zs : List ℕ) → t < n → KeptBut d n xs ys → KeptBut d (t + 1) ys zs → KeptBut d n xs zs
+keeps-on d n t xs ys zs h K J i off = J i (λ j l e. off j (omega arith) e) ∙ K i off
+
+module _ (n t : ℕ) (s : LockState) (regs cells log : List ℕ) (M : Memory n s regs cells log) (h : t < n) where
+  -- what the code reads at r * 32 + j is the thread's register
+  reg-is : (r j q : ℕ) → j ≡ t → q ≡ r → r < 16 → getD regs (r * 32 + j) 0 ≡ reg s t q
+  unfolding reg
+  reg-is r j q ej eq l = ap (λ z. getD regs (r * 32 + z) 0) ej ∙ M .regs-are .at t r h l ∙ ap (λ z. getD (getD (s .regs) t []) z 0) (sym eq)
+
+  cells-size : length cells ≡ length (s .cells)
+  cells-size = ap length (M .cells-are)
+
+  log-here : LogIs n (length cells) (s .log) log
+  log-here = subst (λ k. LogIs n k (s .log) log) (sym cells-size) (M .log-is)
+
+  module _ (op d a b j i : ℕ) (m : Mem) (x : Row) (o : opOf op ≡ MEM m) (p : 16 ≤ op) (q : op ≤ 18) (r : CellRegister op d a b) (ed : x .d ≡ d)
+      (ea : x .a ≡ a) (ld : d < 16) (la : a < 16) (ej : j ≡ t)
+      (ei : i ≡ getD regs (b * 32 + j) 0) where
+    abbrev shape : Shape
+    shape = record { threads = n; cells = length cells }
+
+    abbrev kind : Kind
+    kind = kindOf m (reg s t (x .a))
+
+    abbrev turn : Step
+    turn = accessTurn shape m x s t
+
+    number-is : reg s t (cellByte m x) ≡ i
+    unfolding cellByte
+    number-is = by (which op p q)
+      where
+        by : (op ≡ 16) ⊎ ((op ≡ 17) ⊎ (op ≡ 18)) → reg s t (cellByte m x) ≡ i
+        by (inl e) =
+            ap (λ y. reg s t (cellByte y x)) (mem-load op m e o) ∙ sym (ei ∙ reg-is b j (x .a) ej (ea ∙ sym (r .of-load e)) (r .small))
+        by (inr (inl e)) =
+            ap (λ y. reg s t (cellByte y x)) (mem-store op m e o) ∙ sym (ei ∙ reg-is b j (x .d) ej (ed ∙ sym (r .of-other (λ z. omega arith))) (r .small))
+        by (inr (inr e)) =
+            ap (λ y. reg s t (cellByte y x)) (mem-add op m e o) ∙ sym (ei ∙ reg-is b j (x .d) ej (ed ∙ sym (r .of-other (λ z. omega arith))) (r .small))
+
+    turn-at : turn ≡ cond (leb (length cells) i) (stops (Outside t i) s) (tryAccess s t d i kind)
+    unfolding accessTurn bound address
+    turn-at = ap₂ (λ c e. cond (leb (length cells) c) (stops (Outside t c) s) (tryAccess s t e c kind)) number-is ed
+
+    did : (y : Step) (w : Access) (regs′ cells′ log′ : List ℕ) → turn ≡ y → Did n (stepsOf y) s y w regs′ cells′ log′
+        → Did n (stepsOf turn) s turn w regs′ cells′ log′
+    did y w regs′ cells′ log′ e D = subst (λ z. Did n (stepsOf z) s z w regs′ cells′ log′) (sym e) D
+
+    pub outside-did : (v : ℕ) → v ≡ i → length cells ≤ i → Did n (stepsOf turn) s turn (Stop (Outside t v)) regs cells log
+    outside-did v ev g =
+        did (stops (Outside t i) s) _ regs cells log (turn-at ∙ rw (le-leb (length cells) i g))
+        (record { answer = ap (λ z. Stop (Outside t z)) ev; memory = M; kept = kept-none s })
+
+    module _ (l : i < length cells) (bit w : ℕ) (eb : bit ≡ 2 ^ t) (C : w ≡ testedWord op (length cells) i log)
+        (short : w < 2 ^ 32) (single : bit < 2 ^ 32) where
+      abbrev others : Mask
+      others = conflictMask (s .log) i t kind
+
+      ew : bitOr w bit - bit ≡ maskWord others
+      ew = or-less w bit short single ∙ ap (λ (y : ℕ). bitAnd y (4294967295 - bit)) C ∙ conflict-means op (length cells) i log n (reg s t (x .a)) m (s .log) o p q l log-here (M .few) t bit h eb
+
+      inside : turn ≡ cond (any others) (stops (Race t (lowest others) (raceKind (s .log) i (lowest others) kind) i) s) (continues (madeAccess s t d i kind))
+      unfolding tryAccess
+      inside = turn-at ∙ rw (lt-leb (length cells) i l)
+
+      size : length others ≡ n
+      size = conflict-size n (length (s .cells)) (s .log) log (M .log-is) i (omega (arith, cells-size)) t kind
+
+      pub race-did : (u v : ℕ) (k : AccessKind) → v ≡ i → (bitOr w bit ≡ bit → ⊥) → u ≡ trailingZeros 32 (bitOr w bit - bit)
+          → k ≡ kindWord op (length cells) i u log
+          → Did n (stepsOf turn) s turn (Stop (Race t u k v)) regs cells log
+      race-did u v k ev ne eu K =
+          let ek : k ≡ raceKind (s .log) i u kind = K ∙ kind-means op (length cells) i log n (reg s t (x .a)) m (s .log) o p q l log-here u in
+          let some : any others ≡ true = any-some others (λ e. ne (omega (arith, ew, e, or-more w bit short single))) in
+          let low : u ≡ lowest others = eu ∙ ap (trailingZeros 32) ew ∙ lowest-is others 32 (omega (arith, size, M .few)) some in
+          did (stops (Race t (lowest others) (raceKind (s .log) i (lowest others) kind) i) s) _ regs cells log (inside ∙ rw some)
+          (record {
+            answer = ap₂ (λ y z. Stop (Race t u y z)) ek ev ∙ ap (λ y. Stop (Race t y (raceKind (s .log) i y kind) i)) low;
+            memory = M;
+            kept = kept-none s;
+          })
+
+      -- made: the buffers after it
+      made : (regs′ cells′ log′ : List ℕ) → Transferred op (d * 32 + j) (a * 32 + j) i regs cells regs′ cells′
+          → LogIs n (length (s .cells)) (logged (s .log) i t kind) log′ → Memory n (madeAccess s t d i kind) regs′ cells′ log′
+      unfolding madeAccess
+      made regs′ cells′ log′ T G = by (which op p q)
+        where
+          old : ℕ
+          old = getD (s .cells) i 0
+
+          mine : List ℕ
+          mine = getD (s .regs) t []
+
+          memory : (k : Kind) → kind ≡ k → Regs n (set (s .regs) t (registersAfter k d old mine)) regs′ → cells′ ≡ set (s .cells) i (cellAfter k old)
+              → Memory n (madeAccess s t d i kind) regs′ cells′ log′
+          memory k e R C =
+              record {
+                few = M .few;
+                regs-are = subst (λ y. Regs n (set (s .regs) t (registersAfter y d old mine)) regs′) (sym e) R;
+                cells-are = C ∙ ap (λ y. set (s .cells) i (cellAfter y old)) (sym e);
+                log-is = subst (λ c. LogIs n c (logged (s .log) i t kind) log′) (sym (length-set (s .cells) i (cellAfter kind old))) G;
+              }
+
+          -- an access that is no LOAD: the registers as they were, and a cell set to v
+          kept-regs : (op ≡ 16 → ⊥) → Regs n (set (s .regs) t mine) regs′
+          kept-regs f = subst (λ z. Regs n z regs′) (sym (set-getD (s .regs) t [])) (subst (λ z. Regs n (s .regs) z) (sym (T .other-regs f)) (M .regs-are))
+
+          set-cell : (v : ℕ) → (op ≡ 16 → ⊥) → cellBy op (getD (s .cells) i 0) (reg s t (x .a)) ≡ v → cells′ ≡ set (s .cells) i v
+          set-cell v f e =
+              T .other-cells f
+              ∙ ap₂ (λ y z. set y i (cellBy op (getD y i 0) z)) (M .cells-are) (reg-is a j (x .a) ej ea la) ∙ ap (set (s .cells) i) e
+
+          by : (op ≡ 16) ⊎ ((op ≡ 17) ⊎ (op ≡ 18)) → Memory n (madeAccess s t d i kind) regs′ cells′ log′
+          by (inl e) =
+              memory load (unfold kindOf in (ap (λ y. kindOf y (reg s t (x .a))) (mem-load op m e o)))
+              (unfold registersAfter in (subst (λ z. Regs n (set (s .regs) t (set mine d old)) z)
+              (ap₂ (λ y z. set regs (d * 32 + y) (getD z i 0)) (sym ej) (sym (M .cells-are)) ∙ sym (T .load-regs e))
+              (regs-set n (s .regs) regs (M .regs-are) t d old (M .few) h ld)))
+              (unfold cellAfter in (T .load-cells e ∙ M .cells-are ∙ sym (set-getD (s .cells) i 0)))
+          by (inr (inl e)) =
+              memory (store (reg s t (x .a))) (unfold kindOf in (ap (λ y. kindOf y (reg s t (x .a))) (mem-store op m e o)))
+              (unfold registersAfter in (kept-regs (λ z. omega arith)))
+              (unfold cellAfter in (set-cell _ (λ z. omega arith) (cell-by-store op _ _ e)))
+          by (inr (inr e)) =
+              memory (atomicAdd (reg s t (x .a))) (unfold kindOf in (ap (λ y. kindOf y (reg s t (x .a))) (mem-add op m e o)))
+              (unfold registersAfter in (kept-regs (λ z. omega arith)))
+              (unfold cellAfter in (set-cell _ (λ z. omega arith) (cell-by-add op _ _ (λ z. omega arith))))
+
+      pub made-did : (regs′ cells′ log′ : List ℕ) → bitOr w bit ≡ bit → Transferred op (d * 32 + j) (a * 32 + j) i regs cells regs′ cells′
+          → log′ ≡ enteredWords op (length cells) i bit log → Did n (stepsOf turn) s turn Done regs′ cells′ log′
+      made-did regs′ cells′ log′ z T E =
+          let G : LogIs n (length (s .cells)) (logged (s .log) i t kind) log′ =
+          subst₂ (λ k g. LogIs n k (logged (s .log) i t kind) g) cells-size (sym E)
+          (entered-means op (length cells) i log n (reg s t (x .a)) m (s .log) o p q l log-here (M .few) t bit h eb) in
+          let none : any others ≡ false = any-none others (sym ew ∙ omega (arith, z)) in
+          did (continues (madeAccess s t d i kind)) _ regs′ cells′ log′ (inside ∙ rw none)
+          (record {
+            answer = refl;
+            memory = made regs′ cells′ log′ T G;
+            kept = unfold madeAccess in
+                (record { row-same = refl; enabled-same = refl; saved-same = refl; rows-same = refl; barriers-same = refl; steps-more = omega arith });
+          })

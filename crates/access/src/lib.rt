@@ -1,0 +1,76 @@
+// One thread's LOAD (16), STORE (17) or ATOMIC ADD (18): one path for all three.
+ghost use mathlib.Core.Path.{_≡_};
+ghost use Prim.Native.Nat.{_+_, _*_, _^_, _<_};
+ghost use lib.ListN.{length};
+ghost use Rattle.layout.specs.Memory.{AccessAsks, AccessOne, KeptBut, Transferred, CellRegister};
+
+fn index(x: u32) -> usize
+    ensures { λ r. ⌜ r ≡ x ⌝ }
+{
+    x as usize
+}
+
+// The access itself: what a LOAD puts in its register, what a STORE or an ATOMIC ADD puts in its cell.
+fn transfer(
+    regs: &mut [u32; 512],
+    cells: &mut [u32],
+    j: usize,
+    i: usize,
+    op: u8,
+    d: usize,
+    a: usize,
+)
+    requires { ⌜ (j < 32) × (i < length (now cells)) × (d < 16) × (a < 16) ⌝ }
+    ensures { λ _. ⌜ Transferred op (d * 32 + j) (a * 32 + j) i (now (regs .entry)) (now (cells .entry)) (now (regs .exit)) (now (cells .exit)) ⌝ }
+{
+    if op == 16 {
+        regs[d * 32 + j] = cells[i];
+    } else if op == 17 {
+        cells[i] = regs[a * 32 + j];
+    } else {
+        cells[i] = words::add(cells[i], regs[a * 32 + j]);
+    }
+}
+
+// The register with the cell's number: a LOAD has it in Ra, the others in Rd.
+fn cell_register(op: u8, d: usize, a: usize) -> usize
+    requires { ⌜ (d < 16) × (a < 16) ⌝ }
+    ensures { λ r. ⌜ CellRegister op d a r ⌝ }
+{
+    if op == 16 { a } else { d }
+}
+
+// Thread t's access. The thread's bit is handed down, so that it is not shifted into place for each access.
+pub fn access_one(
+    regs: &mut [u32; 512],
+    cells: &mut [u32],
+    log: &mut [u32],
+    t: u32,
+    bit: u32,
+    op: u8,
+    d: usize,
+    a: usize,
+) -> layout::Access
+    requires { ⌜ (t < 32) × AccessAsks op d a (now cells) (now log) × (bit ≡ 2 ^ t) ⌝ }
+    ensures { λ r. ⌜ AccessOne op t d a (now (regs .entry)) (now (cells .entry)) (now (log .entry)) r
+        (now (regs .exit)) (now (cells .exit)) (now (log .exit)) × KeptBut d (t + 1) (now (regs .entry)) (now (regs .exit)) ⌝ }
+{
+    let j = index(t);
+    let b = cell_register(op, d, a);
+    let x = regs[b * 32 + j];
+    let i = index(x);
+    let n = cells.len();
+    if n <= i {
+        return layout::Access::Stop(spec::Verdict::Outside(t, x));
+    }
+    // With the thread's own bit the masks are that bit alone, where nobody else is in them.
+    let met = accesslog::tested(log, n, i, op) | bit;
+    if met == bit {
+        accesslog::enter(log, n, i, bit, op);
+        transfer(regs, cells, j, i, op, d, a);
+        return layout::Access::Done;
+    }
+    let other = masks::lowest(met - bit);
+    let kind = accesslog::race_kind(log, n, i, other, op);
+    layout::Access::Stop(spec::Verdict::Race(t, other, kind, x))
+}

@@ -1,0 +1,74 @@
+-- Laws of the log, once for all modes. Assumes nothing.
+use mathlib.Core.Path.{_≡_, refl, sym, _∙_}
+use mathlib.Core.List.{List, [], _∷_, map}
+use mathlib.Core.Bool.{Bool, true, false, cond}
+use Prim.Native.Nat.{ℕ, zero, suc}
+use lib.ListN.{length, getD, replicate, length-map}
+use Rattle.spec.specs.Access.{Kind, load, store, atomicAdd, Mode, reads, writes, adds, mode, agree}
+use Rattle.spec.specs.Mask.{Mask, union}
+use Rattle.spec.specs.Log.{Log, masksOf, emptyLog, nobody, cleared, withThread, logged, conflicting, testedMask}
+use Rattle.spec.proofs.Laws.{union-size}
+
+unfoldable pub same : Mode → Mode → Bool
+same reads reads = true
+same reads writes = false
+same reads adds = false
+same writes reads = false
+same writes writes = true
+same writes adds = false
+same adds reads = false
+same adds writes = false
+same adds adds = true
+
+-- The masks of a mode at the start, after an access, and after a barrier.
+pub masks-empty : (n k : ℕ) (m : Mode) → masksOf (emptyLog n k) m ≡ replicate k (replicate n false)
+unfolding masksOf emptyLog
+masks-empty n k reads = refl
+masks-empty n k writes = refl
+masks-empty n k adds = refl
+
+pub masks-logged : (G : Log) (c t : ℕ) (x : Kind) (m : Mode)
+    → masksOf (logged G c t x) m ≡ cond (same m (mode x)) (withThread (masksOf G m) c t) (masksOf G m)
+unfolding masksOf logged same mode
+masks-logged G c t load reads = refl
+masks-logged G c t load writes = refl
+masks-logged G c t load adds = refl
+masks-logged G c t (store v) reads = refl
+masks-logged G c t (store v) writes = refl
+masks-logged G c t (store v) adds = refl
+masks-logged G c t (atomicAdd v) reads = refl
+masks-logged G c t (atomicAdd v) writes = refl
+masks-logged G c t (atomicAdd v) adds = refl
+
+pub masks-cleared : (G : Log) (m : Mode) → masksOf (cleared G) m ≡ map nobody (masksOf G m)
+unfolding masksOf cleared
+masks-cleared G reads = refl
+masks-cleared G writes = refl
+masks-cleared G adds = refl
+
+-- Sizes of masks.
+pub nobody-size : (m : Mask) → length (nobody m) ≡ length m
+unfolding nobody
+nobody-size m = length-map m (λ b. false)
+
+pub wiped-size : (ms : List Mask) (c : ℕ) → length (getD (map nobody ms) c []) ≡ length (getD ms c [])
+wiped-size [] c = refl
+wiped-size (m ∷ ms) zero = nobody-size m
+wiped-size (m ∷ ms) (suc c) = wiped-size ms c
+
+module _ (G : Log) (c : ℕ) (x : Kind) (n : ℕ) (sizes : (m : Mode) → length (getD (masksOf G m) c []) ≡ n) where
+  conflicting-size : (m : Mode) → length (conflicting G c m x) ≡ n
+  unfolding conflicting
+  conflicting-size m = by (agree m (mode x))
+    where
+      by : (b : Bool) → length (cond b (nobody (getD (masksOf G m) c [])) (getD (masksOf G m) c [])) ≡ n
+      by true = nobody-size (getD (masksOf G m) c []) ∙ sizes m
+      by false = sizes m
+
+  pub tested-size : length (testedMask G c x) ≡ n
+  unfolding testedMask
+  tested-size =
+      union-size (conflicting G c writes x) _ (conflicting-size writes ∙ sym others) ∙ conflicting-size writes
+    where
+      others : length (union (conflicting G c adds x) (conflicting G c reads x)) ≡ n
+      others = union-size (conflicting G c adds x) (conflicting G c reads x) (conflicting-size adds ∙ sym (conflicting-size reads)) ∙ conflicting-size adds
