@@ -27,10 +27,11 @@ logWords G = map maskWord (G .readers) ++ (map maskWord (G .writers) ++ map mask
 unfoldable pub emptyLog : (n cells : ℕ) → Log
 emptyLog n cells = let none = replicate cells (replicate n false) in record { readers = none; writers = none; adders = none }
 
--- At a barrier all masks are cleared.
+-- A mask with no thread in it.
 unfoldable pub nobody : Mask → Mask
 nobody m = map (λ b. false) m
 
+-- At a barrier all masks are cleared.
 unfoldable pub cleared : Log → Log
 cleared G = record { readers = map nobody (G .readers); writers = map nobody (G .writers); adders = map nobody (G .adders) }
 
