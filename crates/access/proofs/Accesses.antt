@@ -26,7 +26,7 @@ use Rattle.masks.proofs.Bits.{or-more, or-less}
 use Rattle.masks.proofs.Words.{any-none, any-some, lowest-is}
 use Rattle.layout.specs.declared.Access.{Access}
 use Rattle.layout.specs.declared.Access.the-variants.{Done, Stop}
-use Rattle.layout.specs.Memory.{Regs, LogIs, Memory, Did, OneTurn, stepsOf, KeptBut, AccessAsks, shapeBy, cellBy, Transferred, CellRegister}
+use Rattle.layout.specs.Memory.{Regs, LogIs, Memory, Did, OneTurn, stepsOf, KeptBut, AccessAsks, shapeBy, cellBy, Transferred, CellRegister, CellNumber}
 use Rattle.layout.proofs.Buffers.{regs-set}
 use Rattle.layout.specs.Logging.{testedWord, kindWord, enteredWords}
 use Rattle.layout.proofs.LogBuffer.{conflict-size}
@@ -87,9 +87,8 @@ module _ (n t : ℕ) (s : LockState) (regs cells log : List ℕ) (M : Memory n s
   log-here : LogIs n (length cells) (s .log) log
   log-here = subst (λ k. LogIs n k (s .log) log) (sym cells-size) (M .log-is)
 
-  module _ (op d a b j i : ℕ) (m : Mem) (x : Row) (o : opOf op ≡ MEM m) (p : 16 ≤ op) (q : op ≤ 18) (r : CellRegister op d a b) (ed : x .d ≡ d)
-      (ea : x .a ≡ a) (ld : d < 16) (la : a < 16) (ej : j ≡ t)
-      (ei : i ≡ getD regs (b * 32 + j) 0) where
+  module _ (op d a j i : ℕ) (m : Mem) (x : Row) (o : opOf op ≡ MEM m) (p : 16 ≤ op) (q : op ≤ 18) (N : CellNumber op d a t regs i) (ed : x .d ≡ d)
+      (ea : x .a ≡ a) (ld : d < 16) (la : a < 16) (ej : j ≡ t) where
     abbrev shape : Shape
     shape = record { threads = n; cells = length cells }
 
@@ -103,13 +102,16 @@ module _ (n t : ℕ) (s : LockState) (regs cells log : List ℕ) (M : Memory n s
     unfolding cellByte
     number-is = by (which op p q)
       where
+        r : CellRegister op d a (N .register)
+        r = N .in-register
+
+        word : (y : ℕ) → y ≡ N .register → reg s t y ≡ i
+        word y e = sym (N .word ∙ reg-is (N .register) t y refl e (r .small))
+
         by : (op ≡ 16) ⊎ ((op ≡ 17) ⊎ (op ≡ 18)) → reg s t (cellByte m x) ≡ i
-        by (inl e) =
-            ap (λ y. reg s t (cellByte y x)) (mem-load op m e o) ∙ sym (ei ∙ reg-is b j (x .a) ej (ea ∙ sym (r .of-load e)) (r .small))
-        by (inr (inl e)) =
-            ap (λ y. reg s t (cellByte y x)) (mem-store op m e o) ∙ sym (ei ∙ reg-is b j (x .d) ej (ed ∙ sym (r .of-other (λ z. omega arith))) (r .small))
-        by (inr (inr e)) =
-            ap (λ y. reg s t (cellByte y x)) (mem-add op m e o) ∙ sym (ei ∙ reg-is b j (x .d) ej (ed ∙ sym (r .of-other (λ z. omega arith))) (r .small))
+        by (inl e) = ap (λ y. reg s t (cellByte y x)) (mem-load op m e o) ∙ word (x .a) (ea ∙ sym (r .of-load e))
+        by (inr (inl e)) = ap (λ y. reg s t (cellByte y x)) (mem-store op m e o) ∙ word (x .d) (ed ∙ sym (r .of-other (λ z. omega arith)))
+        by (inr (inr e)) = ap (λ y. reg s t (cellByte y x)) (mem-add op m e o) ∙ word (x .d) (ed ∙ sym (r .of-other (λ z. omega arith)))
 
     turn-at : turn ≡ cond (leb (length cells) i) (stops (Outside t i) s) (tryAccess s t d i kind)
     unfolding accessTurn bound address

@@ -2,7 +2,8 @@
 ghost use mathlib.Core.Path.{_≡_};
 ghost use Prim.Native.Nat.{_+_, _*_, _^_, _<_};
 ghost use lib.ListN.{length};
-ghost use Rattle.layout.specs.Memory.{AccessAsks, AccessOne, KeptBut, Transferred, CellRegister};
+ghost use Rattle.layout.specs.Logging.{SameBut};
+ghost use Rattle.layout.specs.Memory.{AccessAsks, AccessOne, KeptBut, Transferred, CellRegister, CellNumber};
 
 fn index(x: u32) -> usize
     ensures { λ r. ⌜ r ≡ x ⌝ }
@@ -40,24 +41,34 @@ fn cell_register(op: u8, d: usize, a: usize) -> usize
     if op == 16 { a } else { d }
 }
 
-// Thread t's access. The thread's bit is handed down, so that it is not shifted into place for each access.
+// The number of the cell that thread t accesses.
+pub fn cell_number(regs: &[u32; 512], t: u32, op: u8, d: usize, a: usize) -> u32
+    requires { ⌜ (t < 32) × (d < 16) × (a < 16) ⌝ }
+    ensures { λ r. ⌜ CellNumber op d a t (now (regs .entry)) r ⌝ }
+{
+    let j = index(t);
+    let b = cell_register(op, d, a);
+    regs[b * 32 + j]
+}
+
+// Thread t's access, of the cell numbered x. The thread's bit is handed down, so that it is not shifted into place for each access.
 pub fn access_one(
     regs: &mut [u32; 512],
     cells: &mut [u32],
     log: &mut [u32],
+    x: u32,
     t: u32,
     bit: u32,
     op: u8,
     d: usize,
     a: usize,
 ) -> layout::Access
-    requires { ⌜ (t < 32) × AccessAsks op d a (now cells) (now log) × (bit ≡ 2 ^ t) ⌝ }
+    requires { ⌜ (t < 32) × AccessAsks op d a (now cells) (now log) × (bit ≡ 2 ^ t) × CellNumber op d a t (now regs) x ⌝ }
     ensures { λ r. ⌜ AccessOne op t d a (now (regs .entry)) (now (cells .entry)) (now (log .entry)) r
-        (now (regs .exit)) (now (cells .exit)) (now (log .exit)) × KeptBut d (t + 1) (now (regs .entry)) (now (regs .exit)) ⌝ }
+        (now (regs .exit)) (now (cells .exit)) (now (log .exit)) × KeptBut d (t + 1) (now (regs .entry)) (now (regs .exit))
+        × SameBut x (length (now (cells .entry))) (now (log .entry)) (now (log .exit)) ⌝ }
 {
     let j = index(t);
-    let b = cell_register(op, d, a);
-    let x = regs[b * 32 + j];
     let i = index(x);
     let n = cells.len();
     if n <= i {

@@ -4,6 +4,7 @@ use mathlib.Core.List.{List}
 use Prim.Native.Nat.{ℕ, _<_, _≤_}
 use native.Mathlib.Omega.{arith}
 use native.Mathlib.Decide.{ℕ-discrete}
+use lib.ListN.{length}
 use Rattle.spec.specs.Op.{WHILE, opOf, opTable}
 use Rattle.spec.specs.Table.{Table, Row, endOf}
 use Rattle.spec.specs.Shape.{Shape}
@@ -18,7 +19,7 @@ use Rattle.constructs.proofs.Barrier.{barrier-means}
 
 module _ (n : ℕ) (z : LockState) (s : State) (regs cells log saved openers : List ℕ) (R : Represents n z s regs cells log saved openers)
     (T : Table) (L : Shape) (x : Row) (op : ℕ) (q : x .op ≡ opOf op) where
-  pub barrier-after : 1 ≤ n → op ≡ 37 → (r : Next) (log′ : List ℕ) → (r ≡ barrierNext n s) × (log′ ≡ barrierLog n s log)
+  pub barrier-after : 1 ≤ n → op ≡ 37 → (r : Next) (log′ : List ℕ) → (r ≡ barrierNext n s) × (log′ ≡ barrierLog n s (length cells) log)
       → After n (runRow T L x z (x .op)) r regs cells log′ saved openers
   unfolding runRow opOf opTable
   barrier-after o e r log′ (er, el) =

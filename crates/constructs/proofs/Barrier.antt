@@ -2,7 +2,7 @@
 use mathlib.Core.Path.{_≡_, refl, sym, _∙_, ap, ap₂}
 use mathlib.Core.List.{List, map}
 use mathlib.Core.Bool.{Bool, true, false, cond, not}
-use Prim.Native.Nat.{ℕ, _-_, _^_, _≤_}
+use Prim.Native.Nat.{ℕ, _+_, _-_, _^_, _≤_}
 use native.Mathlib.Omega.{arith}
 use native.Mathlib.Decide.{ℕ-discrete}
 use borrow.Author.Tests.{eq-eqb, ne-eqb}
@@ -12,12 +12,14 @@ use lib.Pow.{pow-mono}
 use lib.Count.{trailingZeros}
 use lib.ListN.{length, replicate, length-replicate}
 use Rattle.spec.specs.declared.Verdict.the-variants.{Diverged}
+use Rattle.spec.specs.Log.{cellsCleared}
 use Rattle.spec.specs.Mask.{maskWord, any, full, lowest}
 use Rattle.spec.specs.LockStep.{LockState, barrierRow, passBarrier}
 use Rattle.masks.proofs.Words.{any-none, any-some, word-minus, word-all, full-is, not-full, rest-any, rest-is, rest-size, lowest-is}
 use Rattle.layout.specs.declared.State.{State}
 use Rattle.layout.specs.declared.Next.the-variants as next
 use Rattle.layout.proofs.LogBuffer.{cleared-is}
+use Rattle.layout.proofs.Reach.{empty-cleared, zeros-empty}
 use Rattle.layout.proofs.Turning.{kept-none}
 use Rattle.layout.specs.Represents.{Represents, After, Counts, movedOn}
 use Rattle.layout.specs.Constructs.{passedState, divergedNext, barrierNext, barrierLog}
@@ -28,18 +30,22 @@ module _ (n : ℕ) (z : LockState) (s : State) (regs cells log saved openers : L
   unfolding barrierRow
   skips e =
       let no : any (z .enabled) ≡ false = any-none (z .enabled) (sym (R .enabled-is) ∙ e) in
-      rw no (movedOn s 0, refl, moves-on n z s regs cells log saved openers R 0 z regs cells log (kept-none z) (R .memory))
+      rw no (movedOn s 0, refl, moves-on n z s regs cells log saved openers R 0 z regs cells log (kept-none z) (R .memory) (R .reach-is))
 
   some-on : (s .mask ≡ 0 → ⊥) → any (z .enabled) ≡ true
   some-on ne = any-some (z .enabled) (λ e. ne (R .enabled-is ∙ e))
 
-  passes : 1 ≤ n → s .mask ≡ 2 ^ n - 1 → After n (barrierRow z) (next.Go (passedState s)) regs cells (replicate (length log) 0) saved openers
+  abbrev walked : List ℕ
+  walked = cellsCleared (length cells) (s .reach + 1) log
+
+  passes : 1 ≤ n → s .mask ≡ 2 ^ n - 1 → After n (barrierRow z) (next.Go (passedState s)) regs cells walked saved openers
   unfolding barrierRow passBarrier
   passes o em =
       let two : 2 ^ 1 ≤ 2 ^ n = pow-mono {i = 1} {j = n} o in
       let yes-any = some-on (λ z. omega arith) in
       let all : full (z .enabled) ≡ true = full-is (z .enabled) (sym (R .enabled-is) ∙ em ∙ ap (λ k. 2 ^ k - 1) (sym (R .enabled-size))) in
       let M = R .memory in
+      let whole = empty-cleared (length cells) log (s .reach) (R .reach-is) in
       rw (yes-any, all) (
         passedState s,
         refl,
@@ -48,7 +54,7 @@ module _ (n : ℕ) (z : LockState) (s : State) (regs cells log saved openers : L
             few = M .few;
             regs-are = M .regs-are;
             cells-are = M .cells-are;
-            log-is = cleared-is n (length (z .cells)) (z .log) log (replicate (length log) 0) (M .log-is) refl;
+            log-is = cleared-is n (length (z .cells)) (z .log) log walked (M .log-is) whole;
           };
           row-is = omega (arith, R .row-is);
           enabled-is = R .enabled-is;
@@ -60,6 +66,7 @@ module _ (n : ℕ) (z : LockState) (s : State) (regs cells log saved openers : L
           rows-is = omega (arith, R .rows-is);
           steps-is = R .steps-is;
           barriers-is = omega (arith, R .barriers-is);
+          reach-is = zeros-empty 0 (length cells) (length log) walked whole;
         },
       )
 
@@ -78,11 +85,11 @@ module _ (n : ℕ) (z : LockState) (s : State) (regs cells log saved openers : L
       ∙ lowest-is (map not (z .enabled)) 32 (omega (arith, rest-size (z .enabled))) (rest-any (z .enabled) part) in
       rw (yes-any, part) (s, ap₂ (λ x y. next.Stop (Diverged x y) s) first other, R)
 
-  pub barrier-means : 1 ≤ n → After n (barrierRow z) (barrierNext n s) regs cells (barrierLog n s log) saved openers
+  pub barrier-means : 1 ≤ n → After n (barrierRow z) (barrierNext n s) regs cells (barrierLog n s (length cells) log) saved openers
   unfolding barrierNext barrierLog
   barrier-means o = by (ℕ-discrete (s .mask) (2 ^ n - 1)) (ℕ-discrete (s .mask) 0)
     where
-      by : Dec (s .mask ≡ 2 ^ n - 1) → Dec (s .mask ≡ 0) → After n (barrierRow z) (barrierNext n s) regs cells (barrierLog n s log) saved openers
+      by : Dec (s .mask ≡ 2 ^ n - 1) → Dec (s .mask ≡ 0) → After n (barrierRow z) (barrierNext n s) regs cells (barrierLog n s (length cells) log) saved openers
       by (yes e) d = rw (eq-eqb (s .mask) (2 ^ n - 1) e) (passes o e)
       by (no f) (yes e) = rw (ne-eqb (s .mask) (2 ^ n - 1) f, eq-eqb (s .mask) 0 e) (skips e)
       by (no f) (no g) = rw (ne-eqb (s .mask) (2 ^ n - 1) f, ne-eqb (s .mask) 0 g) (diverges g f)

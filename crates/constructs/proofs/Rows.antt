@@ -58,6 +58,7 @@ module _ (n : ℕ) (z : LockState) (s : State) (regs cells log saved openers : L
         rows-is = omega (arith, R .rows-is);
         steps-is = omega (arith, R .steps-is, ek);
         barriers-is = R .barriers-is;
+        reach-is = R .reach-is;
       }
 
   next-row : s .row + 1 ≡ suc (z .row)

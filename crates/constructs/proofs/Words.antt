@@ -5,8 +5,9 @@ use Prim.Native.Nat.{ℕ, _+_, _-_, _^_}
 use borrow.Author.Tests.{eq-eqb, ne-eqb}
 use lib.Bits.{bitAnd}
 use lib.Count.{ones, trailingZeros}
-use lib.ListN.{length, getD, set, replicate}
+use lib.ListN.{getD, set}
 use Rattle.spec.specs.declared.Verdict.the-variants.{Diverged}
+use Rattle.spec.specs.Log.{cellsCleared}
 use Rattle.layout.specs.declared.State.{State}
 use Rattle.layout.specs.declared.Next.the-variants as next
 use Rattle.layout.specs.Memory.{holdingWord}
@@ -65,18 +66,18 @@ module _ (op a e : ℕ) (regs : List ℕ) (s : State) (saved openers : List ℕ)
   by-endwhile q D = by-op op a e regs s saved openers 36 q (D .0) (D .1) refl refl
 
 -- BARRIER, by the mask.
-module _ (n : ℕ) (s : State) (log : List ℕ) where
-  pub barrier-all : {log′ : List ℕ} → s .mask ≡ 2 ^ n - 1 → log′ ≡ replicate (length log) 0
-      → (next.Go (passedState s) ≡ barrierNext n s) × (log′ ≡ barrierLog n s log)
+module _ (n : ℕ) (s : State) (k : ℕ) (log : List ℕ) where
+  pub barrier-all : {log′ : List ℕ} → s .mask ≡ 2 ^ n - 1 → log′ ≡ cellsCleared k (s .reach + 1) log
+      → (next.Go (passedState s) ≡ barrierNext n s) × (log′ ≡ barrierLog n s k log)
   unfolding barrierNext barrierLog
   barrier-all e el = rw (eq-eqb (s .mask) (2 ^ n - 1) e) (refl, el)
 
-  pub barrier-none : {r : State} → (s .mask ≡ 2 ^ n - 1 → ⊥) → s .mask ≡ 0 → r ≡ movedOn s 0 → (next.Go r ≡ barrierNext n s) × (log ≡ barrierLog n s log)
+  pub barrier-none : {r : State} → (s .mask ≡ 2 ^ n - 1 → ⊥) → s .mask ≡ 0 → r ≡ movedOn s 0 → (next.Go r ≡ barrierNext n s) × (log ≡ barrierLog n s k log)
   unfolding barrierNext barrierLog
   barrier-none ne z er = rw (ne-eqb (s .mask) (2 ^ n - 1) ne, eq-eqb (s .mask) 0 z) (ap next.Go er, refl)
 
   pub barrier-some : (all t w o : ℕ) → (s .mask ≡ 2 ^ n - 1 → ⊥) → (s .mask ≡ 0 → ⊥) → all ≡ 2 ^ n - 1 → t ≡ trailingZeros 32 (s .mask)
-      → w ≡ bitAnd all (4294967295 - s .mask) → o ≡ trailingZeros 32 w → (next.Stop (Diverged t o) s ≡ barrierNext n s) × (log ≡ barrierLog n s log)
+      → w ≡ bitAnd all (4294967295 - s .mask) → o ≡ trailingZeros 32 w → (next.Stop (Diverged t o) s ≡ barrierNext n s) × (log ≡ barrierLog n s k log)
   unfolding barrierNext barrierLog
   barrier-some all t w o ne nz ea et ew eo =
       rw (ne-eqb (s .mask) (2 ^ n - 1) ne, ne-eqb (s .mask) 0 nz)

@@ -1,7 +1,8 @@
 // The rows of constructs, and BARRIER. Masks are saved on entry, with the construct's row beside them.
 ghost use mathlib.Core.Path.{_≡_};
-ghost use Prim.Native.Nat.{_-_, _<_, _≤_};
-ghost use lib.ListN.{set};
+ghost use Prim.Native.Nat.{_-_, _*_, _<_, _≤_};
+ghost use lib.ListN.{length, set};
+ghost use Rattle.spec.specs.Limits.{logPerCell};
 ghost use Rattle.layout.specs.Represents.{Room, Counted, RoomForWhile, DepthAsks, movedOn};
 ghost use Rattle.layout.specs.Constructs.{ifState, elseState, endifState, whileState, endwhileState, savedAfter, openersAfter, EnteredWhile, ConstructDone};
 ghost use Rattle.layout.specs.Constructs.{barrierNext, barrierLog};
@@ -24,6 +25,7 @@ fn if_row(
     openers[depth] = row;
     let h = truth::holding(regs, mask, a);
     layout::State {
+        reach: s.reach,
         row: row + 1,
         mask: h,
         depth: depth + 1,
@@ -44,6 +46,7 @@ fn else_row(saved: &[u32; 8], openers: &mut [usize; 8], s: layout::State) -> lay
     let m = saved[depth - 1];
     openers[depth - 1] = row;
     layout::State {
+        reach: s.reach,
         row: row + 1,
         mask: masks::minus(m, mask),
         depth: depth,
@@ -60,6 +63,7 @@ fn endif_row(saved: &[u32; 8], s: layout::State) -> layout::State
     let depth = s.depth;
     let m = saved[depth - 1];
     layout::State {
+        reach: s.reach,
         row: s.row + 1,
         mask: m,
         depth: depth - 1,
@@ -107,6 +111,7 @@ fn while_row(
     if h == 0 {
         let m = saved[depth - 1];
         return layout::State {
+            reach: s.reach,
             row: end + 1,
             mask: m,
             depth: depth - 1,
@@ -116,6 +121,7 @@ fn while_row(
         };
     }
     layout::State {
+        reach: s.reach,
         row: row + 1,
         mask: h,
         depth: depth,
@@ -131,6 +137,7 @@ fn endwhile_row(openers: &[usize; 8], s: layout::State) -> layout::State
 {
     let depth = s.depth;
     layout::State {
+        reach: s.reach,
         row: openers[depth - 1],
         mask: s.mask,
         depth: depth,
@@ -166,6 +173,7 @@ pub fn moved(s: layout::State, k: u32) -> layout::State
     ensures { λ r. ⌜ r ≡ movedOn s k ⌝ }
 {
     layout::State {
+        reach: s.reach,
         row: s.row + 1,
         mask: s.mask,
         depth: s.depth,
@@ -175,15 +183,17 @@ pub fn moved(s: layout::State, k: u32) -> layout::State
     }
 }
 
-pub fn barrier_row(log: &mut [u32], n: u32, s: layout::State) -> layout::Next
-    requires { ⌜ Room s × (1 ≤ n) × (n ≤ 32) ⌝ }
-    ensures { λ r. ⌜ (r ≡ barrierNext n s) × (now (log .exit) ≡ barrierLog n s (now (log .entry))) ⌝ }
+// BARRIER, in a launch of so many cells.
+pub fn barrier_row(log: &mut [u32], cells: usize, n: u32, s: layout::State) -> layout::Next
+    requires { ⌜ Room s × (1 ≤ n) × (n ≤ 32) × (length (now log) ≡ logPerCell * cells) ⌝ }
+    ensures { λ r. ⌜ (r ≡ barrierNext n s) × (now (log .exit) ≡ barrierLog n s cells (now (log .entry))) ⌝ }
 {
     let mask = s.mask;
     let all = masks::all(n);
     if mask == all {
-        accesslog::clear(log);
+        accesslog::clear_cells(log, cells, s.reach as usize + 1);
         return layout::Next::Go(layout::State {
+            reach: 0,
             row: s.row + 1,
             mask: mask,
             depth: s.depth,

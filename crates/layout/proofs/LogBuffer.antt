@@ -3,18 +3,18 @@ use mathlib.Core.Path.{_≡_, refl, sym, _∙_, ap, ap₂, subst}
 use mathlib.Core.List.{List, [], _∷_, _++_, map}
 use mathlib.Core.Bool.{Bool, true, false, cond, not}
 use Prim.Native.Nat.{ℕ, zero, suc, _+_, _-_, _*_, _^_, _<_, _≤_}
+use native.Mathlib.Nat.{le-refl}
 use native.Mathlib.Omega.{arith}
-use native.Mathlib.Decide.{ℕ-discrete}
 use borrow.Author.Tests.{ne-eqb}
 use lib.Bits.{bitAnd, bitOr}
 use lib.Dec.{eqb}
 use lib.Pow.{pow-pos}
 use lib.ListN.{length, getD, set, replicate, length-set, length-map, length-replicate, getD-replicate, length-append, replicate-append-replicate}
-use lib.Seq.{ext-getD, getD-set-same, getD-set-other}
 use Rattle.spec.specs.Access.{Kind, load, store, atomicAdd, Mode, reads, writes, adds, mode, agree}
 use Rattle.spec.specs.Mask.{Mask, maskWord, has, union}
 use Rattle.spec.specs.Limits.{logPerCell}
-use Rattle.spec.specs.Log.{Log, masksOf, logWords, emptyLog, nobody, cleared, withThread, logged, conflicting, testedMask, conflictMask}
+use Rattle.spec.specs.Log.{Log, masksOf, logWords, emptyLog, nobody, cleared, cellsCleared, withThread, logged, conflicting, testedMask, conflictMask}
+use Rattle.spec.proofs.ClearingLaws.{cells-all}
 use Rattle.spec.proofs.LogLaws.{same, masks-empty, masks-logged, masks-cleared, wiped-size, tested-size}
 use Rattle.masks.proofs.Words.{word-or, word-set, word-has, word-except}
 use Rattle.layout.specs.Memory.{Masks, LogIs}
@@ -132,18 +132,6 @@ module _ (n k : ℕ) (G : Log) (log : List ℕ) (L : LogIs n k G log) where
           by m true = unfold withThread in (masks-set n k (masksOf G m) c _ (L .masks-are m) h (length-set (getD (masksOf G m) c []) t true ∙ mask-size m))
           by m false = L .masks-are m
 
--- The buffer with one more word put to 0, and with all.
-pub cleared-more : (l : List ℕ) (i : ℕ) → i < length l → ((j : ℕ) → j < i → getD l j 0 ≡ 0) → (j : ℕ) → j < i + 1 → getD (set l i 0) j 0 ≡ 0
-cleared-more l i h p j k = by (ℕ-discrete j i)
-  where
-    by : Dec (j ≡ i) → getD (set l i 0) j 0 ≡ 0
-    by (yes e) = ap (λ z. getD (set l i 0) z 0) e ∙ getD-set-same l i 0 0 h
-    by (no ne) = getD-set-other l i j 0 0 ne ∙ p j (omega arith)
-
-pub cleared-all : (l : List ℕ) (n : ℕ) → length l ≡ n → ((j : ℕ) → j < n → getD l j 0 ≡ 0) → l ≡ replicate n 0
-cleared-all l n e p =
-    ext-getD 0 l (replicate n 0) (e ∙ sym (length-replicate n 0)) (λ j h. p j (omega arith) ∙ sym (getD-replicate n j 0 0 (omega arith)))
-
 -- The words of masks without a thread.
 nobody-words : (ms : List Mask) → map maskWord (map nobody ms) ≡ replicate (length ms) 0
 nobody-words [] = refl
@@ -167,6 +155,10 @@ cleared-is n k G log log′ L e =
   where
     zero : (m : Mode) → map maskWord (map nobody (masksOf G m)) ≡ replicate k 0
     zero m = nobody-words (masksOf G m) ∙ ap (λ j. replicate j 0) (L .masks-are m .count)
+
+-- The walk over all cells comes to it.
+pub walk-clears : (n k : ℕ) (G : Log) (log : List ℕ) → LogIs n k G log → cellsCleared k k log ≡ logWords (cleared G)
+walk-clears n k G log L = cleared-is n k G log (cellsCleared k k log) L (cells-all k log k (λ h. omega (arith, log-size n k G log L)) (le-refl k)) .words-are
 
 -- And at the start it is the empty one.
 empty-masks : (n k : ℕ) → Masks n k (replicate k (replicate n false))

@@ -6,8 +6,9 @@ use Prim.Native.Nat.{ℕ, _+_, _-_, _^_, _<_, _≤_}
 use lib.Bits.{bitAnd}
 use lib.Count.{ones, trailingZeros}
 use lib.Dec.{eqb, ltb}
-use lib.ListN.{length, getD, set, replicate}
+use lib.ListN.{getD, set}
 use Rattle.spec.specs.declared.Verdict.the-variants.{Diverged}
+use Rattle.spec.specs.Log.{cellsCleared}
 use Rattle.layout.specs.declared.State.{State}
 use Rattle.layout.specs.declared.Next.{Next}
 use Rattle.layout.specs.declared.Next.the-variants as next
@@ -86,7 +87,8 @@ pub record EnteredWhile (k : ℕ) (s : State) (saved openers saved′ openers′
 
 -- BARRIER of n threads: passed by all of them, which clears the log; skipped by none of them; diverged else.
 abbrev pub passedState : State → State
-passedState s = record { row = s .row + 1; mask = s .mask; depth = s .depth; rows = s .rows + 1; steps = s .steps; barriers = s .barriers + 1 }
+passedState s =
+    record { reach = 0; row = s .row + 1; mask = s .mask; depth = s .depth; rows = s .rows + 1; steps = s .steps; barriers = s .barriers + 1 }
 
 abbrev pub divergedNext : ℕ → State → Next
 divergedNext n s = next.Stop (Diverged (trailingZeros 32 (s .mask)) (trailingZeros 32 (bitAnd (2 ^ n - 1) (4294967295 - s .mask)))) s
@@ -94,5 +96,6 @@ divergedNext n s = next.Stop (Diverged (trailingZeros 32 (s .mask)) (trailingZer
 unfoldable pub barrierNext : ℕ → State → Next
 barrierNext n s = cond (eqb (s .mask) (2 ^ n - 1)) (next.Go (passedState s)) (cond (eqb (s .mask) 0) (next.Go (movedOn s 0)) (divergedNext n s))
 
-unfoldable pub barrierLog : ℕ → State → (log : List ℕ) → List ℕ
-barrierLog n s log = cond (eqb (s .mask) (2 ^ n - 1)) (replicate (length log) 0) log
+-- The walk goes no further than the cells that may have been logged.
+unfoldable pub barrierLog : ℕ → State → (k : ℕ) → (log : List ℕ) → List ℕ
+barrierLog n s k log = cond (eqb (s .mask) (2 ^ n - 1)) (cellsCleared k (s .reach + 1) log) log

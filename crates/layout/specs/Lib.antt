@@ -1,5 +1,5 @@
-pub mod Memory
 pub mod Logging
+pub mod Memory
 pub mod Represents
 pub mod Constructs
 pub mod Running

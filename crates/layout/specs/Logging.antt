@@ -2,7 +2,7 @@
 use mathlib.Core.Path.{_≡_}
 use mathlib.Core.List.{List}
 use mathlib.Core.Bool.{Bool, cond, not}
-use Prim.Native.Nat.{ℕ, _+_, _*_, _^_, _<_, _≤_}
+use Prim.Native.Nat.{ℕ, _+_, _*_, _%_, _^_, _<_, _≤_}
 use lib.Bits.{bitAnd, bitOr}
 use lib.Dec.{eqb}
 use lib.ListN.{length, getD, set}
@@ -46,6 +46,16 @@ kindWord op k i u log =
     let wrote = hasBit u (wordOf writes k i log) in
     let added = hasBit u (wordOf adds k i log) in
     cond (eqb op 16) (cond wrote WriteRead AddRead) (cond (eqb op 17) (cond wrote WriteWrite (cond added AddWrite ReadWrite)) (cond wrote WriteAdd ReadAdd))
+
+-- Word j is one of cell j % k. Above cell h every word is 0; above cell h, or of every cell but i, each word is as it was.
+abbrev pub EmptyAbove : (h k : ℕ) → (log : List ℕ) → Type 0
+EmptyAbove h k log = (j : ℕ) → h < j % k → getD log j 0 ≡ 0
+
+abbrev pub SameAbove : (h k : ℕ) → (log log′ : List ℕ) → Type 0
+SameAbove h k log log′ = (j : ℕ) → h < j % k → getD log′ j 0 ≡ getD log j 0
+
+abbrev pub SameBut : (i k : ℕ) → (log log′ : List ℕ) → Type 0
+SameBut i k log log′ = (j : ℕ) → (j % k ≡ i → ⊥) → getD log′ j 0 ≡ getD log j 0
 
 -- Where the log has room for the access.
 pub record LogAsks (op k i : ℕ) (log : List ℕ) : Type 0 where

@@ -18,6 +18,7 @@ use Rattle.spec.specs.Word.{add}
 use Rattle.layout.specs.declared.Access.{Access}
 use Rattle.layout.specs.declared.Access.the-variants.{Done, Stop}
 use Rattle.layout.specs.declared.Turns.{Turns}
+use Rattle.layout.specs.Logging.{SameAbove}
 
 -- Register r of thread t stands at r * 32 + t.
 pub record Regs (n : ℕ) (regs : List (List ℕ)) (flat : List ℕ) : Type 0 where
@@ -161,7 +162,7 @@ AccessRowAsks op n d a regs cells log = AccessAsks op d a cells log × InMemory 
 
 abbrev pub AccessRow : (op n mask d a : ℕ) → (regs cells log : List ℕ) → Turns → (regs′ cells′ log′ : List ℕ) → Type 0
 AccessRow op n mask d a regs cells log r regs′ cells′ log′ =
-    (r .steps ≤ 32) × AccessAll op n mask d a regs cells log r regs′ cells′ log′ × KeptBut d n regs regs′
+    (r .steps ≤ 32) × AccessAll op n mask d a regs cells log r regs′ cells′ log′ × KeptBut d n regs regs′ × SameAbove (r .reach) (length cells) log log′
 
 -- A LOAD moves cell i to place `to` of the registers; a STORE moves place `from` to cell i, an ATOMIC ADD adds it there.
 unfoldable pub cellBy : (op old word : ℕ) → ℕ
@@ -178,3 +179,9 @@ pub record CellRegister (op d a r : ℕ) : Type 0 where
   pub small : r < 16
   pub of-load : op ≡ 16 → r ≡ a
   pub of-other : (op ≡ 16 → ⊥) → r ≡ d
+
+-- The number, for thread t.
+pub record CellNumber (op d a t : ℕ) (regs : List ℕ) (x : ℕ) : Type 0 where
+  pub register : ℕ
+  pub in-register : CellRegister op d a register
+  pub word : x ≡ getD regs (register * 32 + t) 0

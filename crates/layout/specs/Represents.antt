@@ -3,6 +3,7 @@ use mathlib.Core.Path.{_≡_}
 use mathlib.Core.Logic.{_⊎_}
 use mathlib.Core.List.{List, [], _∷_}
 use Prim.Native.Nat.{ℕ, _+_, _-_, _*_, _<_, _≤_}
+use lib.Bits.{bitOr}
 use lib.ListN.{length, getD}
 use Rattle.spec.specs.Mask.{maskWord}
 use Rattle.spec.specs.LockStep.{Saved, LockState, Step, continues, stops}
@@ -11,6 +12,7 @@ use Rattle.layout.specs.declared.Access.the-variants.{Done, Stop}
 use Rattle.layout.specs.declared.State.{State}
 use Rattle.layout.specs.declared.Next.{Next}
 use Rattle.layout.specs.declared.Next.the-variants as next
+use Rattle.layout.specs.Logging.{EmptyAbove}
 use Rattle.layout.specs.Memory.{Memory}
 
 -- The saved masks: the innermost is the last below the depth.
@@ -31,6 +33,7 @@ pub record Represents (n : ℕ) (z : LockState) (s : State) (regs cells log save
   pub rows-is : s .rows ≡ z .rows
   pub steps-is : s .steps ≡ z .steps
   pub barriers-is : s .barriers ≡ z .barriers
+  pub reach-is : EmptyAbove (s .reach) (length cells) log
 
 -- Some state of the lock-step run stands in the code's.
 pub record Standing (n : ℕ) (s : State) (regs cells log saved openers : List ℕ) : Type 0 where
@@ -55,14 +58,29 @@ Counts s (next.Stop v r) = r .row ≡ s .row
 
 -- On at another row, with another mask and depth, after a row whose threads took k steps.
 abbrev pub goneOn : State → (row mask depth k : ℕ) → State
-goneOn s row mask depth k = record { row = row; mask = mask; depth = depth; rows = s .rows + 1; steps = s .steps + k; barriers = s .barriers }
+goneOn s row mask depth k =
+    record { reach = s .reach; row = row; mask = mask; depth = depth; rows = s .rows + 1; steps = s .steps + k; barriers = s .barriers }
 
 -- On at the next row; and at the same row, where it stopped.
 abbrev pub movedOn : State → ℕ → State
 movedOn s k = goneOn s (s .row + 1) (s .mask) (s .depth) k
 
 abbrev pub heldBack : State → ℕ → State
-heldBack s k = record { row = s .row; mask = s .mask; depth = s .depth; rows = s .rows; steps = s .steps + k; barriers = s .barriers }
+heldBack s k =
+    record { reach = s .reach; row = s .row; mask = s .mask; depth = s .depth; rows = s .rows; steps = s .steps + k; barriers = s .barriers }
+
+-- With accesses logged of no cell above h: no number's bits go beyond those that it has been put together with.
+abbrev pub reached : State → ℕ → State
+reached s h =
+    record {
+      reach = bitOr (s .reach) h;
+      row = s .row;
+      mask = s .mask;
+      depth = s .depth;
+      rows = s .rows;
+      steps = s .steps;
+      barriers = s .barriers;
+    }
 
 abbrev pub accessed : State → Access → ℕ → Next
 accessed s Done k = next.Go (movedOn s k)

@@ -9,14 +9,17 @@ pub enum Access {
     Stop(spec::Verdict),
 }
 
-// What a row's accesses come to, and how many threads have stepped.
+// What a row's accesses come to, how many threads have stepped, and a number that no cell which they accessed is above.
 pub struct Turns {
     pub access: Access,
     pub steps: u32,
+    pub reach: u32,
 }
 
-// The small part of the state, which goes by value.
+// The small part of the state, which goes by value. Above the cell numbered `reach` nothing has been logged since the log was cleared. (It does
+// not stand beside the counts: four words side by side are moved as one vector, and a row takes half as long again.)
 pub struct State {
+    pub reach: u32,
     pub row: usize,
     pub mask: u32,
     pub depth: usize,

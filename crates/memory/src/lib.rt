@@ -1,4 +1,4 @@
-// A row's accesses, thread by thread.
+// A row's accesses, thread by thread. The cells' numbers are put together bit by bit on the way: none is above what comes out.
 ghost use Prim.Native.Nat.{_-_, _^_, _<_};
 ghost use Rattle.layout.specs.Memory.{AccessRowAsks, AccessRow};
 
@@ -18,13 +18,17 @@ fn access_all(
 {
     let mut t: u32 = 0;
     let mut bit: u32 = 1;
+    let mut reach: u32 = 0;
     while t < n {
-        match access::access_one(regs, cells, log, t, bit, op, d, a) {
+        let x = access::cell_number(regs, t, op, d, a);
+        reach = reach | x;
+        match access::access_one(regs, cells, log, x, t, bit, op, d, a) {
             layout::Access::Done => {}
             layout::Access::Stop(v) => {
                 return layout::Turns {
                     access: layout::Access::Stop(v),
                     steps: t,
+                    reach: reach,
                 };
             }
         }
@@ -34,6 +38,7 @@ fn access_all(
     layout::Turns {
         access: layout::Access::Done,
         steps: n,
+        reach: reach,
     }
 }
 
@@ -55,14 +60,18 @@ fn access_enabled(
     let mut m = mask;
     let mut t: u32 = 0;
     let mut bit: u32 = 1;
+    let mut reach: u32 = 0;
     while m != 0 {
         if m % 2 == 1 {
-            match access::access_one(regs, cells, log, t, bit, op, d, a) {
+            let x = access::cell_number(regs, t, op, d, a);
+            reach = reach | x;
+            match access::access_one(regs, cells, log, x, t, bit, op, d, a) {
                 layout::Access::Done => {}
                 layout::Access::Stop(v) => {
                     return layout::Turns {
                         access: layout::Access::Stop(v),
                         steps: masks::count(mask) - masks::count(m),
+                        reach: reach,
                     };
                 }
             }
@@ -74,6 +83,7 @@ fn access_enabled(
     layout::Turns {
         access: layout::Access::Done,
         steps: masks::count(mask),
+        reach: reach,
     }
 }
 

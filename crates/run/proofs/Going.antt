@@ -31,6 +31,7 @@ use Rattle.layout.specs.declared.Next.{Next}
 use Rattle.layout.specs.declared.Next.the-variants as next
 use Rattle.layout.specs.Memory.{Regs, shapeBy}
 use Rattle.layout.proofs.LogBuffer.{empty-is}
+use Rattle.layout.proofs.Reach.{zeros-empty}
 use Rattle.layout.proofs.Saving.{saves-back}
 use Rattle.layout.specs.Represents.{Represents, After, Counted, Counts, RoomForWhile}
 use Rattle.layout.specs.Running.{Ready, Runnable, Steps, RunIs, endedAs}
@@ -62,7 +63,7 @@ start-regs n l =
 
 pub go-start : (table ends : List ℕ) (n limit m : ℕ) (cells log : List ℕ) → Runnable table ends → n ≤ 32 → m ≡ 2 ^ n - 1
     → length log ≡ logPerCell * length cells → (log′ : List ℕ) → log′ ≡ replicate (length log) 0
-    → Going table n limit cells (record { row = 0; mask = m; depth = 0; rows = 0; steps = 0; barriers = 0 }) (replicate 512 0) cells log′
+    → Going table n limit cells (record { reach = 0; row = 0; mask = m; depth = 0; rows = 0; steps = 0; barriers = 0 }) (replicate 512 0) cells log′
     (replicate 8 0) (replicate 8 0)
 unfolding initialState lockstep shapeOf
 go-start table ends n limit m cells log A l em el log′ ez =
@@ -88,6 +89,7 @@ go-start table ends n limit m cells log A l em el log′ ez =
         rows-is = refl;
         steps-is = refl;
         barriers-is = refl;
+        reach-is = zeros-empty 0 (length cells) (length log) log′ ez;
       };
       same = ap (λ k. runFrom (rowsOf table) (shapeBy n cells) k (initialState n cells)) (let z : limit - 0 ≡ limit = omega arith in z);
       rows-most = omega arith;

@@ -37,8 +37,9 @@ pub fn run(
     let mut regs: [u32; 512] = [0; 512];
     let mut saved: [u32; 8] = [0; 8];
     let mut openers: [usize; 8] = [0; 8];
-    accesslog::clear(log);
+    accesslog::clear(log, cells.len());
     let mut s = layout::State {
+        reach: 0,
         row: 0,
         mask: masks::all(n),
         depth: 0,

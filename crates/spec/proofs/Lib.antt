@@ -1,5 +1,6 @@
 pub mod Laws
 pub mod LogLaws
+pub mod ClearingLaws
 pub mod Computing
 pub mod OpTable
 pub mod RefusalTable

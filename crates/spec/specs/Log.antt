@@ -1,8 +1,9 @@
--- The lock-step run's log: for each cell a reader mask, a writer mask and an adder mask. "The lock-step run", state, LOAD and STORE; item 1.
+-- The lock-step run's log: for each cell a reader mask, a writer mask and an adder mask. "The lock-step run", state, LOAD and STORE; items 1 and 2.
 -- Assumes nothing.
-use mathlib.Core.List.{List, [], _++_, map}
-use mathlib.Core.Bool.{true, false, cond}
-use Prim.Native.Nat.{ℕ}
+use mathlib.Core.List.{List, [], _∷_, _++_, map}
+use mathlib.Core.Bool.{Bool, true, false, cond}
+use Prim.Native.Nat.{ℕ, suc, _%_}
+use lib.Dec.{eqb, ltb}
 use lib.ListN.{getD, set, replicate}
 use Rattle.spec.specs.Answers.{AccessKind, ReadWrite, WriteRead, WriteWrite, ReadAdd, AddRead, WriteAdd, AddWrite}
 use Rattle.spec.specs.Mask.{Mask, maskWord, has, union}
@@ -34,6 +35,20 @@ nobody m = map (λ b. false) m
 -- At a barrier all masks are cleared.
 unfoldable pub cleared : Log → Log
 cleared G = record { readers = map nobody (G .readers); writers = map nobody (G .writers); adders = map nobody (G .adders) }
+
+-- Word j of the log of k cells is a mask of cell j % k, since each mode has one mask a cell. From word j on: those of the cells that p has put to 0, all
+-- others as before.
+unfoldable pub clearedWhere : (p : ℕ → Bool) → (k j : ℕ) → List ℕ → List ℕ
+clearedWhere p k j [] = []
+clearedWhere p k j (w ∷ log) = cond (p (j % k)) 0 w ∷ clearedWhere p k (suc j) log
+
+-- A turn of the walk over the cells clears one cell's masks together.
+unfoldable pub cellCleared : (k c : ℕ) → List ℕ → List ℕ
+cellCleared k c log = clearedWhere (λ i. eqb i c) k 0 log
+
+-- After n turns exactly the masks of cells 0 to n - 1 are cleared, and every other word is as before.
+unfoldable pub cellsCleared : (k n : ℕ) → List ℕ → List ℕ
+cellsCleared k n log = clearedWhere (λ i. ltb i n) k 0 log
 
 -- Thread t enters the mask of cell c.
 unfoldable pub withThread : List Mask → ℕ → ℕ → List Mask

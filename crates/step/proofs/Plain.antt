@@ -3,6 +3,7 @@ use mathlib.Core.Path.{_≡_, sym, _∙_, ap, subst}
 use mathlib.Core.List.{List}
 use Prim.Native.Nat.{ℕ}
 use lib.Count.{ones}
+use lib.ListN.{length}
 use Rattle.spec.specs.Op.{Calc, CALC, Mem, MEM, value}
 use Rattle.spec.specs.Table.{Table, Row}
 use Rattle.spec.specs.Shape.{Shape}
@@ -14,27 +15,28 @@ use Rattle.layout.specs.declared.State.{State}
 use Rattle.layout.specs.declared.Next.{Next}
 use Rattle.layout.specs.declared.Next.the-variants as next
 use Rattle.layout.specs.Memory.{Did}
+use Rattle.layout.specs.Logging.{EmptyAbove}
 use Rattle.layout.specs.Represents.{Represents, After, movedOn, accessed}
 use Rattle.layout.proofs.PlainRows.{plain-after}
 
 module _ (n : ℕ) (z : LockState) (s : State) (regs cells log saved openers : List ℕ) (R : Represents n z s regs cells log saved openers) (T : Table)
     (x : Row) where
   row-after : (L : Shape) (f : LockState → ℕ → Step) (k : ℕ) (a : Access) (r : Next) (regs′ cells′ log′ : List ℕ)
-      → runRow T L x z (x .op) ≡ forEnabled f z → Did n k z (inTurn f (members (z .enabled)) z) a regs′ cells′ log′ → r ≡ accessed s a k
-      → After n (runRow T L x z (x .op)) r regs′ cells′ log′ saved openers
-  row-after L f k a r regs′ cells′ log′ q D e =
-      subst (λ o. After n o r regs′ cells′ log′ saved openers) (sym q) (plain-after n z s regs cells log saved openers R f k a r regs′ cells′ log′ D e)
+      → runRow T L x z (x .op) ≡ forEnabled f z → Did n k z (inTurn f (members (z .enabled)) z) a regs′ cells′ log′
+      → EmptyAbove (s .reach) (length cells′) log′ → r ≡ accessed s a k → After n (runRow T L x z (x .op)) r regs′ cells′ log′ saved openers
+  row-after L f k a r regs′ cells′ log′ q D E e =
+      subst (λ o. After n o r regs′ cells′ log′ saved openers) (sym q) (plain-after n z s regs cells log saved openers R f k a r regs′ cells′ log′ D E e)
 
-  pub compute-after : (k : ℕ) (c : Calc) (w j : ℕ) (r : State) (regs′ cells′ log′ : List ℕ) → x .op ≡ CALC c → j ≡ ones w
-      → Did n (ones w) z (inTurn (computeTurn x (λ t p q. value c n t (x .a) (x .b) p q)) (members (z .enabled)) z) Done regs′ cells′ log′ → r ≡ movedOn s j
-      → After n (runRow T (record { threads = n; cells = k }) x z (x .op)) (next.Go r) regs′ cells′ log′ saved openers
+  pub compute-after : (k : ℕ) (c : Calc) (w j : ℕ) (r : State) (regs′ : List ℕ) → x .op ≡ CALC c → j ≡ ones w
+      → Did n (ones w) z (inTurn (computeTurn x (λ t p q. value c n t (x .a) (x .b) p q)) (members (z .enabled)) z) Done regs′ cells log → r ≡ movedOn s j
+      → After n (runRow T (record { threads = n; cells = k }) x z (x .op)) (next.Go r) regs′ cells log saved openers
   unfolding runRow
-  compute-after k c w j r regs′ cells′ log′ q ej D e =
-      row-after (record { threads = n; cells = k }) (computeTurn x (λ t p q. value c n t (x .a) (x .b) p q)) (ones w) Done (next.Go r) regs′ cells′ log′
-      (ap (runRow T (record { threads = n; cells = k }) x z) q) D (ap next.Go (e ∙ ap (movedOn s) ej))
+  compute-after k c w j r regs′ q ej D e =
+      row-after (record { threads = n; cells = k }) (computeTurn x (λ t p q. value c n t (x .a) (x .b) p q)) (ones w) Done (next.Go r) regs′ cells log
+      (ap (runRow T (record { threads = n; cells = k }) x z) q) D (R .reach-is) (ap next.Go (e ∙ ap (movedOn s) ej))
 
   pub access-after : (L : Shape) (m : Mem) (k : ℕ) (a : Access) (r : Next) (regs′ cells′ log′ : List ℕ) → x .op ≡ MEM m
-      → Did n k z (inTurn (accessTurn L m x) (members (z .enabled)) z) a regs′ cells′ log′ → r ≡ accessed s a k
+      → Did n k z (inTurn (accessTurn L m x) (members (z .enabled)) z) a regs′ cells′ log′ → EmptyAbove (s .reach) (length cells′) log′ → r ≡ accessed s a k
       → After n (runRow T L x z (x .op)) r regs′ cells′ log′ saved openers
   unfolding runRow
-  access-after L m k a r regs′ cells′ log′ q D e = row-after L (accessTurn L m x) k a r regs′ cells′ log′ (ap (runRow T L x z) q) D e
+  access-after L m k a r regs′ cells′ log′ q D E e = row-after L (accessTurn L m x) k a r regs′ cells′ log′ (ap (runRow T L x z) q) D E e

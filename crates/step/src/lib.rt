@@ -2,7 +2,7 @@
 ghost use mathlib.Core.Path.{_≡_};
 ghost use Prim.Native.Nat.{_^_, _<_, _≤_};
 ghost use Rattle.layout.specs.Memory.{AccessAsks, InMemory, KeptBut};
-ghost use Rattle.layout.specs.Represents.{Room, accessed};
+ghost use Rattle.layout.specs.Represents.{Room, heldBack, reached, accessed};
 ghost use Rattle.layout.specs.Running.{AccessDone, Ready, Steps};
 
 fn index(x: u8) -> usize
@@ -11,26 +11,49 @@ fn index(x: u8) -> usize
     x as usize
 }
 
+// The state with accesses logged of no cell above h.
+fn reached(s: layout::State, h: u32) -> layout::State
+    requires { ⌜ Room s ⌝ }
+    ensures { λ r. ⌜ Room r × (r ≡ reached s h) ⌝ }
+{
+    layout::State {
+        reach: s.reach | h,
+        row: s.row,
+        mask: s.mask,
+        depth: s.depth,
+        rows: s.rows,
+        steps: s.steps,
+        barriers: s.barriers,
+    }
+}
+
+// The state of a row that has stopped after k steps.
+fn held(s: layout::State, k: u32) -> layout::State
+    requires { ⌜ Room s × (k ≤ 32) ⌝ }
+    ensures { λ r. ⌜ r ≡ heldBack s k ⌝ }
+{
+    layout::State {
+        reach: s.reach,
+        row: s.row,
+        mask: s.mask,
+        depth: s.depth,
+        rows: s.rows,
+        steps: s.steps + k,
+        barriers: s.barriers,
+    }
+}
+
 // The state after a row's accesses: on to the next row, or stopped at this one.
 fn after_access(r: layout::Turns, s: layout::State) -> layout::Next
     requires { ⌜ Room s × (r .steps ≤ 32) ⌝ }
-    ensures { λ q. ⌜ q ≡ accessed s (r .access) (r .steps) ⌝ }
+    ensures { λ q. ⌜ q ≡ accessed (reached s (r .reach)) (r .access) (r .steps) ⌝ }
 {
     let k = r.steps;
     let c = r.access;
+    let z = reached(s, r.reach);
     match c {
-        layout::Access::Done => layout::Next::Go(constructs::moved(s, k)),
-        layout::Access::Stop(v) => layout::Next::Stop(
-            v,
-            layout::State {
-                row: s.row,
-                mask: s.mask,
-                depth: s.depth,
-                rows: s.rows,
-                steps: s.steps + k,
-                barriers: s.barriers,
-            },
-        ),
+        layout::Access::Done => layout::Next::Go(constructs::moved(z, k)),
+        layout::Access::Stop(v) => layout::Next::Stop(v, held(z, k)),
     }
 }
 
@@ -91,5 +114,5 @@ pub fn step(
             s,
         ));
     }
-    constructs::barrier_row(log, n, s)
+    constructs::barrier_row(log, cells.len(), n, s)
 }

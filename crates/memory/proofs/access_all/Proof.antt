@@ -9,6 +9,8 @@ use Rattle.spec.specs.Op.{Mem, MEM, opOf}
 use Rattle.spec.specs.Table.{Row}
 use Rattle.spec.specs.LockStep.{accessTurn}
 use Rattle.layout.specs.Memory.{KeptBut, shapeBy}
+use Rattle.layout.specs.Logging.{SameAbove}
+use Rattle.layout.proofs.Reach.{same-more}
 use Rattle.layout.proofs.Turning.{Turning, Turns, turn-start, turn-whole, go-in, go-stop}
 use Rattle.masks.proofs.Bits.{next-bit, left-odd, left-less, ones-all}
 use Rattle.access.proofs.Accesses.{asks-still, turn-still, keeps-on}
@@ -17,14 +19,14 @@ use Rattle.memory.proofs.access_all.Tie as tie
 
 -- Of the mask of all threads, those from t on are left.
 abbrev Inv-loop : tie.InvT-loop
-Inv-loop regs₀ cells₀ log₀ n op d a t₀ bit₀ regs cells log t bit =
+Inv-loop regs₀ cells₀ log₀ n op d a t₀ bit₀ reach₀ regs cells log t bit reach =
     (t ≤ n) × (length cells ≡ length cells₀) × (length log ≡ length log₀)
     × ((y : Mem) (x : Row) → opOf op ≡ MEM y → x .d ≡ d → x .a ≡ a
     → Turns (accessTurn (shapeBy n cells₀) y x) n (2 ^ n - 1) regs₀ cells₀ log₀ t (2 ^ (n - t) - 1) regs cells log)
-    × (t < 32 → bit ≡ 2 ^ t) × KeptBut d n regs₀ regs
+    × (t < 32 → bit ≡ 2 ^ t) × KeptBut d n regs₀ regs × SameAbove reach (length cells₀) log₀ log
 
 abbrev μ-loop : tie.MeasureT-loop
-μ-loop regs₀ cells₀ log₀ n op d a t₀ bit₀ regs cells log t bit = n - t
+μ-loop regs₀ cells₀ log₀ n op d a t₀ bit₀ reach₀ regs cells log t bit reach = n - t
 
 loop-holds : tie.Need-loop-holds Inv-loop μ-loop
 loop-holds c =
@@ -39,34 +41,41 @@ loop-holds c =
           (ap (λ (k : ℕ). 2 ^ k - 1) (sym whole) ∙ e) l M,
       λ h. refl,
       λ i off. refl,
+      λ j h. refl,
     )
+
+cell-number-requires : tie.Need-cell-number-requires Inv-loop μ-loop
+cell-number-requires c κs =
+    let pre = c .before .before .before .before .before .pre in
+    (omega (arith, c .before .loop-test .taken, pre .1 .memory .few), pre .0 .target, pre .0 .source)
 
 access-one-requires : tie.Need-access-one-requires Inv-loop μ-loop
 access-one-requires c κs =
-    let turn = c .before .before .before .before .loop in
-    let pre = c .before .before .before .before .before .before .before .pre in
-    let some-left = c .before .before .before .loop-test .taken in (
+    let turn = c .before .before .before .before .before .before .loop in
+    let pre = c .before .before .before .before .before .before .before .before .before .pre in
+    let some-left = c .before .before .before .before .before .loop-test .taken in (
       omega (arith, some-left, pre .1 .memory .few),
       asks-still _ _ _ _ _ _ _ (pre .0) (turn .inv .1) (turn .inv .2),
       turn .inv .4 (omega (arith, some-left, pre .1 .memory .few)),
+      c .before .before .before .cell-number .ensures,
     )
 
 same-length : tie.Need-same-length Inv-loop μ-loop
 same-length c =
     let access-one = c .before .before .before .before .before .before .before .access-one in
-    access-one .kept .1 .0 ∙ c .before .before .before .before .before .before .before .before .before .before .before .before .loop .inv .1
+    access-one .kept .1 .0 ∙ c .before .before .before .before .before .before .before .before .before .before .before .before .before .before .loop .inv .1
 
 same-length-2 : tie.Need-same-length-2 Inv-loop μ-loop
 same-length-2 c =
     let access-one = c .before .before .before .before .before .before .before .access-one in
-    access-one .kept .1 .1 .0 ∙ c .before .before .before .before .before .before .before .before .before .before .before .before .loop .inv .2
+    access-one .kept .1 .1 .0 ∙ c .before .before .before .before .before .before .before .before .before .before .before .before .before .before .loop .inv .2
 
 returns : tie.Need-returns Inv-loop μ-loop
 returns c =
     let access-one = c .before .before .before .before .before .before .before .access-one in
-    let some-left = c .before .before .before .before .before .before .before .before .before .before .before .loop-test .taken in
-    let turn = c .before .before .before .before .before .before .before .before .before .before .before .before .loop in
-    let start = c .before .before .before .before .before .before .before .before .before .before .before .before .before .before .before in
+    let some-left = c .before .before .before .before .before .before .before .before .before .before .before .before .before .loop-test .taken in
+    let turn = c .before .before .before .before .before .before .before .before .before .before .before .before .before .before .loop in
+    let start = c .before .before .before .before .before .before .before .before .before .before .before .before .before .before .before .before .before in
     let args = start .args in
     let memory = args .cells .now in
     let gone : turn .t + ones (2 ^ (args .n - turn .t) - 1) ≡ ones (2 ^ args .n - 1) = omega (arith, some-left, ones-all (args .n), ones-all (args .n - turn .t)) in (
@@ -77,22 +86,24 @@ returns c =
           (access-one .last .1 .1 .0) e gone some-left (left-odd (args .n) (turn .t) some-left)
           (turn-still (args .n) (turn .t) y x memory _ _ _ _ _ _ _ (turn .inv .1) (access-one .ensures .0 (args .n) y x o some-left ed ea)) (c .before .v .given .1),
       keeps-on (args .d) (args .n) (turn .t) (args .regs .now) (turn .regs) (access-one .last .0) some-left (turn .inv .5) (access-one .ensures .1),
+      same-more (turn .reach) _ (length memory) (length (turn .cells)) (args .log .now) (turn .log) (access-one .last .1 .1 .0) (turn .inv .6) (turn .inv .1)
+          (access-one .ensures .2),
     )
 
 next-thread : tie.Need-add-t Inv-loop μ-loop
 next-thread c =
-    let at-test = c .before .before .before .before .before .before .before .before .before .before in
+    let at-test = c .before .before .before .before .before .before .before .before .before .before .before .before in
     omega (arith, at-test .loop-test .taken, at-test .before .before .before .before .pre .1 .memory .few)
 
 loop-less : tie.Need-loop-less Inv-loop μ-loop
-loop-less c = omega (arith, c .before .before .before .before .before .before .before .before .before .before .loop-test .taken)
+loop-less c = omega (arith, c .before .before .before .before .before .before .before .before .before .before .before .before .loop-test .taken)
 
 loop-again : tie.Need-loop-again Inv-loop μ-loop
 loop-again c =
     let access-one = c .before .before .before .before .before .before .access-one in
-    let some-left = c .before .before .before .before .before .before .before .before .before .before .loop-test .taken in
-    let turn = c .before .before .before .before .before .before .before .before .before .before .before .loop in
-    let args = c .before .before .before .before .before .before .before .before .before .before .before .before .before .before .args in
+    let some-left = c .before .before .before .before .before .before .before .before .before .before .before .before .loop-test .taken in
+    let turn = c .before .before .before .before .before .before .before .before .before .before .before .before .before .loop in
+    let args = c .before .before .before .before .before .before .before .before .before .before .before .before .before .before .before .before .args in
     let memory = args .cells .now in (
       omega (arith, some-left),
       access-one .kept .1 .0 ∙ turn .inv .1,
@@ -106,6 +117,8 @@ loop-again c =
           (turn-still (args .n) (turn .t) y x memory _ _ _ _ _ _ _ (turn .inv .1) (access-one .ensures .0 (args .n) y x o some-left ed ea)) (c .enum-told .given .1) refl refl refl),
       next-bit (turn .t) (turn .bit) (turn .inv .4),
       keeps-on (args .d) (args .n) (turn .t) (args .regs .now) (turn .regs) (access-one .last .0) some-left (turn .inv .5) (access-one .ensures .1),
+      same-more (turn .reach) _ (length memory) (length (turn .cells)) (args .log .now) (turn .log) (access-one .last .1 .1 .0) (turn .inv .6) (turn .inv .1)
+          (access-one .ensures .2),
     )
 
 same-length-3 : tie.Need-same-length-3 Inv-loop μ-loop
@@ -126,6 +139,7 @@ returns-2 c =
           turn-whole (accessTurn (shapeBy (args .n) memory) y x) (args .n) s (turn .t) (2 ^ (args .n - turn .t) - 1) (turn .regs) (turn .cells) (turn .log)
           (turn .inv .3 y x o ed ea s e q M) (2 ^ args .n - 1) (args .n) e (sym (ones-all (args .n))) none-left,
       turn .inv .5,
+      turn .inv .6,
     )
 
 pub access-all-spec : {M : Type 1} → statement M
@@ -135,6 +149,7 @@ access-all-spec =
     Inv-loop
     μ-loop
     loop-holds
+    cell-number-requires
     access-one-requires
     (λ c. search needs) (λ c. search needs)
     same-length

@@ -1,6 +1,6 @@
 -- `memory::access_enabled` does the turns of the enabled threads, one after the other. Assumes nothing.
 use borrow.Author.Needs.{needs}
-use mathlib.Core.Path.{_≡_, refl, sym, ap, _∙_, subst}
+use mathlib.Core.Path.{_≡_, refl, sym, ap, _∙_, subst, subst₂}
 use mathlib.Core.Logic.{⊎-elim}
 use Prim.Native.Nat.{ℕ, _+_, _-_, _^_, _≤_, _<_}
 use native.Mathlib.Nat.{le-refl, le-trans}
@@ -11,6 +11,8 @@ use Rattle.spec.specs.Op.{Mem, MEM, opOf}
 use Rattle.spec.specs.Table.{Row}
 use Rattle.spec.specs.LockStep.{accessTurn}
 use Rattle.layout.specs.Memory.{KeptBut, shapeBy}
+use Rattle.layout.specs.Logging.{SameAbove}
+use Rattle.layout.proofs.Reach.{same-more}
 use Rattle.layout.proofs.Turning.{Turns, turn-start, turn-whole, go-in, go-out, go-stop}
 use Rattle.masks.proofs.Bits.{next-bit, left-some, left-half, ones-half}
 use Rattle.access.proofs.Accesses.{asks-still, turn-still, keeps-on}
@@ -19,14 +21,14 @@ use Rattle.memory.proofs.access_enabled.Tie as tie
 
 -- m is what is left of the mask when the threads below t are gone.
 abbrev Inv-loop : tie.InvT-loop
-Inv-loop regs₀ cells₀ log₀ n mask op d a m₀ t₀ bit₀ regs cells log m t bit =
+Inv-loop regs₀ cells₀ log₀ n mask op d a m₀ t₀ bit₀ reach₀ regs cells log m t bit reach =
     (t ≤ n) × (m < 2 ^ (n - t)) × (ones m ≤ ones mask) × (length cells ≡ length cells₀) × (length log ≡ length log₀)
     × ((y : Mem) (x : Row) → opOf op ≡ MEM y → x .d ≡ d → x .a ≡ a
     → Turns (accessTurn (shapeBy n cells₀) y x) n mask regs₀ cells₀ log₀ t m regs cells log)
-    × (t < 32 → bit ≡ 2 ^ t) × KeptBut d n regs₀ regs
+    × (t < 32 → bit ≡ 2 ^ t) × KeptBut d n regs₀ regs × SameAbove reach (length cells₀) log₀ log
 
 abbrev μ-loop : tie.MeasureT-loop
-μ-loop regs₀ cells₀ log₀ n mask op d a m₀ t₀ bit₀ regs cells log m t bit = m
+μ-loop regs₀ cells₀ log₀ n mask op d a m₀ t₀ bit₀ reach₀ regs cells log m t bit reach = m
 
 loop-holds : tie.Need-loop-holds Inv-loop μ-loop
 loop-holds c =
@@ -42,34 +44,44 @@ loop-holds c =
           turn-start (accessTurn (shapeBy (args .n) memory) y x) (args .n) s (args .mask) (args .regs .now) memory (args .log .now) e l M,
       λ h. refl,
       λ i off. refl,
+      λ j h. refl,
     )
+
+cell-number-requires : tie.Need-cell-number-requires Inv-loop μ-loop
+cell-number-requires c κs =
+    let turn = c .before .before .before .loop in
+    let start = c .before .before .before .before .before .before in
+    let pre = start .pre .1 in
+    let some-left = left-some (start .args .n) (turn .t) (turn .m) (turn .inv .1) (c .before .before .loop-test .taken) in
+    (omega (arith, some-left, pre .1 .memory .few), pre .0 .target, pre .0 .source)
 
 access-one-requires : tie.Need-access-one-requires Inv-loop μ-loop
 access-one-requires c κs =
-    let turn = c .before .before .before .before .before .loop in
-    let start = c .before .before .before .before .before .before .before .before in
+    let turn = c .before .before .before .before .before .before .before .loop in
+    let start = c .before .before .before .before .before .before .before .before .before .before in
     let pre = start .pre .1 in
-    let some-left = left-some (start .args .n) (turn .t) (turn .m) (turn .inv .1) (c .before .before .before .before .loop-test .taken) in (
+    let some-left = left-some (start .args .n) (turn .t) (turn .m) (turn .inv .1) (c .before .before .before .before .before .before .loop-test .taken) in (
       omega (arith, some-left, pre .1 .memory .few),
       asks-still _ _ _ _ _ _ _ (pre .0) (turn .inv .3) (turn .inv .4),
       turn .inv .6 (omega (arith, some-left, pre .1 .memory .few)),
+      c .before .before .before .cell-number .ensures,
     )
 
-sub-steps : tie.Need-sub-t24 Inv-loop μ-loop
+sub-steps : tie.Need-sub-t27 Inv-loop μ-loop
 sub-steps c =
-    let turn = c .before .before .before .before .before .before .before .before .before .before .before .before .before .before .before .loop in
+    let turn = c .before .before .before .before .before .before .before .before .before .before .before .before .before .before .before .before .before .loop in
     omega (arith, c .count2 .ensures .0, c .before .count .ensures .0, turn .inv .2)
 
 same-length : tie.Need-same-length Inv-loop μ-loop
 same-length c =
     let access-one = c .before .before .before .before .before .before .before .before .before .access-one in
-    let turn = c .before .before .before .before .before .before .before .before .before .before .before .before .before .before .before .loop in
+    let turn = c .before .before .before .before .before .before .before .before .before .before .before .before .before .before .before .before .before .loop in
     access-one .kept .1 .0 ∙ turn .inv .3
 
 same-length-2 : tie.Need-same-length-2 Inv-loop μ-loop
 same-length-2 c =
     let access-one = c .before .before .before .before .before .before .before .before .before .access-one in
-    let turn = c .before .before .before .before .before .before .before .before .before .before .before .before .before .before .before .loop in
+    let turn = c .before .before .before .before .before .before .before .before .before .before .before .before .before .before .before .before .before .loop in
     access-one .kept .1 .1 .0 ∙ turn .inv .4
 
 returns : tie.Need-returns Inv-loop μ-loop
@@ -77,8 +89,8 @@ returns c =
     let gone = c .count2 .ensures .0 in
     let all = c .before .count .ensures in
     let access-one = c .before .before .before .before .before .before .before .before .before .access-one in
-    let enabled = c .before .before .before .before .before .before .before .before .before .before .before .before .before .if1 .taken in
-    let at-test = c .before .before .before .before .before .before .before .before .before .before .before .before .before .before in
+    let enabled = c .before .before .before .before .before .before .before .before .before .before .before .before .before .before .before .if1 .taken in
+    let at-test = c .before .before .before .before .before .before .before .before .before .before .before .before .before .before .before .before in
     let turn = at-test .before .loop in
     let start = at-test .before .before .before .before in
     let args = start .args in
@@ -91,6 +103,8 @@ returns c =
           (access-one .last .1 .1 .0) e (omega (arith, gone, all .0, turn .inv .2)) some-left enabled
           (turn-still (args .n) (turn .t) y x memory _ _ _ _ _ _ _ (turn .inv .3) (access-one .ensures .0 (args .n) y x o some-left ed ea)) (c .before .before .before .v .given .1),
       keeps-on (args .d) (args .n) (turn .t) (args .regs .now) (turn .regs) (access-one .last .0) some-left (turn .inv .7) (access-one .ensures .1),
+      same-more (turn .reach) _ (length memory) (length (turn .cells)) (args .log .now) (turn .log) (access-one .last .1 .1 .0) (turn .inv .8) (turn .inv .3)
+          (access-one .ensures .2),
     )
 
 next-thread : tie.Need-add-t Inv-loop μ-loop
@@ -116,16 +130,19 @@ loop-again c =
       omega (arith, some-left),
       fewer,
       ones-left,
-      ap length (w .12) ∙ w .4 .kept .1 .0 ∙ turn .inv .3,
-      ap length (w .13) ∙ w .4 .kept .1 .1 .0 ∙ turn .inv .4,
+      ap length (w .14) ∙ w .6 .kept .1 .0 ∙ turn .inv .3,
+      ap length (w .15) ∙ w .6 .kept .1 .1 .0 ∙ turn .inv .4,
       λ y x o ed ea s e q M.
           go-in (accessTurn (shapeBy (args .n) memory) y x) (args .n) s (turn .t) (turn .m) (turn .regs) (turn .cells) (turn .log)
-          (turn .inv .5 y x o ed ea s e q M) (w .4 .result) (w .4 .last .0) (w .4 .last .1 .0) (w .4 .last .1 .1 .0) _ _ _ some-left (w .0 .taken)
-          (turn-still (args .n) (turn .t) y x memory _ _ _ _ _ _ _ (turn .inv .3) (w .4 .ensures .0 (args .n) y x o some-left ed ea))
-          (w .10 .given .1) (w .11) (w .12) (w .13),
+          (turn .inv .5 y x o ed ea s e q M) (w .6 .result) (w .6 .last .0) (w .6 .last .1 .0) (w .6 .last .1 .1 .0) _ _ _ some-left (w .0 .taken)
+          (turn-still (args .n) (turn .t) y x memory _ _ _ _ _ _ _ (turn .inv .3) (w .6 .ensures .0 (args .n) y x o some-left ed ea))
+          (w .12 .given .1) (w .13) (w .14) (w .15),
       next-bit (turn .t) (turn .bit) (turn .inv .6),
       keeps-on (args .d) (args .n) (turn .t) (args .regs .now) (turn .regs) (c .if1 .regs) some-left (turn .inv .7)
-          (subst (KeptBut (args .d) (turn .t + 1) (turn .regs)) (sym (w .11)) (w .4 .ensures .1)),
+          (subst (KeptBut (args .d) (turn .t + 1) (turn .regs)) (sym (w .13)) (w .6 .ensures .1)),
+      subst₂ (λ h l. SameAbove h (length memory) (args .log .now) l) (sym (w .16)) (sym (w .15))
+          (same-more (turn .reach) _ (length memory) (length (turn .cells)) (args .log .now) (turn .log) (w .6 .last .1 .1 .0) (turn .inv .8) (turn .inv .3)
+          (w .6 .ensures .2)),
     ))
     (λ w. (
       omega (arith, some-left),
@@ -138,6 +155,7 @@ loop-again c =
           (turn .inv .5 y x o ed ea s e q M) _ _ _ some-left (w .0 .left) (w .1) (w .2) (w .3),
       next-bit (turn .t) (turn .bit) (turn .inv .6),
       subst (KeptBut (args .d) (args .n) (args .regs .now)) (sym (w .1)) (turn .inv .7),
+      subst₂ (λ h l. SameAbove h (length memory) (args .log .now) l) (sym (w .4)) (sym (w .3)) (turn .inv .8),
     ))
     (c .if1 .came)
 
@@ -157,6 +175,7 @@ returns-2 c =
           turn-whole (accessTurn (shapeBy (args .n) memory) y x) (args .n) s (turn .t) (turn .m) (turn .regs) (turn .cells) (turn .log)
           (turn .inv .5 y x o ed ea s e q M) (args .mask) (c .count3 .result) e (c .count3 .ensures .0) (c .before .loop-test .left),
       turn .inv .7,
+      turn .inv .8,
     )
 
 pub access-enabled-spec : {M : Type 1} → statement M
@@ -166,6 +185,7 @@ access-enabled-spec =
     Inv-loop
     μ-loop
     loop-holds
+    cell-number-requires
     access-one-requires
     (λ c. search needs) (λ c. search needs) (λ c κs. search needs) (λ c κs. search needs)
     sub-steps
