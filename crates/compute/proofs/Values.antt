@@ -7,8 +7,8 @@ use native.Mathlib.Decide.{ℕ-discrete}
 use lib.ListN.{replicate, getD-replicate}
 use Rattle.spec.specs.Op.{Calc, SET, TID, COUNT, CALC, value, opTable, opOf}
 use Rattle.layout.specs.Memory.{lane}
-use Rattle.lanes.specs.Lanes.{Filled, OpLanes}
-use Rattle.lanes.proofs.Ops.{same-op}
+use Rattle.lanes.specs.Lanes.{Filled, zip}
+use Rattle.lanes.proofs.Ops.{OpIs, same-op}
 use Rattle.compute.specs.RowLanes.{RowLanes}
 
 module _ {op n a b : ℕ} {regs : List ℕ} where
@@ -27,8 +27,13 @@ module _ {op n a b : ℕ} {regs : List ℕ} where
   unfolding opOf opTable value
   by-count e = record { at = λ c o t h. getD-replicate 32 t n 0 h ∙ ap (λ z. value z n t a b (lane a regs t) (lane b regs t)) (same-op op 3 c COUNT e refl o) }
 
-  pub by-registers : {x y v : List ℕ} → OpLanes op x y v → Filled (lane a regs) x 32 → Filled (lane b regs) y 32 → RowLanes op n a b regs v
-  by-registers O X Y = record { at = λ c o t h. O .at c o n a b t h ∙ ap₂ (value c n t a b) (X .below t h) (Y .below t h) }
+  pub by-registers : {k : ℕ} {x y v : List ℕ} {d : Calc} {f : ℕ → ℕ → ℕ} → op ≡ k → OpIs k d f → Filled (lane a regs) x 32 → Filled (lane b regs) y 32
+      → Filled (zip f x y) v 32 → RowLanes op n a b regs v
+  by-registers {k} {x} {y} {v} {d} {f} e I X Y L =
+      record {
+        at = λ c o t h. L .below t h ∙ ap₂ f (X .below t h) (Y .below t h)
+            ∙ ap (λ g. g n t a b (lane a regs t) (lane b regs t)) (sym (I .gives) ∙ ap value (same-op op k c d e (I .op-is) o));
+      }
 
 -- An op reads its registers, or its value is the same whatever they hold.
 pub value-read : (op : ℕ) (c : Calc) → opOf op ≡ CALC c → 1 ≤ op → (n t a b p q p′ q′ : ℕ) → (4 ≤ op → p ≡ p′) → (4 ≤ op → q ≡ q′)

@@ -1,6 +1,7 @@
 // A computing row: its values in all 32 lanes, then a store under the mask.
 ghost use mathlib.Core.Path.{_≡_};
 ghost use Prim.Native.Nat.{_/_, _%_, _^_, _<_, _≤_};
+ghost use lib.Count.{ones};
 ghost use lib.ListN.{length, getD};
 ghost use Rattle.layout.specs.Memory.{ComputeAsks, lane, Puts, Computed};
 ghost use Rattle.lanes.specs.Lanes.{Filled};
@@ -72,33 +73,49 @@ fn put_all(regs: &mut [u32; 512], d: usize, v: [u32; 32])
     }
 }
 
-// SET, TID and COUNT read no register.
+// SET, TID and COUNT read no register. The others read theirs each in its own arm: read before the ops are told apart, both registers would have
+// to be held in as many machine registers as there are.
 fn value_lanes(regs: &[u32; 512], n: u32, op: u8, a: usize, b: usize) -> [u32; 32]
     requires { ⌜ (a < 256) × (b < 256) × ComputeAsks op 0 a b ⌝ }
     ensures { λ v. ⌜ RowLanes op n a b (now (regs .entry)) v ⌝ }
 {
-    if op < 4 {
-        if op == 1 {
-            return [(a + 256 * b) as u32; 32];
-        }
-        if op == 2 {
-            return threads();
-        }
-        return [n; 32];
+    match op {
+        1 => [(a + 256 * b) as u32; 32],
+        2 => threads(),
+        3 => [n; 32],
+        4 => lanes::add_lanes(lanes_of(regs, a), lanes_of(regs, b)),
+        5 => lanes::sub_lanes(lanes_of(regs, a), lanes_of(regs, b)),
+        6 => lanes::mul_lanes(lanes_of(regs, a), lanes_of(regs, b)),
+        7 => lanes::and_lanes(lanes_of(regs, a), lanes_of(regs, b)),
+        8 => lanes::or_lanes(lanes_of(regs, a), lanes_of(regs, b)),
+        9 => lanes::xor_lanes(lanes_of(regs, a), lanes_of(regs, b)),
+        10 => lanes::shr_lanes(lanes_of(regs, a), lanes_of(regs, b)),
+        11 => lanes::sar_lanes(lanes_of(regs, a), lanes_of(regs, b)),
+        12 => lanes::eq_lanes(lanes_of(regs, a), lanes_of(regs, b)),
+        13 => lanes::lt_lanes(lanes_of(regs, a), lanes_of(regs, b)),
+        _ => lanes::slt_lanes(lanes_of(regs, a), lanes_of(regs, b)),
     }
-    lanes::alu_lanes(op, lanes_of(regs, a), lanes_of(regs, b))
 }
 
-// Where all n threads are enabled the lanes behind the last one are stored to as well.
-pub fn compute_row(regs: &mut [u32; 512], n: u32, mask: u32, op: u8, d: usize, a: usize, b: usize)
+// Answers how many threads step: all of them, or the ones of the mask. Where all n are enabled the lanes behind the last one are stored to as well.
+pub fn compute_row(
+    regs: &mut [u32; 512],
+    n: u32,
+    mask: u32,
+    op: u8,
+    d: usize,
+    a: usize,
+    b: usize,
+) -> u32
     requires { ⌜ (n ≤ 32) × (a < 256) × (b < 256) × ComputeAsks op d a b × (length (now regs) ≡ 512) ⌝ }
-    ensures { λ _. ⌜ Computed op n mask d a b (now (regs .entry)) (now (regs .exit)) ⌝ }
+    ensures { λ k. ⌜ (k ≡ ones mask) × (k ≤ 32) × Computed op n mask d a b (now (regs .entry)) (now (regs .exit)) ⌝ }
 {
     let v = value_lanes(regs, n, op, a, b);
     let all = masks::all(n);
     if mask == all {
         put_all(regs, d, v);
-    } else {
-        put(regs, d, v, bits_of(mask));
+        return n;
     }
+    put(regs, d, v, bits_of(mask));
+    masks::count(mask)
 }

@@ -1,13 +1,10 @@
 -- The lanes of each op hold the op's values. Assumes nothing.
-use mathlib.Core.Path.{_≡_, refl, sym, _∙_, ap}
-use mathlib.Core.List.{List}
+use mathlib.Core.Path.{_≡_, refl}
 use Prim.Native.Nat.{ℕ, _+_, _≤_}
 use native.Mathlib.Omega.{arith}
 use lib.Bits.{bitAnd, bitOr, bitXor}
-use lib.ListN.{getD}
 use Rattle.spec.specs.Word.{add, sub, mul, shr, sar, equal, less, signedLess}
 use Rattle.spec.specs.Op.{Calc, ADD, SUB, MUL, AND, OR, XOR, SHR, SAR, EQ, LT, SLT, CALC, value, opTable, opOf}
-use Rattle.lanes.specs.Lanes.{Filled, zip, OpLanes}
 
 -- Op number k is d, which gives f of its two registers.
 pub record OpIs (k : ℕ) (d : Calc) (f : ℕ → ℕ → ℕ) : Type 0 where
@@ -38,18 +35,15 @@ ops-are = (
 pub same-op : (op k : ℕ) (c d : Calc) → op ≡ k → opOf k ≡ CALC d → opOf op ≡ CALC c → d ≡ c
 same-op op k c d e p q = cc
 
-pub by-op : {op k : ℕ} {p q v : List ℕ} {d : Calc} {f : ℕ → ℕ → ℕ} → op ≡ k → OpIs k d f → Filled (zip f p q) v 32 → OpLanes op p q v
-by-op {op} {k} {p} {q} {v} {d} {f} e I L =
-    record {
-      at = λ c o n a b t h. L .below t h ∙ ap (λ g. g n t a b (getD p t 0) (getD q t 0)) (sym (I .gives) ∙ ap value (same-op op k c d e (I .op-is) o));
-    }
-
--- The last arm.
+-- The last arm of ops 1 to 14.
 past-five : (k op : ℕ) → k ≤ op → (op ≡ k → ⊥) → (op ≡ k + 1 → ⊥) → (op ≡ k + 2 → ⊥) → (op ≡ k + 3 → ⊥) → (op ≡ k + 4 → ⊥) → k + 5 ≤ op
 past-five k op h n₀ n₁ n₂ n₃ n₄ = omega arith
 
-pub last-op : (op : ℕ) → 4 ≤ op → op ≤ 14 → (op ≡ 4 → ⊥) → (op ≡ 5 → ⊥) → (op ≡ 6 → ⊥) → (op ≡ 7 → ⊥) → (op ≡ 8 → ⊥)
+pub past-three : (op : ℕ) → 1 ≤ op → (op ≡ 1 → ⊥) → (op ≡ 2 → ⊥) → (op ≡ 3 → ⊥) → 4 ≤ op
+past-three op h n₁ n₂ n₃ = omega arith
+
+pub last-op : (op : ℕ) → 1 ≤ op → op ≤ 14 → (op ≡ 1 → ⊥) → (op ≡ 2 → ⊥) → (op ≡ 3 → ⊥) → (op ≡ 4 → ⊥) → (op ≡ 5 → ⊥) → (op ≡ 6 → ⊥) → (op ≡ 7 → ⊥) → (op ≡ 8 → ⊥)
     → (op ≡ 9 → ⊥) → (op ≡ 10 → ⊥) → (op ≡ 11 → ⊥) → (op ≡ 12 → ⊥) → (op ≡ 13 → ⊥) → op ≡ 14
-last-op op h l n₄ n₅ n₆ n₇ n₈ n₉ n₁₀ n₁₁ n₁₂ n₁₃ =
-    let k : 14 ≤ op = past-five 9 op (past-five 4 op h n₄ n₅ n₆ n₇ n₈) n₉ n₁₀ n₁₁ n₁₂ n₁₃ in
+last-op op h l n₁ n₂ n₃ n₄ n₅ n₆ n₇ n₈ n₉ n₁₀ n₁₁ n₁₂ n₁₃ =
+    let k : 14 ≤ op = past-five 9 op (past-five 4 op (past-three op h n₁ n₂ n₃) n₄ n₅ n₆ n₇ n₈) n₉ n₁₀ n₁₁ n₁₂ n₁₃ in
     omega (arith, l, k)

@@ -3,7 +3,6 @@ use mathlib.Core.Path.{_≡_}
 use mathlib.Core.List.{List}
 use Prim.Native.Nat.{ℕ, _<_, _≤_}
 use lib.ListN.{length, getD}
-use Rattle.spec.specs.Op.{Calc, CALC, value, opOf}
 
 -- The first t of 32 lanes hold F.
 pub record Filled (F : ℕ → ℕ) (v : List ℕ) (t : ℕ) : Type 0 where
@@ -14,7 +13,3 @@ pub record Filled (F : ℕ → ℕ) (v : List ℕ) (t : ℕ) : Type 0 where
 -- f over two rows of lanes.
 abbrev pub zip : (ℕ → ℕ → ℕ) → (p q : List ℕ) → ℕ → ℕ
 zip f p q t = f (getD p t 0) (getD q t 0)
-
--- The lanes of an op that reads two registers.
-pub record OpLanes (op : ℕ) (p q v : List ℕ) : Type 0 where
-  pub at : (c : Calc) → opOf op ≡ CALC c → (n a b t : ℕ) → t < 32 → getD v t 0 ≡ value c n t a b (getD p t 0) (getD q t 0)

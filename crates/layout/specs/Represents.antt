@@ -69,7 +69,7 @@ abbrev pub heldBack : State → ℕ → State
 heldBack s k =
     record { reach = s .reach; row = s .row; mask = s .mask; depth = s .depth; rows = s .rows; steps = s .steps + k; barriers = s .barriers }
 
--- With accesses logged of no cell above h: no number's bits go beyond those that it has been put together with.
+-- After accesses of cells that are not above h. Neither of two numbers is above what they are put together to bit by bit.
 abbrev pub reached : State → ℕ → State
 reached s h =
     record {

@@ -16,16 +16,16 @@ pub struct Turns {
     pub reach: u32,
 }
 
-// The small part of the state, which goes by value. Above the cell numbered `reach` nothing has been logged since the log was cleared. (It does
-// not stand beside the counts: four words side by side are moved as one vector, and a row takes half as long again.)
+// The small part of the state, which goes by value. Above the cell numbered `reach` nothing has been logged since the log was cleared.
+// The order of the words is the fastest of many that were tried: where four small ones stand side by side, a row takes half as long again.
 pub struct State {
-    pub reach: u32,
-    pub row: usize,
-    pub mask: u32,
-    pub depth: usize,
     pub rows: u32,
-    pub steps: u32,
+    pub row: usize,
+    pub reach: u32,
+    pub depth: usize,
+    pub mask: u32,
     pub barriers: u32,
+    pub steps: u32,
 }
 
 // What a row comes to.

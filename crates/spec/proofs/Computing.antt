@@ -10,7 +10,8 @@ use Rattle.spec.specs.TableCheck.{opener, isKnown, elseFits, endifFits, 
 use Rattle.spec.specs.TableCheck.{rowsRefusal, tableRefusal}
 use Rattle.spec.specs.Mask.{maskWord, has, membersFrom, members, any, full, minus, union, lowest, nonzero, holding}
 use Rattle.spec.specs.Shape.{shapeOf, total, bound, address}
-use Rattle.spec.specs.Log.{masksOf, logWords, emptyLog, nobody, cleared, withThread, logged, conflicting, testedMask, conflictMask, raceKind}
+use Rattle.spec.specs.Log.{masksOf, logWords, emptyLog, nobody, cleared, clearedWhere, cellCleared, cellsCleared}
+use Rattle.spec.specs.Log.{withThread, logged, conflicting, testedMask, conflictMask, raceKind}
 use Rattle.spec.specs.LockStep as lockStep
 use Rattle.spec.specs.LockStep.{initialState, andThen, inTurn, advance, update, setReg, computeTurn, madeAccess, tryAccess, accessTurn}
 use Rattle.spec.specs.LockStep.{forEnabled, countSteps, topMask, topOpener, pop, ifRow, elseRow, endifRow, savedAtWhile, leaveOrStay, whileRow}
@@ -45,7 +46,7 @@ unfolding refusalNumber refusalPlace named told toldBy toldIn unless orElse firs
     opener isKnown elseFits endifFits endwhileFits fits shallow divided openAfter rowRefusal leftOpen rowsRefusal tableRefusal
     maskWord has membersFrom members any full minus union lowest nonzero holding
     shapeOf total bound address
-    masksOf logWords emptyLog nobody cleared withThread logged conflicting testedMask conflictMask raceKind
+    masksOf logWords emptyLog nobody cleared clearedWhere cellCleared cellsCleared withThread logged conflicting testedMask conflictMask raceKind
     lockStep.reg initialState andThen inTurn advance update setReg computeTurn madeAccess tryAccess accessTurn forEnabled countSteps
     topMask topOpener pop ifRow elseRow endifRow savedAtWhile leaveOrStay whileRow endwhileRow passBarrier barrierRow runRow resultOf
     runFrom lockstep outcomeOf countedAt countedAfter countedFrom countedBarriers

@@ -8,7 +8,7 @@ use Rattle.spec.specs.Table.{rowOf, cellByte, kindOf}
 use Rattle.spec.specs.Shape.{shapeOf, total, bound, address}
 use Rattle.spec.specs.Access.{Kind, load, store, atomicAdd, reads, writes, adds, mode, agree, cellAfter, registersAfter}
 use Rattle.spec.specs.Mask.{Mask, maskWord}
-use Rattle.spec.specs.Log.{Log, masksOf, logWords, emptyLog, nobody, cleared, logged, conflicting, testedMask, conflictMask, raceKind}
+use Rattle.spec.specs.Log.{Log, masksOf, logWords, emptyLog, nobody, cleared, cellCleared, cellsCleared, logged, conflicting, testedMask, conflictMask, raceKind}
 use Rattle.spec.specs.LockStep.{Step, continues, stops, initialState, update, tryAccess}
 use Rattle.spec.proofs.Computing.{computing}
 
@@ -76,6 +76,35 @@ pub log-words : logWords (emptyLog 3 2) ∷ logWords (logged (emptyLog 3 2) 0 1 
     (0 ∷ 0 ∷ 0 ∷ 0 ∷ 0 ∷ 0 ∷ []) ∷ (2 ∷ 0 ∷ 0 ∷ 0 ∷ 0 ∷ 0 ∷ []) ∷ (0 ∷ 5 ∷ 2 ∷ 4 ∷ 0 ∷ 0 ∷ []) ∷ (0 ∷ 0 ∷ 0 ∷ 0 ∷ 0 ∷ 0 ∷ []) ∷ []
 unfolding computing someLog
 log-words = refl
+
+-- The walk over three cells with readers 1, 2, 3, writers 4, 5, 6 and adders 7, 8, 9: after none, one, two and three turns, and after more than that.
+pub walked : map (λ n. cellsCleared 3 n (1 ∷ 2 ∷ 3 ∷ 4 ∷ 5 ∷ 6 ∷ 7 ∷ 8 ∷ 9 ∷ [])) (0 ∷ 1 ∷ 2 ∷ 3 ∷ 4 ∷ 1000 ∷ []) ≡
+    (1 ∷ 2 ∷ 3 ∷ 4 ∷ 5 ∷ 6 ∷ 7 ∷ 8 ∷ 9 ∷ [])
+    ∷ (0 ∷ 2 ∷ 3 ∷ 0 ∷ 5 ∷ 6 ∷ 0 ∷ 8 ∷ 9 ∷ [])
+    ∷ (0 ∷ 0 ∷ 3 ∷ 0 ∷ 0 ∷ 6 ∷ 0 ∷ 0 ∷ 9 ∷ [])
+    ∷ (0 ∷ 0 ∷ 0 ∷ 0 ∷ 0 ∷ 0 ∷ 0 ∷ 0 ∷ 0 ∷ [])
+    ∷ (0 ∷ 0 ∷ 0 ∷ 0 ∷ 0 ∷ 0 ∷ 0 ∷ 0 ∷ 0 ∷ [])
+    ∷ (0 ∷ 0 ∷ 0 ∷ 0 ∷ 0 ∷ 0 ∷ 0 ∷ 0 ∷ 0 ∷ [])
+    ∷ []
+unfolding computing
+walked = refl
+
+-- Its turns at cells 0, 1 and 2 alone; there is no cell 3.
+pub turned : map (λ c. cellCleared 3 c (1 ∷ 2 ∷ 3 ∷ 4 ∷ 5 ∷ 6 ∷ 7 ∷ 8 ∷ 9 ∷ [])) (0 ∷ 1 ∷ 2 ∷ 3 ∷ []) ≡
+    (0 ∷ 2 ∷ 3 ∷ 0 ∷ 5 ∷ 6 ∷ 0 ∷ 8 ∷ 9 ∷ [])
+    ∷ (1 ∷ 0 ∷ 3 ∷ 4 ∷ 0 ∷ 6 ∷ 7 ∷ 0 ∷ 9 ∷ [])
+    ∷ (1 ∷ 2 ∷ 0 ∷ 4 ∷ 5 ∷ 0 ∷ 7 ∷ 8 ∷ 0 ∷ [])
+    ∷ (1 ∷ 2 ∷ 3 ∷ 4 ∷ 5 ∷ 6 ∷ 7 ∷ 8 ∷ 9 ∷ [])
+    ∷ []
+unfolding computing
+turned = refl
+
+-- One cell; two cells whose log was written; and no cell at all.
+pub walked-few : cellsCleared 1 0 (7 ∷ 7 ∷ 7 ∷ []) ∷ cellsCleared 1 1 (7 ∷ 7 ∷ 7 ∷ []) ∷ cellsCleared 2 1 (logWords someLog) ∷ cellsCleared 2 2 (logWords someLog)
+    ∷ logWords (cleared someLog) ∷ cellsCleared 0 1 [] ∷ [] ≡
+    (7 ∷ 7 ∷ 7 ∷ []) ∷ (0 ∷ 0 ∷ 0 ∷ []) ∷ (0 ∷ 5 ∷ 0 ∷ 4 ∷ 0 ∷ 0 ∷ []) ∷ (0 ∷ 0 ∷ 0 ∷ 0 ∷ 0 ∷ 0 ∷ []) ∷ (0 ∷ 0 ∷ 0 ∷ 0 ∷ 0 ∷ 0 ∷ []) ∷ [] ∷ []
+unfolding computing someLog
+walked-few = refl
 
 -- An add enters the adder mask of its cell and no other; every thread that added is kept.
 pub adds-logged :

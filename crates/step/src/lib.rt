@@ -97,8 +97,8 @@ pub fn step(
     let a = index(table[row * 4 + 2]);
     let b = index(table[row * 4 + 3]);
     if op < 16 {
-        compute::compute_row(regs, n, s.mask, op, d, a, b);
-        return layout::Next::Go(constructs::moved(s, masks::count(s.mask)));
+        let k = compute::compute_row(regs, n, s.mask, op, d, a, b);
+        return layout::Next::Go(constructs::moved(s, k));
     }
     if op < 32 {
         return access_row(regs, cells, log, n, op, d, a, s);

@@ -13,6 +13,10 @@ const ONE: u8 = 1;
 const ODD: u8 = 2;
 /// Always 0.
 const ZERO: u8 = 15;
+/// The number of a cell.
+const CELL: u8 = 11;
+/// A constant that cells' numbers are counted by.
+const STEP: u8 = 12;
 
 const BARRIER: Row = [op::BARRIER, 0, 0, 0];
 
@@ -33,13 +37,18 @@ const ACCESS: [Row; 2] = [[op::LOAD, 3, ME, 0], [op::STORE, ME, 3, 0]];
 
 /// A loop without end around `body`.
 fn endless(body: &[Row]) -> Vec<Row> {
+    endless_after(&[], body)
+}
+
+/// The same behind some rows of its own.
+fn endless_after(before: &[Row], body: &[Row]) -> Vec<Row> {
     let head = [
         [op::TID, ME, 0, 0],
         [op::SET, ONE, 1, 0],
         [op::AND, ODD, ME, ONE],
-        [op::WHILE, 0, ONE, 0],
     ];
-    [&head, body, &[[op::ENDWHILE, 0, 0, 0]]].concat()
+    let (begin, end) = ([[op::WHILE, 0, ONE, 0]], [[op::ENDWHILE, 0, 0, 0]]);
+    [&head, before, &begin, body, &end].concat()
 }
 
 /// Rows that compute, and a loop's two rows among 34.
@@ -78,6 +87,33 @@ pub(crate) fn barrier(every: usize) -> Vec<Row> {
     let computing = COMPUTE.into_iter().cycle().take(every - 3);
     let body: Vec<Row> = computing.chain([BARRIER]).collect();
     endless(&body)
+}
+
+/// A BARRIER once in `every` rows, behind a STORE of 32 threads to the cells from `first` on, one each.
+pub(crate) fn barrier_behind_store(every: usize, first: u16) -> Vec<Row> {
+    let [low, high] = first.to_le_bytes();
+    let before = [[op::SET, STEP, low, high], [op::ADD, CELL, ME, STEP]];
+    let computing = COMPUTE.into_iter().cycle().take(every - 4);
+    let body: Vec<Row> = computing
+        .chain([[op::STORE, CELL, 3, 0], BARRIER])
+        .collect();
+    endless_after(&before, &body)
+}
+
+/// A BARRIER once in `every` rows, behind an add of all threads to one cell.
+pub(crate) fn barrier_behind_add(every: usize) -> Vec<Row> {
+    let computing = COMPUTE.into_iter().cycle().take(every - 4);
+    let add = [op::ATOMIC_ADD, ZERO, ONE, 0];
+    let body: Vec<Row> = computing.chain([add, BARRIER]).collect();
+    endless(&body)
+}
+
+/// A BARRIER behind stores of 32 threads to 1,024 cells, 32 each.
+pub(crate) fn barrier_behind_all() -> Vec<Row> {
+    let before = [[op::SET, STEP, 32, 0]];
+    let store = [[op::STORE, CELL, 3, 0], [op::ADD, CELL, CELL, STEP]];
+    let body = [&[[op::OR, CELL, ME, ME]], &store.repeat(32)[..], &[BARRIER]].concat();
+    endless_after(&before, &body)
 }
 
 /// As many rows as a table may have.

@@ -17,6 +17,7 @@ fn main() {
     threads();
     cells();
     barriers();
+    logged();
 }
 
 fn loops() {
@@ -89,6 +90,31 @@ fn barriers() {
             let best = measure::bare(&kernels::barrier(every), 32, cells);
             speed(&format!("every {every} rows"), &best);
         }
+    }
+}
+
+/// What a barrier costs by the cells that were accessed since the last one.
+fn logged() {
+    heading(
+        &format!("accessed cells, a barrier every {ROUND} rows"),
+        "Mrows/s",
+    );
+    let (first, last) = (
+        kernels::barrier_behind_store(ROUND, 0),
+        kernels::barrier_behind_store(ROUND, 992),
+    );
+    for (name, rows, cells) in [
+        ("1 of 1", &kernels::barrier_behind_add(ROUND), 1),
+        ("32 of 32", &first, 32),
+        ("the first 32 of 1,024", &first, 1_024),
+        ("the last 32 of 1,024", &last, 1_024),
+        (
+            "all 1,024, one barrier for all",
+            &kernels::barrier_behind_all(),
+            1_024,
+        ),
+    ] {
+        speed(name, &measure::bare(rows, 32, cells));
     }
 }
 

@@ -6,6 +6,7 @@ mod bare;
 mod damage;
 mod extremes;
 mod headers;
+mod intervals;
 mod patterns;
 mod plan;
 mod random;
@@ -56,9 +57,10 @@ pub fn small(seed: u64) -> SmallLaunch {
 
 fn any_plan(rng: &mut Rng) -> Plan {
     match rng.below(100) {
-        0..=51 => patterns::pattern(rng),
-        52..=74 => random::random(rng),
-        75..=84 => extremes::extreme(rng),
+        0..=45 => patterns::pattern(rng),
+        46..=51 | 72..=75 => intervals::intervals(rng),
+        52..=71 => random::random(rng),
+        76..=84 => extremes::extreme(rng),
         _ => words::words(rng),
     }
 }

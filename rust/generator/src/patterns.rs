@@ -78,7 +78,7 @@ fn barrier_unless(rng: &mut Rng, times: u32) -> Vec<Row> {
 }
 
 /// A BARRIER that nobody comes to.
-const SKIPPED: [Row; 3] = [begin_if(15), BARRIER, ENDIF];
+pub const SKIPPED: [Row; 3] = [begin_if(15), BARRIER, ENDIF];
 
 /// Mostly nothing, otherwise a BARRIER or a skipped one.
 fn between(rng: &mut Rng) -> Vec<Row> {

@@ -626,6 +626,211 @@ fn barriers_part_adds_from_other_accesses() {
     counts.expect(5);
 }
 
+/// What has been done to the cells since the last barrier, just before a
+/// counted one.
+struct Interval {
+    ran: Ran,
+    /// The cells that have been used, lowest first.
+    used: Vec<usize>,
+    /// The row of the barrier.
+    barrier: usize,
+    /// The row that first used the highest of them.
+    row: usize,
+    /// Other cells were used before that row.
+    others_before: bool,
+    /// Other cells were used only behind that row.
+    others_behind: bool,
+}
+
+/// The plan's launch, stopped after so many rows, and the row due.
+fn stopped(plan: &Plan, limit: u32) -> (Ran, usize) {
+    let plan = Plan {
+        limit,
+        ..plan.clone()
+    };
+    let ran = Ran::of(&plan).expect("it ran before");
+    let row = match ran.outcome.verdict {
+        Verdict::Spent { row } => row as usize,
+        _ => plan.rows.len(),
+    };
+    (ran, row)
+}
+
+/// The least number above `low` that will do; `high` does.
+fn least(mut low: u32, mut high: u32, will_do: impl Fn(u32) -> bool) -> u32 {
+    while low + 1 < high {
+        let middle = low.midpoint(high);
+        if will_do(middle) {
+            high = middle;
+        } else {
+            low = middle;
+        }
+    }
+    high
+}
+
+impl Interval {
+    fn highest(&self) -> usize {
+        self.used[self.used.len() - 1]
+    }
+}
+
+/// The cells with a mask that isn't 0.
+fn used(ran: &Ran) -> Vec<usize> {
+    let used = |cell: &usize| ran.masks(*cell) != [0; 3];
+    (0..ran.before.len()).filter(used).collect()
+}
+
+/// The first few intervals of a launch that end in a counted barrier, without
+/// those that use no cell.
+fn intervals(plan: &Plan, ran: &Ran) -> Vec<Interval> {
+    let mut found = vec![];
+    let mut from = 0;
+    for nth in 1..=ran.outcome.barriers.min(4) {
+        let passed = |limit| stopped(plan, limit).0.outcome.barriers >= nth;
+        let end = least(from, ran.outcome.rows, passed);
+        let (ran, barrier) = stopped(plan, end - 1);
+        let all = used(&ran);
+        if let Some(&highest) = all.last() {
+            let there = |limit| used(&stopped(plan, limit).0).contains(&highest);
+            let first = least(from, end - 1, there);
+            let (before, row) = stopped(plan, first - 1);
+            let behind = used(&stopped(plan, first).0);
+            found.push(Interval {
+                others_before: !used(&before).is_empty(),
+                others_behind: behind != all,
+                used: all,
+                ran,
+                barrier,
+                row,
+            });
+        }
+        from = end;
+    }
+    found
+}
+
+/// The constructs around a row, outermost first: I, E for the arm behind an
+/// ELSE, W.
+fn around(rows: &[[u8; 4]], row: usize) -> String {
+    let mut open = String::new();
+    for row in &rows[..row] {
+        match row[0] {
+            op::IF => open.push('I'),
+            op::WHILE => open.push('W'),
+            op::ELSE | op::ENDIF | op::ENDWHILE => {
+                open.pop();
+            }
+            _ => {}
+        }
+        if row[0] == op::ELSE {
+            open.push('E');
+        }
+    }
+    open
+}
+
+/// Launches that come to a counted barrier within a moment, and their
+/// intervals.
+fn parted() -> impl Iterator<Item = (Plan, Ran, Vec<Interval>)> {
+    let soon = |(_, ran): &(Plan, Ran)| ran.outcome.barriers > 0 && ran.outcome.rows < 20_000;
+    ran().filter(soon).map(|(plan, ran)| {
+        let intervals = intervals(&plan, &ran);
+        (plan, ran, intervals)
+    })
+}
+
+#[test]
+fn barriers_behind_all_kinds_of_use() {
+    let mut counts = Counts::default();
+    for (plan, ran, intervals) in parted() {
+        for interval in &intervals {
+            see_cells(&mut counts, interval);
+            see_highest(&mut counts, &plan, interval);
+        }
+        see_one_after_the_other(&mut counts, &ran, &intervals);
+    }
+    counts.expect(15);
+}
+
+/// How many cells have been used, and up to which.
+fn see_cells(counts: &mut Counts, interval: &Interval) {
+    let (number, highest) = (interval.used.len(), interval.highest());
+    for edge in [0, 255, 256, 511, 512, 1_023] {
+        counts.see(format!("up to {edge}"), highest == edge);
+    }
+    let apart = highest - interval.used[0] > 1_000;
+    counts.see("all 1,024 cells", number == 1_024);
+    counts.see("more cells than a byte counts", number > 255);
+    counts.see("few cells, far apart", apart && number < 100);
+    counts.see("one cell far up", highest > 255 && number == 1);
+}
+
+/// By whom, how and where the highest cell has been used, if it is far up.
+fn see_highest(counts: &mut Counts, plan: &Plan, interval: &Interval) {
+    let highest = interval.highest();
+    let mut see = |name: &str, seen: bool| counts.see(name, seen && highest > 255);
+    see("the last cell", highest + 1 == plan.cells.len());
+
+    let masks = interval.ran.masks(highest);
+    let mask = masks.iter().fold(0, |all, mask| all | mask);
+    see("only loads", masks[0] == mask);
+    see("only stores", masks[1] == mask);
+    see("only adds", masks[2] == mask);
+    let last = 1 << (plan.threads - 1);
+    see("by thread 0", mask == 1 && last > 1);
+    see("by the last thread", mask == last && last > 1);
+    see("by thread 31", mask == 1 << 31);
+    see("by many", mask.count_ones() > 1);
+
+    let constructs = around(&plan.rows, interval.row);
+    see("in an IF", constructs.contains('I'));
+    see("behind an ELSE", constructs.contains('E'));
+    see("in a WHILE", constructs.contains('W'));
+    see("in no construct", constructs.is_empty());
+    see("in three", constructs.len() > 2);
+
+    let (before, behind) = (interval.others_before, interval.others_behind);
+    see("before the others", !before && behind);
+    see("behind the others", before && !behind);
+    let skipped = [
+        [op::IF, 0, 15, 0],
+        [op::BARRIER, 0, 0, 0],
+        [op::ENDIF, 0, 0, 0],
+    ];
+    let rows = &plan.rows[..interval.barrier];
+    see("before a skipped barrier", rows.ends_with(&skipped));
+}
+
+/// What follows an interval that reaches far up, or comes before it.
+fn see_one_after_the_other(counts: &mut Counts, ran: &Ran, intervals: &[Interval]) {
+    let tops: Vec<usize> = intervals.iter().map(Interval::highest).collect();
+    let any = |is: fn(usize, usize) -> bool| tops.windows(2).any(|two| is(two[0], two[1]));
+    counts.see("far up, then low", any(|first, then| first > then + 255));
+    counts.see("low, then far up", any(|first, then| then > first + 255));
+    let far_up = tops.iter().any(|&top| top > 255);
+    let clean = ran.passed() && used(ran).is_empty();
+    counts.see("far up, then the end", far_up && clean);
+    let many = ran.outcome.barriers > 256;
+    counts.see("far up, more often than a byte counts", far_up && many);
+}
+
+/// A launch that passes, and races far up if its barriers are left out.
+#[test]
+fn barriers_part_accesses_far_up() {
+    let mut counts = Counts::default();
+    let kinds = ["Rw", "Wr", "Ww", "Ra", "Ar", "Wa", "Aw"];
+    kinds.iter().for_each(|kind| counts.see(*kind, false));
+    for (mut plan, ran) in ran().filter(|(_, ran)| ran.passed()) {
+        plan.rows.retain(|row| row[0] != op::BARRIER);
+        let together = Ran::of(&plan).map(|ran| ran.outcome.verdict);
+        if let Some(Verdict::Race { kind, at, .. }) = together {
+            counts.see(format!("{kind:?}"), at > 255 && ran.outcome.barriers > 0);
+        }
+    }
+    counts.expect(4);
+}
+
 #[test]
 fn the_number_of_threads_is_seldom_that_of_cells() {
     let differ = (0..SEEDS).map(generator::plan).filter(|plan| {

@@ -1,4 +1,7 @@
 -- `compute::compute_row` leaves the row's values in the lanes that it stores to. Assumes nothing.
+use mathlib.Core.Path.{sym, ap, _∙_}
+use lib.Count.{ones}
+use Rattle.masks.proofs.Bits.{ones-all}
 use borrow.Author.Needs.{needs}
 use Rattle.compute.proofs.Stored.{all-stored, some-stored}
 use Rattle.compute.proofs.compute_row.Statement.{statement}
@@ -6,21 +9,30 @@ use Rattle.compute.proofs.compute_row.Tie as tie
 
 returns : tie.Need-returns
 returns c =
+    let all-enabled = c .before .before .if1 .taken in
     let all = c .before .before .before .all in
     let value-lanes = c .before .before .before .before .value-lanes in
-    all-stored (value-lanes .ensures) (c .before .before .if1 .taken) (all .ensures) (c .put-all .ensures)
+    let start = c .before .before .before .before .before .before in (
+      sym (ap ones (all-enabled ∙ all .ensures) ∙ ones-all (start .args .n)),
+      start .pre .0,
+      all-stored (value-lanes .ensures) all-enabled (all .ensures) (c .put-all .ensures),
+    )
 
 returns-2 : tie.Need-returns-2
 returns-2 c =
-    let some-away = c .before .before .before .if1 .left in
-    let all = c .before .before .before .before .all in
-    let value-lanes = c .before .before .before .before .before .value-lanes in
-    some-stored (value-lanes .ensures) some-away (all .ensures) (c .before .bits-of .ensures) (c .put .ensures)
+    let some-away = c .before .before .before .before .if1 .left in
+    let all = c .before .before .before .before .before .all in
+    let value-lanes = c .before .before .before .before .before .before .value-lanes in (
+      c .count .ensures .0,
+      c .count .ensures .1,
+      some-stored (value-lanes .ensures) some-away (all .ensures) (c .before .before .bits-of .ensures) (c .before .put .ensures),
+    )
 
 pub compute-row-spec : {M : Type 1} → statement M
 compute-row-spec =
     tie.close
     (tie.spec
-    (λ c κs. search needs) (λ c κs. search needs) (λ c κs. search needs) (λ c κs. search needs) (λ c κs. search needs)
+    (λ c κs. search needs) (λ c κs. search needs) (λ c κs. search needs)
     returns
+    (λ c κs. search needs) (λ c κs. search needs) (λ c κs. search needs)
     returns-2)

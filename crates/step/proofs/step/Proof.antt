@@ -44,13 +44,12 @@ compute-row-requires c κs =
 
 returns : tie.Need-returns
 returns c =
-    let count = c .before .count in
-    let compute-row = c .before .before .compute-row in
-    let computes = c .before .before .before .before .if1 .taken in
-    let b = c .before .before .before .before .before .index3 in
-    let a = c .before .before .before .before .before .before .before .index2 in
-    let d = c .before .before .before .before .before .before .before .before .before .index in
-    let start = c .before .before .before .before .before .before .before .before .before .before .before .before .before .before .before in
+    let compute-row = c .before .compute-row in
+    let computes = c .before .before .before .if1 .taken in
+    let b = c .before .before .before .before .index3 in
+    let a = c .before .before .before .before .before .before .index2 in
+    let d = c .before .before .before .before .before .before .before .before .index in
+    let start = c .before .before .before .before .before .before .before .before .before .before .before .before .before .before in
     let args = start .args in
     let table = args .table .now in
     let regs = args .regs .now in
@@ -63,20 +62,20 @@ returns c =
     let op = compute-op code (asks .known) (asks .small) in
     let slots = slots-kept code (args .s) saved openers (inl (omega arith)) in
     record {
-      counts = counted-moved (args .s) (c .moved .result) (count .result) (c .moved .ensures) (count .ensures .1);
+      counts = counted-moved (args .s) (c .moved .result) (compute-row .result) (c .moved .ensures) (compute-row .ensures .1);
       done = λ z R.
           let E = row-here table (args .n) z (args .s) regs cells log saved openers R (inside-row table (args .s .row) (start .pre .inside)) in
           let x = rowAt (rowsOf table) (z .row) in
           compute-after (args .n) z (args .s) regs cells log saved openers R (rowsOf table) x (length cells) (op .0)
-          (args .s .mask) (count .result) (c .moved .result) (compute-row .last .0) (ap (λ y. y .op) E ∙ op .1) (count .ensures .0)
+          (args .s .mask) (compute-row .result) (c .moved .result) (compute-row .last .0) (ap (λ y. y .op) E ∙ op .1) (compute-row .ensures .0)
           (compute-did code (args .n) (args .s .mask) (d .result) (a .result) (b .result) regs
           (compute-asks _ _ _ _ _ _ _ (d .ensures .0) (a .ensures .0) (b .ensures .0) asks) (R .memory .regs-are .size) (op .0) (op .1) x
           (ap (λ y. y .d) E ∙ sym (d .ensures .0))
           (ap (λ y. y .a) E ∙ sym (a .ensures .0)) (ap (λ y. y .b) E ∙ sym (b .ensures .0)) cells log z (R .enabled-is) (R .enabled-size) (R .memory)
-          (compute-row .last .0) (compute-row .ensures))
+          (compute-row .last .0) (compute-row .ensures .2))
           (c .moved .ensures);
       regs-are = regs-computed code (args .n) (args .s .mask) _ _ _ regs (d .result) (a .result) (b .result) (compute-row .last .0) computes
-          (d .ensures .0) (a .ensures .0) (b .ensures .0) (compute-row .ensures);
+          (d .ensures .0) (a .ensures .0) (b .ensures .0) (compute-row .ensures .2);
       saved-are = slots .0;
       openers-are = slots .1;
     }
@@ -219,7 +218,7 @@ step-spec =
     (λ c κs. search needs) (λ c. search needs) (λ c. search needs) (λ c. search needs) (λ c κs. search needs)
     (λ c. search needs) (λ c. search needs) (λ c. search needs) (λ c κs. search needs)
     compute-row-requires
-    (λ c κs. search needs) (λ c κs. search needs)
+    (λ c κs. search needs)
     returns
     access-row-requires
     (λ c. search needs) (λ c. search needs)
