@@ -40,7 +40,8 @@ enum {
 };
 
 /* A log has a word of readers for each cell, behind these a word of writers for each cell, and behind these a word of adders for each
- * cell: bit t is thread t. So it is three times as long as the cells. */
+ * cell: bit t is thread t. So it is three times as long as the cells. It may begin wherever a uint32_t may; where it begins at a multiple
+ * of 32 bytes, barriers take the least time. */
 
 /* Checks a launch file and writes its report to the start of the output. Answers the report's length, and 0 where the file is
  * refused: then refusal has the number and the place, and the other buffers are as they were. Otherwise refusal is 0, 0.

@@ -17,7 +17,7 @@ pub struct Turns {
 }
 
 // The small part of the state, which goes by value. Above the cell numbered `reach` nothing has been logged since the log was cleared.
-// The order of the words is the fastest of many that were tried: where four small ones stand side by side, a row takes half as long again.
+// The order of the words is one of the fastest that were tried: where four small ones stand side by side, a row takes half as long again.
 pub struct State {
     pub rows: u32,
     pub row: usize,

@@ -36,8 +36,8 @@ nobody m = map (λ b. false) m
 unfoldable pub cleared : Log → Log
 cleared G = record { readers = map nobody (G .readers); writers = map nobody (G .writers); adders = map nobody (G .adders) }
 
--- Word j of the log of k cells is a mask of cell j % k, since each mode has one mask a cell. From word j on: those of the cells that p has put to 0, all
--- others as before.
+-- Word j of the log of k cells is a mask of cell j % k, since each mode has one mask a cell. From word j on, the words of cells for which p holds are 0,
+-- and every other word is as before.
 unfoldable pub clearedWhere : (p : ℕ → Bool) → (k j : ℕ) → List ℕ → List ℕ
 clearedWhere p k j [] = []
 clearedWhere p k j (w ∷ log) = cond (p (j % k)) 0 w ∷ clearedWhere p k (suc j) log
