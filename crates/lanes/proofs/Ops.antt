@@ -42,7 +42,8 @@ past-five k op h n₀ n₁ n₂ n₃ n₄ = omega arith
 pub past-three : (op : ℕ) → 1 ≤ op → (op ≡ 1 → ⊥) → (op ≡ 2 → ⊥) → (op ≡ 3 → ⊥) → 4 ≤ op
 past-three op h n₁ n₂ n₃ = omega arith
 
-pub last-op : (op : ℕ) → 1 ≤ op → op ≤ 14 → (op ≡ 1 → ⊥) → (op ≡ 2 → ⊥) → (op ≡ 3 → ⊥) → (op ≡ 4 → ⊥) → (op ≡ 5 → ⊥) → (op ≡ 6 → ⊥) → (op ≡ 7 → ⊥) → (op ≡ 8 → ⊥)
+pub last-op : (op : ℕ) → 1 ≤ op → op ≤ 14 → (op ≡ 1 → ⊥) → (op ≡ 2 → ⊥) → (op ≡ 3 → ⊥)
+    → (op ≡ 4 → ⊥) → (op ≡ 5 → ⊥) → (op ≡ 6 → ⊥) → (op ≡ 7 → ⊥) → (op ≡ 8 → ⊥)
     → (op ≡ 9 → ⊥) → (op ≡ 10 → ⊥) → (op ≡ 11 → ⊥) → (op ≡ 12 → ⊥) → (op ≡ 13 → ⊥) → op ≡ 14
 last-op op h l n₁ n₂ n₃ n₄ n₅ n₆ n₇ n₈ n₉ n₁₀ n₁₁ n₁₂ n₁₃ =
     let k : 14 ≤ op = past-five 9 op (past-five 4 op (past-three op h n₁ n₂ n₃) n₄ n₅ n₆ n₇ n₈) n₉ n₁₀ n₁₁ n₁₂ n₁₃ in

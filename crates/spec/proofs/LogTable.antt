@@ -8,7 +8,8 @@ use Rattle.spec.specs.Table.{rowOf, cellByte, kindOf}
 use Rattle.spec.specs.Shape.{shapeOf, total, bound, address}
 use Rattle.spec.specs.Access.{Kind, load, store, atomicAdd, reads, writes, adds, mode, agree, cellAfter, registersAfter}
 use Rattle.spec.specs.Mask.{Mask, maskWord}
-use Rattle.spec.specs.Log.{Log, masksOf, logWords, emptyLog, nobody, cleared, cellCleared, cellsCleared, logged, conflicting, testedMask, conflictMask, raceKind}
+use Rattle.spec.specs.Log.{Log, masksOf, logWords, emptyLog, nobody, cleared, cellCleared, cellsCleared, logged}
+use Rattle.spec.specs.Log.{conflicting, testedMask, conflictMask, raceKind}
 use Rattle.spec.specs.LockStep.{Step, continues, stops, initialState, update, tryAccess}
 use Rattle.spec.proofs.Computing.{computing}
 
@@ -100,8 +101,14 @@ unfolding computing
 turned = refl
 
 -- One cell; two cells whose log was written; and no cell at all.
-pub walked-few : cellsCleared 1 0 (7 ∷ 7 ∷ 7 ∷ []) ∷ cellsCleared 1 1 (7 ∷ 7 ∷ 7 ∷ []) ∷ cellsCleared 2 1 (logWords someLog) ∷ cellsCleared 2 2 (logWords someLog)
-    ∷ logWords (cleared someLog) ∷ cellsCleared 0 1 [] ∷ [] ≡
+pub walked-few :
+    cellsCleared 1 0 (7 ∷ 7 ∷ 7 ∷ [])
+    ∷ cellsCleared 1 1 (7 ∷ 7 ∷ 7 ∷ [])
+    ∷ cellsCleared 2 1 (logWords someLog)
+    ∷ cellsCleared 2 2 (logWords someLog)
+    ∷ logWords (cleared someLog)
+    ∷ cellsCleared 0 1 []
+    ∷ [] ≡
     (7 ∷ 7 ∷ 7 ∷ []) ∷ (0 ∷ 0 ∷ 0 ∷ []) ∷ (0 ∷ 5 ∷ 0 ∷ 4 ∷ 0 ∷ 0 ∷ []) ∷ (0 ∷ 0 ∷ 0 ∷ 0 ∷ 0 ∷ 0 ∷ []) ∷ (0 ∷ 0 ∷ 0 ∷ 0 ∷ 0 ∷ 0 ∷ []) ∷ [] ∷ []
 unfolding computing someLog
 walked-few = refl
