@@ -71,7 +71,7 @@ module _ (k : ℕ) (log : List ℕ) where
   pub cells-enough : (m n : ℕ) → (0 < length log → 0 < k) → k ≤ m → k ≤ n → cellsCleared k m log ≡ cellsCleared k n log
   cells-enough m n some g h = cells-all m some g ∙ sym (cells-all n some h)
 
--- A turn of the walk that has cleared the cells below c: c's words are put to 0 one after the other, q of them so far.
+-- A turn of the walk at cell c: its words are put to 0 one after the other, q of them so far, and no other cell's changes.
 pub record Turning (k c q : ℕ) (log log′ : List ℕ) : Type 0 where
   pub size : length log′ ≡ length log
   pub zero-below : (j : ℕ) → j < q * k → j % k ≡ c → getD log′ j 0 ≡ 0
