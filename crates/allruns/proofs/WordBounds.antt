@@ -27,7 +27,7 @@ use Rattle.spec.specs.Shape.{Shape, address, bound, shapeOf}
 use Rattle.spec.specs.Table.{Table, Row, rowAt, cellByte, endOf, kindOf}
 use Rattle.spec.specs.Threads as own
 use Rattle.spec.specs.Threads.{Group, Move, Thread, cellsAfter, effectOf, goto, noThread, onIf, onWhile, pastBarrier, put, threadAfter}
-use Rattle.spec.specs.Word.{signed, top, truth, unsigned}
+use Rattle.spec.specs.Word.{places, signed, truth, unsigned}
 use Rattle.spec.proofs.Laws.{lt-or-le}
 use Rattle.allruns.proofs.Invariants.{Holds, Keeps, in-every-run, reach-cases, replicate-keeps, set-keeps}
 
@@ -63,10 +63,9 @@ value-word MUL n t a b x y hn ht ha hb hx hy = mod-lt (x * y) (omega arith)
 value-word AND n t a b x y hn ht ha hb hx hy = and-lt 32 x y hx hy
 value-word OR n t a b x y hn ht ha hb hx hy = or-lt 32 x y hx hy
 value-word XOR n t a b x y hn ht ha hb hx hy = xor-lt 32 x y hx hy
-value-word SHR n t a b x y hn ht ha hb hx hy = cond-keeps Word (ltb y 32) (omega (arith, div-le-self x (2 ^ y))) (omega arith)
+value-word SHR n t a b x y hn ht ha hb hx hy = omega (arith, div-le-self x (2 ^ places y))
 value-word SAR n t a b x y hn ht ha hb hx hy =
-    cond-keeps Word (ltb y 32) (unsigned-word (shrZ (signed x) (2 ^ y)) (omega (arith, mag-shr (signed x) (2 ^ y), signed-mag x hx)))
-    (cond-keeps Word (top x) (omega arith) (omega arith))
+    unsigned-word (shrZ (signed x) (2 ^ places y)) (omega (arith, mag-shr (signed x) (2 ^ places y), signed-mag x hx))
 value-word EQ n t a b x y hn ht ha hb hx hy = truth-word (eqb x y)
 value-word LT n t a b x y hn ht ha hb hx hy = truth-word (ltb x y)
 value-word SLT n t a b x y hn ht ha hb hx hy = truth-word (ltZ (signed x) (signed y))

@@ -34,6 +34,7 @@ use Rattle.spec.specs.Entries.{checkedRefusal, checkPrints, subjectOf}
 use Rattle.spec.specs.Examples.{withNewlines, lines, examples}
 use Rattle.spec.specs.RunExamples.{runExamples}
 use Rattle.spec.specs.AddExamples.{addExamples}
+use Rattle.spec.specs.ShiftExamples.{shiftExamples}
 
 -- Whoever unfolds this unfolds them all.
 unfoldable pub computing : Unit {0}
@@ -63,5 +64,5 @@ unfolding refusalNumber refusalPlace named told toldBy toldIn unless orElse firs
     over bareNumbers bareLent bareRefusal bareRun answerOf keptIf bareAnswer bareCells bareLog cellsReported writerRefusal writtenOf
     writerAnswer writerBuffer fileLent andState fileChecked launchRun launchReport reportLength fileAnswer ifAccepted fileCellsAfter
     fileLogAfter fileOutputAfter printed checkPrints checkedRefusal subjectOf
-    withNewlines lines examples runExamples addExamples
+    withNewlines lines examples runExamples addExamples shiftExamples
 computing = tt

@@ -163,3 +163,23 @@ pub load-after-add : played hasty 2 (4 ∷ 5 ∷ []) (of 4 0 ++ (of 4 1 ++ (row 
     record { allPossible = true; ended = false; bad = true; mayMove = false; mayRelease = false; cells = 7 ∷ 5 ∷ []; atReleases = [] }
 unfolding computing played isRun hasty of
 load-after-add = refl
+
+-- Thread t halves 3 + t by SHR with 33 until nothing is left, and stores the number of rounds.
+unfoldable pub halving : Table
+halving =
+    rowOf 2 0 0 0
+    ∷ rowOf 1 1 3 0
+    ∷ rowOf 4 1 1 0
+    ∷ rowOf 1 2 33 0
+    ∷ rowOf 1 3 1 0
+    ∷ rowOf 35 0 1 0
+    ∷ rowOf 10 1 1 2
+    ∷ rowOf 4 4 4 3
+    ∷ rowOf 36 0 0 0
+    ∷ rowOf 17 0 4 0 ∷ []
+
+-- Two rounds of thread 0 and three of thread 1, as in lock step.
+pub shifts-alike : played halving 2 (9 ∷ 9 ∷ []) (of 19 1 ++ of 15 0) ≡
+    record { allPossible = true; ended = true; bad = false; mayMove = false; mayRelease = false; cells = 2 ∷ 3 ∷ []; atReleases = [] }
+unfolding computing played isRun halving of
+shifts-alike = refl

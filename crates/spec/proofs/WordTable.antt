@@ -5,12 +5,12 @@ use Prim.Native.Nat.{ℕ}
 use Rattle.spec.specs.Op.{Calc, SET, TID, COUNT, ADD, SUB, MUL, AND, OR, XOR, SHR, SAR, EQ, LT, SLT, value}
 use Rattle.spec.proofs.Computing.{computing}
 
--- 0, 1, 2 ^ 31 - 1, 2 ^ 31, 2 ^ 32 - 1; and amounts of a shift.
+-- 0, 1, 2 ^ 31 - 1, 2 ^ 31, 2 ^ 32 - 1; and amounts of a shift, which go 0, 1, 31, 0, 1, 31, 0, 0 and 31 places.
 unfoldable pub edges : List ℕ
 edges = 0 ∷ 1 ∷ 2147483647 ∷ 2147483648 ∷ 4294967295 ∷ []
 
 unfoldable pub amounts : List ℕ
-amounts = 0 ∷ 1 ∷ 31 ∷ 32 ∷ 33 ∷ 4294967295 ∷ []
+amounts = 0 ∷ 1 ∷ 31 ∷ 32 ∷ 33 ∷ 63 ∷ 64 ∷ 2147483648 ∷ 4294967295 ∷ []
 
 -- The op at every x of the edges and every y of `ys`, in a launch of 7 threads, by thread 5, in a row whose bytes a and b are 3 and 2.
 unfoldable pub tabulated : List ℕ → Calc → List (List ℕ)
@@ -107,21 +107,21 @@ unfolding computing edges tabulated
 slt-table = refl
 
 pub shr-table : tabulated amounts SHR ≡
-    (0 ∷ 0 ∷ 0 ∷ 0 ∷ 0 ∷ 0 ∷ [])
-    ∷ (1 ∷ 0 ∷ 0 ∷ 0 ∷ 0 ∷ 0 ∷ [])
-    ∷ (2147483647 ∷ 1073741823 ∷ 0 ∷ 0 ∷ 0 ∷ 0 ∷ [])
-    ∷ (2147483648 ∷ 1073741824 ∷ 1 ∷ 0 ∷ 0 ∷ 0 ∷ [])
-    ∷ (4294967295 ∷ 2147483647 ∷ 1 ∷ 0 ∷ 0 ∷ 0 ∷ [])
+    (0 ∷ 0 ∷ 0 ∷ 0 ∷ 0 ∷ 0 ∷ 0 ∷ 0 ∷ 0 ∷ [])
+    ∷ (1 ∷ 0 ∷ 0 ∷ 1 ∷ 0 ∷ 0 ∷ 1 ∷ 1 ∷ 0 ∷ [])
+    ∷ (2147483647 ∷ 1073741823 ∷ 0 ∷ 2147483647 ∷ 1073741823 ∷ 0 ∷ 2147483647 ∷ 2147483647 ∷ 0 ∷ [])
+    ∷ (2147483648 ∷ 1073741824 ∷ 1 ∷ 2147483648 ∷ 1073741824 ∷ 1 ∷ 2147483648 ∷ 2147483648 ∷ 1 ∷ [])
+    ∷ (4294967295 ∷ 2147483647 ∷ 1 ∷ 4294967295 ∷ 2147483647 ∷ 1 ∷ 4294967295 ∷ 4294967295 ∷ 1 ∷ [])
     ∷ []
 unfolding computing edges amounts tabulated
 shr-table = refl
 
 pub sar-table : tabulated amounts SAR ≡
-    (0 ∷ 0 ∷ 0 ∷ 0 ∷ 0 ∷ 0 ∷ [])
-    ∷ (1 ∷ 0 ∷ 0 ∷ 0 ∷ 0 ∷ 0 ∷ [])
-    ∷ (2147483647 ∷ 1073741823 ∷ 0 ∷ 0 ∷ 0 ∷ 0 ∷ [])
-    ∷ (2147483648 ∷ 3221225472 ∷ 4294967295 ∷ 4294967295 ∷ 4294967295 ∷ 4294967295 ∷ [])
-    ∷ (4294967295 ∷ 4294967295 ∷ 4294967295 ∷ 4294967295 ∷ 4294967295 ∷ 4294967295 ∷ [])
+    (0 ∷ 0 ∷ 0 ∷ 0 ∷ 0 ∷ 0 ∷ 0 ∷ 0 ∷ 0 ∷ [])
+    ∷ (1 ∷ 0 ∷ 0 ∷ 1 ∷ 0 ∷ 0 ∷ 1 ∷ 1 ∷ 0 ∷ [])
+    ∷ (2147483647 ∷ 1073741823 ∷ 0 ∷ 2147483647 ∷ 1073741823 ∷ 0 ∷ 2147483647 ∷ 2147483647 ∷ 0 ∷ [])
+    ∷ (2147483648 ∷ 3221225472 ∷ 4294967295 ∷ 2147483648 ∷ 3221225472 ∷ 4294967295 ∷ 2147483648 ∷ 2147483648 ∷ 4294967295 ∷ [])
+    ∷ (4294967295 ∷ 4294967295 ∷ 4294967295 ∷ 4294967295 ∷ 4294967295 ∷ 4294967295 ∷ 4294967295 ∷ 4294967295 ∷ 4294967295 ∷ [])
     ∷ []
 unfolding computing edges amounts tabulated
 sar-table = refl

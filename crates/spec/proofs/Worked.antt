@@ -8,6 +8,7 @@ use Rattle.spec.specs.Entries.{launchRun, printed}
 use Rattle.spec.specs.Examples.{Worked, examples}
 use Rattle.spec.specs.RunExamples.{runExamples}
 use Rattle.spec.specs.AddExamples.{addExamples}
+use Rattle.spec.specs.ShiftExamples.{shiftExamples}
 use Rattle.spec.proofs.Computing.{computing}
 
 unfoldable pub finalLog : Checked Launch → List ℕ
@@ -31,3 +32,7 @@ worked-runs = refl
 pub worked-adds : map computed addExamples ≡ map expected addExamples
 unfolding computing computed expected finalLog
 worked-adds = refl
+
+pub worked-shifts : map computed shiftExamples ≡ map expected shiftExamples
+unfolding computing computed expected finalLog
+worked-shifts = refl

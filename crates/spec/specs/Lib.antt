@@ -22,4 +22,5 @@ pub mod Entries
 pub mod Examples
 pub mod RunExamples
 pub mod AddExamples
+pub mod ShiftExamples
 pub mod Demands

@@ -1,7 +1,7 @@
 -- Words: numbers below 2 ^ 32. "The kernel table", the ops that compute. Assumes nothing.
 use mathlib.Core.Bool.{Bool, cond}
 use Prim.Native.Nat.{ℕ, suc, _+_, _-_, _*_, _/_, _%_, _^_}
-use lib.Dec.{eqb, leb, ltb}
+use lib.Dec.{eqb, ltb}
 use lib.IntN.{ℤ, pos, negsuc}
 use lib.Signed.{ltZ, shrZ}
 
@@ -23,20 +23,17 @@ abbrev pub unsigned : ℤ → ℕ
 unsigned (pos n) = n
 unsigned (negsuc n) = 2 ^ 32 - suc n
 
--- The top bit of a word, and the word that has nothing but copies of it.
-abbrev pub top : ℕ → Bool
-top x = leb (2 ^ 31) x
+-- A shift takes its amount modulo 32, as OpenCL C has it (document 02, item 3): so many places it goes.
+abbrev pub places : ℕ → ℕ
+places y = y % 32
 
-abbrev pub topCopies : ℕ → ℕ
-topCopies x = cond (top x) (2 ^ 32 - 1) 0
-
--- SHR: zeros come in from above; 32 places or more leave nothing.
+-- SHR: zeros come in from above.
 abbrev pub shr : ℕ → ℕ → ℕ
-shr x y = cond (ltb y 32) (x / 2 ^ y) 0
+shr x y = x / 2 ^ places y
 
--- SAR: the top bit comes in from above, which is the signed value over 2 ^ y, rounded down; 32 places or more leave copies of the top bit only.
+-- SAR: the top bit comes in from above, which is the signed value over that power of two, rounded down.
 abbrev pub sar : ℕ → ℕ → ℕ
-sar x y = cond (ltb y 32) (unsigned (shrZ (signed x) (2 ^ y))) (topCopies x)
+sar x y = unsigned (shrZ (signed x) (2 ^ places y))
 
 -- EQ, LT and SLT give 1 or 0.
 abbrev pub truth : Bool → ℕ

@@ -1,6 +1,6 @@
 // The ops that compute, on words of 32 bits.
 ghost use mathlib.Core.Path.{_≡_};
-ghost use Rattle.spec.specs.Word.{add, sub, mul, shr, sar, equal, less, signedLess, signed, unsigned, topCopies};
+ghost use Rattle.spec.specs.Word.{add, sub, mul, shr, sar, equal, less, signedLess, signed, unsigned};
 
 // Sums, differences and products are taken in 64 bits, where none wraps.
 pub fn add(x: u32, y: u32) -> u32
@@ -24,7 +24,7 @@ pub fn mul(x: u32, y: u32) -> u32
 pub fn shr(x: u32, y: u32) -> u32
     ensures { λ r. ⌜ r ≡ shr x y ⌝ }
 {
-    if y < 32 { x >> y } else { 0 }
+    x >> (y % 32)
 }
 
 // A word's value in two's complement. Of a negative one, the flipped bits are a number below 2 ^ 31.
@@ -48,21 +48,11 @@ pub fn unsigned(z: i32) -> u32
     }
 }
 
-fn top_copies(x: u32) -> u32
-    ensures { λ r. ⌜ r ≡ topCopies x ⌝ }
-{
-    if x < 2147483648 { 0 } else { 4294967295 }
-}
-
 // The shift of a signed number brings in the top bit.
 pub fn sar(x: u32, y: u32) -> u32
     ensures { λ r. ⌜ r ≡ sar x y ⌝ }
 {
-    if y < 32 {
-        unsigned(signed(x) >> y)
-    } else {
-        top_copies(x)
-    }
+    unsigned(signed(x) >> (y % 32))
 }
 
 pub fn eq(x: u32, y: u32) -> u32

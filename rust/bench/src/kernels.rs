@@ -56,6 +56,13 @@ pub(crate) fn arithmetic() -> Vec<Row> {
     endless(&COMPUTE.repeat(4))
 }
 
+/// Both shifts of a word with the top bit set, by each thread's own number, and a loop's two rows among 34.
+pub(crate) fn shifts() -> Vec<Row> {
+    let before = [[op::SET, 3, 255, 255], [op::MUL, 3, 3, 3]];
+    let both = [[op::SHR, 4, 3, ME], [op::SAR, 5, 3, ME]];
+    endless_after(&before, &both.repeat(16))
+}
+
 /// Loads and stores, and a loop's two rows among 34.
 pub(crate) fn load_store() -> Vec<Row> {
     endless(&ACCESS.repeat(16))

@@ -23,6 +23,7 @@ fn main() {
 fn loops() {
     heading("loops, 1,000,000 rows, 32 threads", "Mrows/s");
     speed("arithmetic", &measure::bare(&kernels::arithmetic(), 32, 32));
+    speed("shifts", &measure::bare(&kernels::shifts(), 32, 32));
     speed(
         "load and store",
         &measure::bare(&kernels::load_store(), 32, 32),
@@ -61,6 +62,7 @@ fn files() {
 fn threads() {
     for (name, rows) in [
         ("arithmetic", kernels::arithmetic()),
+        ("shifts", kernels::shifts()),
         ("load and store", kernels::load_store()),
         ("add, own cells", kernels::add_own()),
         ("mixed", kernels::mixed()),

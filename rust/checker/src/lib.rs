@@ -1,6 +1,6 @@
-//! A checker of barrier kernels in lock step, written from document 01, item 1
-//! of document 02 and their readings alone. Every entry answers every input:
-//! none of them panics.
+//! A checker of barrier kernels in lock step, written from document 01, items 1
+//! to 3 of document 02 and their readings alone. Every entry answers every
+//! input: none of them panics.
 
 mod file;
 mod limits;

@@ -145,16 +145,16 @@ const fn before(target: u16) -> usize {
     (target as usize).wrapping_sub(1)
 }
 
-/// A shift of 32 or more gives 0.
+/// Zeros are shifted in. The amount is taken modulo 32, as OpenCL C has it.
 #[inline(always)]
 fn shr(x: u32, y: u32) -> u32 {
-    x.checked_shr(y).unwrap_or(0)
+    x >> (y % 32)
 }
 
-/// A shift of 32 or more gives all copies of the top bit, as does one of 31.
+/// The top bit is copied in. The amount is taken modulo 32 here too.
 #[inline(always)]
 fn sar(x: u32, y: u32) -> u32 {
-    (x.cast_signed() >> y.min(31)).cast_unsigned()
+    (x.cast_signed() >> (y % 32)).cast_unsigned()
 }
 
 #[inline(always)]
@@ -197,15 +197,52 @@ fn diverged(row: usize, enabled: &Enabled) -> Verdict {
 mod tests {
     use super::*;
 
+    const TOP: u32 = 1 << 31;
+    const WORDS: [u32; 5] = [0, 1, TOP - 1, TOP, u32::MAX];
+
     #[test]
-    fn shifts_at_their_edges() {
-        let top = 1 << 31;
-        assert_eq!([31, 32, 33, u32::MAX].map(|y| shr(top, y)), [1, 0, 0, 0]);
-        assert_eq!(
-            [1, 31, 32, u32::MAX].map(|y| sar(top, y)),
-            [3 << 30, u32::MAX, u32::MAX, u32::MAX]
-        );
-        assert_eq!([30, 31, 32].map(|y| sar(top - 1, y)), [1, 0, 0]);
+    fn multiples_of_32_leave_the_word_as_it_is() {
+        for amount in [0, 32, 64, TOP] {
+            assert_eq!(WORDS.map(|x| shr(x, amount)), WORDS, "{amount}");
+            assert_eq!(WORDS.map(|x| sar(x, amount)), WORDS, "{amount}");
+        }
+    }
+
+    #[test]
+    fn a_shift_by_33_acts_as_one_by_1() {
+        let (half, quarter) = (TOP - 1, (1 << 30) - 1);
+        for amount in [1, 33] {
+            let zeros_in = [0, 0, quarter, 1 << 30, half];
+            assert_eq!(WORDS.map(|x| shr(x, amount)), zeros_in, "{amount}");
+            let top_bit_in = [0, 0, quarter, 3 << 30, u32::MAX];
+            assert_eq!(WORDS.map(|x| sar(x, amount)), top_bit_in, "{amount}");
+        }
+    }
+
+    #[test]
+    fn a_shift_by_31_leaves_the_top_bit_or_its_copies() {
+        for amount in [31, 63, u32::MAX] {
+            assert_eq!(WORDS.map(|x| shr(x, amount)), [0, 0, 0, 1, 1], "{amount}");
+            let copies = [0, 0, 0, u32::MAX, u32::MAX];
+            assert_eq!(WORDS.map(|x| sar(x, amount)), copies, "{amount}");
+        }
+    }
+
+    /// Bit by bit, with no shift of more than one place.
+    #[test]
+    fn every_amount_is_so_many_shifts_by_one_place() {
+        for word in [0x9e37_79b9, 0x1e37_79b9, TOP, u32::MAX] {
+            let (mut zeros_in, mut top_bit_in) = (word, word);
+            for places in 0..32 {
+                for turns in [0, 1, 2, 3, 7, 8, 2_047, 2_048, (1 << 27) - 1] {
+                    let amount = 32 * turns + places;
+                    assert_eq!(shr(word, amount), zeros_in, "{word} by {amount}");
+                    assert_eq!(sar(word, amount), top_bit_in, "{word} by {amount}");
+                }
+                zeros_in /= 2;
+                top_bit_in = (top_bit_in / 2) | (top_bit_in & TOP);
+            }
+        }
     }
 
     #[test]

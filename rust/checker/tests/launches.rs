@@ -337,3 +337,82 @@ fn all_ops_on_all_lanes_and_on_some() {
         }
     }
 }
+
+/// Each thread's word and amount, both shifts put over them.
+fn shifted(words: &[u32], amounts: &[u32], some_only: bool) -> Vec<u32> {
+    let mut rows = vec![tid(0), [3, 1, 0, 0], add(4, 0, 1), load(2, 0), load(3, 4)];
+    let shifts = [[10, 5, 2, 3], [11, 6, 2, 3], store(0, 5), store(4, 6)];
+    if some_only {
+        // All but thread 0.
+        rows.push(if_(0));
+        rows.extend(shifts);
+        rows.push(ENDIF);
+    } else {
+        rows.extend(shifts);
+    }
+    let cells = [words, amounts].concat();
+    let (found, after) = run(&rows, words.len() as u32, &cells, 99);
+    assert_eq!(found.verdict, Verdict::Passed);
+    after
+}
+
+#[test]
+fn shift_amounts_are_taken_modulo_32_by_all_threads_and_by_some() {
+    let amounts = [9, 0, 1, 31, 32, 33, 63, 64, 1 << 31, u32::MAX];
+    let (top, most) = (1 << 31, u32::MAX);
+    // By 0, 1 and 31 places.
+    let expected = [
+        (0, [0, 0, 0], [0, 0, 0]),
+        (1, [1, 0, 0], [1, 0, 0]),
+        (
+            top - 1,
+            [top - 1, top / 2 - 1, 0],
+            [top - 1, top / 2 - 1, 0],
+        ),
+        (top, [top, top / 2, 1], [top, 3 << 30, most]),
+        (most, [most, top - 1, 1], [most; 3]),
+    ];
+    for (word, shr, sar) in expected {
+        let by_amount = |by: [u32; 3]| [0, 1, 2, 0, 1, 2, 0, 0, 2].map(|at| by[at]);
+        for some_only in [false, true] {
+            let after = shifted(&[word; 10], &amounts, some_only);
+            assert_eq!(after[1..10], by_amount(shr), "{word}, some {some_only}");
+            assert_eq!(after[11..], by_amount(sar), "{word}, some {some_only}");
+            // Thread 0 has shifted, or kept its word and its amount.
+            let first = if some_only {
+                9
+            } else {
+                word.cast_signed() >> 9
+            };
+            assert_eq!(after[10], first as u32);
+        }
+    }
+}
+
+#[test]
+fn a_shift_by_32_keeps_a_loop_going_and_one_by_33_ends_it() {
+    // R0 = 5; while R0 { R0 = R0 >> R1; R2 += 1 }; cell[0] = R2.
+    let rows = |amount, op| {
+        [
+            set(0, 5),
+            set(1, amount),
+            set(3, 1),
+            while_(0),
+            [op, 0, 0, 1],
+            add(2, 2, 3),
+            ENDWHILE,
+            store(9, 2),
+        ]
+    };
+    for op in [10, 11] {
+        for endless in [0, 32, 64, 32_768] {
+            let found = run(&rows(endless, op), 1, &[7], 99).0;
+            assert!(matches!(found.verdict, Verdict::Spent { .. }), "{endless}");
+        }
+        for (amount, trips) in [(1, 3), (33, 3), (34, 2), (35, 1), (63, 1)] {
+            let (found, cells) = run(&rows(amount, op), 1, &[7], 99);
+            assert_eq!(found.verdict, Verdict::Passed);
+            assert_eq!(cells, [trips], "{amount}");
+        }
+    }
+}

@@ -1,5 +1,5 @@
 //! "The threads' own machine": written from that section, from "The kernel
-//! table" and from item 1 alone. Nothing here knows of masks or of the
+//! table" and from items 1 and 3 alone. Nothing here knows of masks or of the
 //! lock-step run.
 
 use std::cmp::Ordering;
@@ -353,6 +353,7 @@ impl Thread {
 }
 
 /// Ops 4 to 14, worked out in 64 bits so that no rule of overflow is needed.
+/// Shifts divide and round down, so that no rule of far shifts is needed.
 fn compute(op: u8, x: u32, y: u32) -> u32 {
     let (wide_x, wide_y) = (u64::from(x), u64::from(y));
     let signed = |word: u32| i64::from(word) - if word >> 31 == 1 { 1 << 32 } else { 0 };
@@ -364,12 +365,18 @@ fn compute(op: u8, x: u32, y: u32) -> u32 {
         7 => x & y,
         8 => x | y,
         9 => x ^ y,
-        10 => low(wide_x >> y.min(32)),
-        11 => low((signed(x) >> y.min(32)) as u64),
+        10 => low(wide_x / power(y)),
+        11 => low(signed(x).div_euclid(power(y) as i64) as u64),
         12 => u32::from(x == y),
         13 => u32::from(x.cmp(&y) == Ordering::Less),
         _ => u32::from(signed(x) < signed(y)),
     }
+}
+
+/// What a shift by this amount divides by: 2 for each place, and the places
+/// are the amount modulo 32.
+fn power(amount: u32) -> u64 {
+    (0..amount % 32).fold(1, |power, _| 2 * power)
 }
 
 #[cfg(test)]
@@ -382,10 +389,38 @@ mod tests {
         assert_eq!(compute(4, most, 1), 0);
         assert_eq!(compute(5, 0, 1), most);
         assert_eq!(compute(6, most, most), 1);
-        assert_eq!([31, 32, most].map(|y| compute(10, most, y)), [1, 0, 0]);
-        assert_eq!([31, 32, most].map(|y| compute(11, top, y)), [most; 3]);
-        assert_eq!([31, 32, most].map(|y| compute(11, top - 1, y)), [0; 3]);
         assert_eq!((compute(13, top, 0), compute(14, top, 0)), (0, 1));
+    }
+
+    #[test]
+    fn amounts_count_modulo_32() {
+        let (top, most) = (1 << 31, u32::MAX);
+        let amounts = [0, 1, 31, 32, 33, 63, 64, top, most];
+        let shift = |op, word| amounts.map(|amount| compute(op, word, amount));
+        assert_eq!(
+            amounts.map(power).map(u64::ilog2),
+            [0, 1, 31, 0, 1, 31, 0, 0, 31]
+        );
+        // By 0, 1 and 31 places.
+        let all = |[none, one, far]: [u32; 3]| [none, one, far, none, one, far, none, none, far];
+        assert_eq!([shift(10, 0), shift(11, 0)], [[0; 9]; 2]);
+        assert_eq!([shift(10, 1), shift(11, 1)], [all([1, 0, 0]); 2]);
+        let halved = all([top - 1, top / 2 - 1, 0]);
+        assert_eq!([shift(10, top - 1), shift(11, top - 1)], [halved; 2]);
+        assert_eq!(shift(10, top), all([top, top / 2, 1]));
+        assert_eq!(shift(11, top), all([top, top + top / 2, most]));
+        assert_eq!(shift(10, most), all([most, top - 1, 1]));
+        assert_eq!(shift(11, most), [most; 9]);
+    }
+
+    #[test]
+    fn sar_rounds_down() {
+        // -5 and 5 by one place and by two, with 32 places more or fewer.
+        for more in [0, 32, 64, 1 << 31] {
+            let both = |word: u32| [1, 2].map(|places| compute(11, word, more + places));
+            assert_eq!(both(5), [2, 1]);
+            assert_eq!(both(5u32.wrapping_neg()), [3, 2].map(u32::wrapping_neg));
+        }
     }
 
     #[test]

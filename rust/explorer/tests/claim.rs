@@ -177,3 +177,103 @@ fn an_add_outside_ends_badly() {
     assert_eq!(check(&launch(2, &rows, &[0])), Ok(Confirmed::EndsBadly));
     assert_eq!(check(&launch(2, &rows, &[0, 0])), Ok(Confirmed::Passed));
 }
+
+const SHR: u8 = 10;
+const SAR: u8 = 11;
+
+/// SET Rd = value.
+fn set(d: u8, value: u16) -> [u8; 4] {
+    let [low, high] = value.to_le_bytes();
+    [1, d, low, high]
+}
+
+#[test]
+fn a_shift_decides_the_cell() {
+    for op in [SHR, SAR] {
+        // Threads 0 to 2 store to cell R0 >> amount.
+        let number = |amount| [TID, set(4, amount), [op, 3, 0, 4], [17, 3, 0, 0]];
+        for amount in [0, 32, 64, 256, 32_768] {
+            let own = launch(3, &number(amount), &[7; 3]);
+            assert_eq!(check(&own), Ok(Confirmed::Passed), "by {amount}");
+            let outside = launch(3, &number(amount), &[7; 2]);
+            assert_eq!(check(&outside), Ok(Confirmed::EndsBadly), "by {amount}");
+        }
+        // By one place and more, threads 0 and 1 share cell 0.
+        for amount in [1, 33, 34, 63, 65, 65_535] {
+            let shared = launch(2, &number(amount), &[7; 3]);
+            assert_eq!(check(&shared), Ok(Confirmed::EndsBadly), "by {amount}");
+        }
+    }
+}
+
+#[test]
+fn a_shift_decides_the_arm() {
+    for op in [SHR, SAR] {
+        // Amounts 0, 32 and 64 leave 1; 1, 33 and 65 leave 0.
+        let by_turns = [TID, ONE, set(4, 32), [6, 4, 4, 0]];
+        let arms = [[op, 3, 1, 4], begin_if(3), BARRIER, ENDIF];
+        let all_wait = [by_turns, arms].concat();
+        assert_eq!(check(&launch(3, &all_wait, &[0])), Ok(Confirmed::Passed));
+        let next = [&by_turns[..], &[[4, 4, 4, 1]], &arms].concat();
+        assert_eq!(check(&launch(3, &next, &[0])), Ok(Confirmed::Passed));
+        // Amounts 32 and 33: one waits, the other doesn't.
+        let neighbours = [&[TID, ONE, set(4, 32), [4, 4, 4, 0]][..], &arms].concat();
+        assert_eq!(check(&launch(2, &neighbours, &[0])), Ok(Confirmed::Stuck));
+    }
+}
+
+#[test]
+fn a_shift_decides_a_loop() {
+    // While R2, from 5 on, R2 = R2 >> amount.
+    let round = |op, amount| {
+        let head = [TID, set(4, amount), set(2, 5), begin_while(2), BARRIER];
+        [&head[..], &[[op, 2, 2, 4], ENDWHILE]].concat()
+    };
+    for op in [SHR, SAR] {
+        for amount in [0, 32, 64, 96, 256] {
+            let found = check(&launch(2, &round(op, amount), &[0]));
+            assert_eq!(found, Ok(Confirmed::Endless), "by {amount}");
+        }
+        for amount in [1, 31, 33, 63, 65, 255, 65_535] {
+            let found = check(&launch(2, &round(op, amount), &[0]));
+            assert_eq!(found, Ok(Confirmed::Passed), "by {amount}");
+        }
+    }
+}
+
+#[test]
+fn a_shift_decides_how_often_threads_meet() {
+    // Amounts 32 and 33 of 2: two trips with a barrier, and one.
+    let trips = |amount: [u8; 4], op| {
+        let head = [TID, ONE, set(2, 2), set(4, 32), amount, [op, 3, 2, 4]];
+        let body = [begin_while(3), BARRIER, [5, 3, 3, 1], ENDWHILE];
+        [&head[..], &body].concat()
+    };
+    for op in [SHR, SAR] {
+        let unequal = launch(2, &trips([4, 4, 4, 0], op), &[0]);
+        assert_eq!(check(&unequal), Ok(Confirmed::Stuck));
+        let equal = launch(2, &trips([6, 4, 4, 0], op), &[0]);
+        assert_eq!(check(&equal), Ok(Confirmed::Passed));
+    }
+}
+
+#[test]
+fn far_amounts_copy_the_top_bit_as_near_ones_do() {
+    // -6 by one place is -3, so that 3 more is cell 0; or 2^31 for SHR.
+    let rows = |op, amount: [[u8; 4]; 2]| {
+        let word = [set(2, 6), [5, 2, 15, 2]];
+        let at = [[op, 3, 2, 4], set(5, 3), [4, 3, 3, 5], [16, 6, 3, 0]];
+        [&word[..], &amount, &at].concat()
+    };
+    // 33, 65 and 2^32 - 31.
+    for amount in [
+        [set(4, 33), TID],
+        [set(4, 65), TID],
+        [set(4, 31), [5, 4, 15, 4]],
+    ] {
+        let sar = launch(2, &rows(SAR, amount), &[0]);
+        assert_eq!(check(&sar), Ok(Confirmed::Passed), "{amount:?}");
+        let shr = launch(2, &rows(SHR, amount), &[0]);
+        assert_eq!(check(&shr), Ok(Confirmed::EndsBadly), "{amount:?}");
+    }
+}

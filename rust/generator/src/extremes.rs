@@ -3,7 +3,7 @@
 use crate::asm::*;
 use crate::plan::Plan;
 use crate::rng::Rng;
-use crate::words::shift_count;
+use crate::shifts::shift_amount;
 
 const EXTREMES: [fn(&mut Rng) -> Plan; 8] = [
     word_table,
@@ -48,7 +48,7 @@ fn word_table(rng: &mut Rng) -> Plan {
     Plan::new(rng, threads, rows, cells)
 }
 
-/// Big words built from SET, shifted by counts at the edges.
+/// Big words built from SET, shifted by amounts at the edges.
 fn built_words(rng: &mut Rng) -> Plan {
     let threads = rng.threads();
     let (low, high) = (rng.word(), rng.word());
@@ -62,11 +62,11 @@ fn built_words(rng: &mut Rng) -> Plan {
         add(1, 1, 2), // low + 2^16 * high
     ];
     for _ in 0..rng.range(1, 8) {
-        let shift = shift_count(rng);
+        let amount = shift_amount(rng);
         let op = rng.pick(&[10, 11]);
-        rows.push(set(4, shift));
+        rows.push(set(4, amount));
         if rng.one_in(3) {
-            rows.extend([set(5, 1), sub(4, 15, 5)]); // 2^32 - 1
+            rows.push(sub(4, 15, 4)); // 2^32 less the amount
         }
         rows.push([op, 6, 1, 4]);
         rows.push([rng.range(4, 14) as u8, 1, 6, 1]);

@@ -2,6 +2,7 @@
 
 use crate::asm::*;
 use crate::rng::Rng;
+use crate::small_shifts::shifts;
 
 /// A launch of few threads, rows and cells; its table is well-formed.
 #[derive(Clone, Debug, PartialEq, Eq)]
@@ -10,14 +11,16 @@ pub struct SmallLaunch {
     pub table: Vec<u8>,
     /// 2 or 3 threads.
     pub threads: u32,
-    /// 1 to 3 cells.
+    /// 1 to 5 cells.
     pub cells: Vec<u32>,
 }
 
-/// A small launch: rows at random, or a short loop with barriers and accesses.
+/// A small launch: rows at random, a short loop with barriers and accesses, or
+/// a shift on which the outcome hangs.
 pub fn small_launch(rng: &mut Rng) -> SmallLaunch {
     let threads = rng.pick(&[2, 2, 2, 3]);
-    let count = rng.range(1, 3);
+    let mut count = rng.range(1, 3);
+    let mut behind = vec![];
     let rows = match rng.below(26) {
         0..=3 => short_loop(rng),
         4..=5 => exchange(rng),
@@ -25,9 +28,18 @@ pub fn small_launch(rng: &mut Rng) -> SmallLaunch {
         10 => turns(rng),
         11 => two_loops(rng),
         12..=15 => two_accesses(rng),
+        16..=19 => {
+            let (rows, words) = shifts(rng);
+            behind = words;
+            rows
+        }
         _ => loose_rows(rng),
     };
-    let cells = (0..count).map(|_| rng.below(3)).collect();
+    if !behind.is_empty() {
+        count = threads;
+    }
+    let mut cells: Vec<u32> = (0..count).map(|_| rng.below(3)).collect();
+    cells.extend(behind);
     SmallLaunch {
         table: rows.concat(),
         threads,

@@ -5,11 +5,12 @@
 use crate::asm::*;
 use crate::plan::Plan;
 use crate::rng::Rng;
+use crate::shifts::{deciding_shifts, shifts};
 
 const KERNELS: [fn(&mut Rng) -> Plan; 10] = [
     shifts,
     shifts,
-    shifts,
+    deciding_shifts,
     comparisons,
     truths,
     truths,
@@ -24,26 +25,6 @@ pub fn words(rng: &mut Rng) -> Plan {
     rng.pick(&KERNELS)(rng)
 }
 
-/// Shift counts of 34 and more at which some narrower reading has its edge.
-const FAR: [u32; 16] = [
-    63,
-    64,
-    65,
-    95,
-    96,
-    127,
-    128,
-    255,
-    256,
-    257,
-    65_535,
-    65_536,
-    65_537,
-    (1 << 31) - 1,
-    1 << 31,
-    u32::MAX,
-];
-
 /// Words that are true, though not by their lowest bits or as signed ones.
 const TRUE: [u32; 10] = [
     1 << 31, // twice
@@ -57,26 +38,6 @@ const TRUE: [u32; 10] = [
     (1 << 31) + 1,
     u32::MAX,
 ];
-
-/// A count to shift by, mostly 0 to 33.
-pub fn shift_count(rng: &mut Rng) -> u32 {
-    match rng.below(8) {
-        0 => rng.pick(&[0, 1, 31, 32, 33]),
-        1 => rng.pick(&FAR),
-        2 => rng.pick(&FAR).wrapping_add(rng.below(32)),
-        _ => rng.below(34),
-    }
-}
-
-/// A word to shift, mostly with the top bit set.
-fn shifted_word(rng: &mut Rng) -> u32 {
-    let word = rng.word();
-    if rng.one_in(4) {
-        word
-    } else {
-        word | 1 << 31
-    }
-}
 
 /// A word, and one that is equal, close, or as far off as can be.
 fn pair(rng: &mut Rng) -> [u32; 2] {
@@ -95,33 +56,6 @@ fn pair(rng: &mut Rng) -> [u32; 2] {
     } else {
         [y, x]
     }
-}
-
-/// Both shifts of each thread's words by its counts, by all threads or by
-/// some, put back over the word and the count.
-fn shifts(rng: &mut Rng) -> Plan {
-    let threads = rng.threads();
-    let rounds = rng.range(1, 3);
-    let some_only = rng.one_in(3);
-    let both = [[10, 5, 2, 3], [11, 6, 2, 3]];
-    let mut rows = vec![tid(0), count(1), set(7, 1), and(7, 0, 7)];
-    for _ in 0..rounds {
-        rows.extend([load(2, 0), add(4, 0, 1), load(3, 4)]);
-        if some_only {
-            rows.push(begin_if(7));
-            rows.extend(both);
-            rows.push(ENDIF);
-        } else {
-            rows.extend(both);
-        }
-        rows.extend([store(0, 5), store(4, 6), add(0, 4, 1)]);
-    }
-    let mut cells = vec![];
-    for _ in 0..rounds {
-        cells.extend((0..threads).map(|_| shifted_word(rng)));
-        cells.extend((0..threads).map(|_| shift_count(rng)));
-    }
-    Plan::new(rng, threads, rows, cells)
 }
 
 /// EQ, LT and SLT of two words of each thread.

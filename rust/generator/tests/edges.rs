@@ -394,23 +394,182 @@ fn plans_with(rows: &'static [[u8; 4]]) -> impl Iterator<Item = Plan> {
         .filter(move |plan| plan.rows.windows(rows.len()).any(|some| some == rows))
 }
 
-#[test]
-fn shifts_of_words_with_the_top_bit_set() {
-    let mut counts = Counts::default();
-    let far = [63, 64, 1 << 31, u32::MAX];
+/// What a thread shifts, by what amount, and whether only some threads do.
+struct Shift {
+    word: u32,
+    amount: u32,
+    some_only: bool,
+}
+
+/// The shifts of the launches in which each thread does SHR and SAR of words of
+/// its own. Words and amounts take turns, one of each for every thread.
+fn shifts() -> Vec<Shift> {
+    let mut found = vec![];
     for plan in plans_with(&[[op::SHR, 5, 2, 3], [op::SAR, 6, 2, 3]]) {
-        // Words and counts take turns, one of each for every thread.
+        let some_only = plan.rows.contains(&[op::IF, 0, 7, 0]);
         let blocks: Vec<&[u32]> = plan.cells.chunks(plan.threads as usize).collect();
         for pair in blocks.chunks_exact(2) {
-            for (word, &count) in pair[0].iter().zip(pair[1]) {
-                for shift in (0..34).chain(far) {
-                    let name = format!("{shift:10}");
-                    counts.see(name, shift == count && word >> 31 == 1);
+            for (thread, (&word, &amount)) in pair[0].iter().zip(pair[1]).enumerate() {
+                if !some_only || thread % 2 == 1 {
+                    found.push(Shift {
+                        word,
+                        amount,
+                        some_only,
+                    });
                 }
             }
         }
     }
-    counts.expect(15);
+    found
+}
+
+/// Words with the top bit set, by every number of places, and by the amounts at
+/// which a reading other than modulo 32 has its edge.
+#[test]
+fn shifts_by_all_places_and_by_amounts_at_edges() {
+    let (mut by_places, mut by_edge) = (Counts::default(), Counts::default());
+    let (top, most) = (1 << 31, u32::MAX);
+    let near = [0, 1, 31, 32, 33, 63, 64, 95, 96, 127, 128, 255, 256, 257];
+    let far = [65_535, 65_536, 65_537, top - 1, top, most - 31, most];
+    for Shift { word, amount, .. } in shifts() {
+        let set = word >> 31 == 1;
+        for edge in near.into_iter().chain(far) {
+            by_edge.see(format!("{edge:10}"), set && amount == edge);
+        }
+        for places in 0..32 {
+            let seen = set && amount % 32 == places;
+            for (turns, is) in [("none", 0..=0), ("one", 1..=1), ("more", 2..=most)] {
+                let name = format!("{places:2} places, multiples of 32: {turns}");
+                by_places.see(name, seen && is.contains(&(amount / 32)));
+            }
+        }
+    }
+    by_places.expect(6);
+    by_edge.expect(15);
+}
+
+/// Amounts at and beside multiples of 32, however far up, of all words and by
+/// all threads or some.
+#[test]
+fn shifts_beside_multiples_of_32() {
+    let mut counts = Counts::default();
+    let ranges = [
+        ("32 to 63", 32..=63),
+        ("64 to 255", 64..=255),
+        ("2^8 on", 256..=65_535),
+        ("2^16 on", 1 << 16..=(1 << 31) - 1),
+        ("2^31 on", 1 << 31..=u32::MAX),
+    ];
+    for shift in shifts() {
+        let by = if shift.some_only { "some" } else { "all" };
+        let top = shift.word >> 31;
+        for (range, amounts) in &ranges {
+            for places in [0, 1, 31] {
+                let seen = amounts.contains(&shift.amount) && shift.amount % 32 == places;
+                let name = format!("{range}, {places} places");
+                counts.see(format!("{name}, by {by}"), seen);
+                counts.see(format!("{name}, top bit {top}"), seen);
+            }
+        }
+    }
+    counts.expect(8);
+}
+
+/// The rows with other readings of far shifts in place of each shift: all is
+/// shifted out, or nothing is. R10 to R14 are of no other use.
+fn otherwise(rows: &[[u8; 4]], all_out: bool) -> Vec<[u8; 4]> {
+    let mut others = vec![];
+    for &row in rows {
+        let [shift @ (op::SHR | op::SAR), d, a, b] = row else {
+            others.push(row);
+            continue;
+        };
+        // R11 = the amount is below 32.
+        others.extend([[op::SET, 10, 32, 0], [op::LT, 11, b, 10]]);
+        if all_out {
+            others.extend([[shift, 12, a, b], [op::MUL, d, 12, 11]]);
+        } else {
+            others.extend([[op::MUL, 12, b, 11], [shift, d, a, 12]]);
+        }
+    }
+    others
+}
+
+fn verdict_name(verdict: Verdict) -> &'static str {
+    match verdict {
+        Verdict::Passed => "passed",
+        Verdict::Race { .. } => "race",
+        Verdict::Outside { .. } => "outside",
+        Verdict::Diverged { .. } => "diverged",
+        Verdict::Spent { .. } => "spent",
+    }
+}
+
+/// How verdicts change under both other readings, where they do.
+fn see_changes(counts: &mut Counts, plan: &Plan) {
+    for all_out in [true, false] {
+        let other = Plan {
+            rows: otherwise(&plan.rows, all_out),
+            ..plan.clone()
+        };
+        if let [Some(right), Some(wrong)] = [plan, &other].map(Ran::of) {
+            let [right, wrong] = [right, wrong].map(|ran| verdict_name(ran.outcome.verdict));
+            if right != wrong {
+                counts.see(format!("{wrong} for {right}"), true);
+            }
+        }
+    }
+}
+
+/// The plan with room for the rows of another reading, if it has shifts and
+/// leaves the registers that those rows need.
+fn with_shifts(plan: Plan) -> Option<Plan> {
+    let free = |row: &[u8; 4]| row[1..].iter().all(|byte| !(10..15).contains(byte));
+    let shift = |row: &[u8; 4]| matches!(row[0], op::SHR | op::SAR);
+    let plan = Plan {
+        limit: 20_000,
+        ..plan
+    };
+    let rows = &plan.rows;
+    (rows.len() < 64 && rows.iter().all(free) && rows.iter().any(shift)).then_some(plan)
+}
+
+#[test]
+fn shifts_that_decide_the_verdict() {
+    let mut counts = Counts::default();
+    for wrong in ["race", "outside", "diverged", "spent"] {
+        counts.see(format!("{wrong} for passed"), false);
+    }
+    counts.see("passed for spent", false);
+    for plan in (0..SEEDS).map(generator::plan).filter_map(with_shifts) {
+        see_changes(&mut counts, &plan);
+    }
+    // Others occur, but need not.
+    counts.0.retain(|name, _| name.contains("passed"));
+    counts.expect(3);
+}
+
+#[test]
+fn shifts_that_decide_the_verdict_of_small_launches() {
+    let mut counts = Counts::default();
+    for other in ["race", "outside", "diverged", "spent"] {
+        counts.see(format!("{other} for passed"), false);
+        counts.see(format!("passed for {other}"), false);
+    }
+    for small in (0..SEEDS).map(generator::small) {
+        let (rows, _) = small.table.as_chunks();
+        let plan = Plan {
+            threads: small.threads,
+            limit: 0,
+            rows: rows.to_vec(),
+            cells: small.cells,
+        };
+        if let Some(plan) = with_shifts(plan) {
+            see_changes(&mut counts, &plan);
+        }
+    }
+    counts.0.retain(|name, _| name.contains("passed"));
+    counts.expect(3);
 }
 
 #[test]
