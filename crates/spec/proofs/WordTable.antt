@@ -5,10 +5,11 @@ use Prim.Native.Nat.{ℕ}
 use Rattle.spec.specs.Op.{Calc, SET, TID, COUNT, ADD, SUB, MUL, AND, OR, XOR, SHR, SAR, EQ, LT, SLT, value}
 use Rattle.spec.proofs.Computing.{computing}
 
--- 0, 1, 2 ^ 31 - 1, 2 ^ 31, 2 ^ 32 - 1; and amounts of a shift, which go 0, 1, 31, 0, 1, 31, 0, 0 and 31 places.
+-- 0, 1, 2 ^ 31 - 1, 2 ^ 31, 2 ^ 32 - 1.
 unfoldable pub edges : List ℕ
 edges = 0 ∷ 1 ∷ 2147483647 ∷ 2147483648 ∷ 4294967295 ∷ []
 
+-- Amounts of a shift: 0, 1, 31, 0, 1, 31, 0, 0 and 31 places.
 unfoldable pub amounts : List ℕ
 amounts = 0 ∷ 1 ∷ 31 ∷ 32 ∷ 33 ∷ 63 ∷ 64 ∷ 2147483648 ∷ 4294967295 ∷ []
 

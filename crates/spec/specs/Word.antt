@@ -27,11 +27,11 @@ unsigned (negsuc n) = 2 ^ 32 - suc n
 abbrev pub places : ℕ → ℕ
 places y = y % 32
 
--- SHR: zeros come in from above.
+-- SHR: zeros come in from above, which is the word over 2 to so many places, rounded down.
 abbrev pub shr : ℕ → ℕ → ℕ
 shr x y = x / 2 ^ places y
 
--- SAR: the top bit comes in from above, which is the signed value over that power of two, rounded down.
+-- SAR: the top bit comes in from above, which is the signed value over 2 to so many places, rounded down.
 abbrev pub sar : ℕ → ℕ → ℕ
 sar x y = unsigned (shrZ (signed x) (2 ^ places y))
 
