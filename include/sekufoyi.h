@@ -17,6 +17,9 @@ extern "C" {
 /* What sekufoyi_check_file is lent. */
 enum { SEKUFOYI_CELLS = 1024, SEKUFOYI_LOG = 3072, SEKUFOYI_OUTPUT = 17408 };
 
+/* The most threads that a launch has, and the words of steps that sekufoyi_bare_launch is lent, however many threads there are. */
+enum { SEKUFOYI_THREADS = 32 };
+
 /* The first word of an outcome. 0 is none of them. */
 enum {
     SEKUFOYI_PASSED = 1,
@@ -35,7 +38,6 @@ enum {
     SEKUFOYI_KIND, /* 1 rw, 2 wr, 3 ww, 4 ra, 5 ar, 6 wa, 7 aw: what the other did, then what the thread does */
     SEKUFOYI_AT,
     SEKUFOYI_ROWS,
-    SEKUFOYI_STEPS,
     SEKUFOYI_BARRIERS
 };
 
@@ -43,22 +45,28 @@ enum {
  * cell: bit t is thread t. So it is three times as long as the cells. It may begin wherever a uint32_t may; where it begins at a multiple
  * of 32 bytes, barriers take the least time. */
 
+/* Steps are counted for each thread by itself: word t has the rows that thread t ran. A BARRIER is a row, but nobody's step; where an
+ * access stops the run, the threads that acted in its row before it have stepped, and the one that was stopped has not. */
+
 /* Checks a launch file and writes its report to the start of the output. Answers the report's length, and 0 where the file is
  * refused: then refusal has the number and the place, and the other buffers are as they were. Otherwise refusal is 0, 0.
  * A report that begins with the line verdict=passed speaks for every run of the launch's threads, by its own lines; its last line, and
- * no other, is end=report. */
+ * no other, is end=report. It has a line steps= for each thread, thread 0 first. */
 size_t sekufoyi_check_file(const uint8_t *file, size_t file_length, uint32_t *cells, size_t cells_length, uint32_t *log,
                            size_t log_length, uint8_t *output, size_t output_length, uint32_t refusal[2]);
 
 /* Runs a kernel table over the lent cells. Answers true with the outcome, or false with the refusal; the one that does not apply
- * is all zeros. */
+ * is all zeros. Where it ran, the first words of steps are the threads' own, and every word behind the last thread is 0, so that all
+ * 32 have been written; a refusal leaves steps, as the cells and the log, as they were. */
 bool sekufoyi_bare_launch(const uint8_t *table, size_t table_length, uint32_t threads, uint32_t cell_count, uint32_t limit,
-                          uint32_t *cells, size_t cells_length, uint32_t *log, size_t log_length, uint32_t outcome[9],
-                          uint32_t refusal[2]);
+                          uint32_t *cells, size_t cells_length, uint32_t *log, size_t log_length, uint32_t steps[32],
+                          uint32_t outcome[8], uint32_t refusal[2]);
 
-/* Writes the report of an outcome, or of a refusal, and answers its length, or 0 with a refusal as above. */
-size_t sekufoyi_write_report(const uint32_t outcome[9], const uint32_t *cells, size_t cells_length, uint8_t *output,
-                             size_t output_length, uint32_t refusal[2]);
+/* Writes the report of an outcome, or of a refusal, and answers its length, or 0 with a refusal as above. An outcome's report has a line
+ * for each of the steps, 1 to 32, and for each of the cells, 1 to 1,024. So steps_length is the launch's threads, not the 32 words that
+ * sekufoyi_bare_launch was lent. */
+size_t sekufoyi_write_report(const uint32_t outcome[8], const uint32_t *steps, size_t steps_length, const uint32_t *cells,
+                             size_t cells_length, uint8_t *output, size_t output_length, uint32_t refusal[2]);
 
 size_t sekufoyi_write_refusal(uint32_t number, uint32_t place, uint8_t *output, size_t output_length, uint32_t refusal[2]);
 

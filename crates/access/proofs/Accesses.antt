@@ -26,7 +26,7 @@ use Rattle.masks.proofs.Bits.{or-more, or-less}
 use Rattle.masks.proofs.Words.{any-none, any-some, lowest-is}
 use Rattle.layout.specs.declared.Access.{Access}
 use Rattle.layout.specs.declared.Access.the-variants.{Done, Stop}
-use Rattle.layout.specs.Memory.{Regs, LogIs, Memory, Did, OneTurn, stepsOf, KeptBut, AccessAsks, shapeBy, cellBy, Transferred, CellRegister, CellNumber}
+use Rattle.layout.specs.Memory.{Regs, LogIs, Memory, Did, OneTurn, KeptBut, AccessAsks, shapeBy, cellBy, Transferred, CellRegister, CellNumber}
 use Rattle.layout.proofs.Buffers.{regs-set}
 use Rattle.layout.specs.Logging.{testedWord, kindWord, enteredWords}
 use Rattle.layout.proofs.LogBuffer.{conflict-size}
@@ -117,11 +117,11 @@ module _ (n t : ℕ) (s : LockState) (regs cells log : List ℕ) (M : Memory n s
     unfolding accessTurn bound address
     turn-at = ap₂ (λ c e. cond (leb (length cells) c) (stops (Outside t c) s) (tryAccess s t e c kind)) number-is ed
 
-    did : (y : Step) (w : Access) (regs′ cells′ log′ : List ℕ) → turn ≡ y → Did n (stepsOf y) s y w regs′ cells′ log′
-        → Did n (stepsOf turn) s turn w regs′ cells′ log′
-    did y w regs′ cells′ log′ e D = subst (λ z. Did n (stepsOf z) s z w regs′ cells′ log′) (sym e) D
+    did : (y : Step) (w : Access) (regs′ cells′ log′ : List ℕ) → turn ≡ y → Did n s y w regs′ cells′ log′
+        → Did n s turn w regs′ cells′ log′
+    did y w regs′ cells′ log′ e D = subst (λ z. Did n s z w regs′ cells′ log′) (sym e) D
 
-    pub outside-did : (v : ℕ) → v ≡ i → length cells ≤ i → Did n (stepsOf turn) s turn (Stop (Outside t v)) regs cells log
+    pub outside-did : (v : ℕ) → v ≡ i → length cells ≤ i → Did n s turn (Stop (Outside t v)) regs cells log
     outside-did v ev g =
         did (stops (Outside t i) s) _ regs cells log (turn-at ∙ rw (le-leb (length cells) i g))
         (record { answer = ap (λ z. Stop (Outside t z)) ev; memory = M; kept = kept-none s })
@@ -143,7 +143,7 @@ module _ (n t : ℕ) (s : LockState) (regs cells log : List ℕ) (M : Memory n s
 
       pub race-did : (u v : ℕ) (k : AccessKind) → v ≡ i → (bitOr w bit ≡ bit → ⊥) → u ≡ trailingZeros 32 (bitOr w bit - bit)
           → k ≡ kindWord op (length cells) i u log
-          → Did n (stepsOf turn) s turn (Stop (Race t u k v)) regs cells log
+          → Did n s turn (Stop (Race t u k v)) regs cells log
       race-did u v k ev ne eu K =
           let ek : k ≡ raceKind (s .log) i u kind = K ∙ kind-means op (length cells) i log n (reg s t (x .a)) m (s .log) o p q l log-here u in
           let some : any others ≡ true = any-some others (λ e. ne (omega (arith, ew, e, or-more w bit short single))) in
@@ -203,7 +203,7 @@ module _ (n t : ℕ) (s : LockState) (regs cells log : List ℕ) (M : Memory n s
               (unfold cellAfter in (set-cell _ (λ z. omega arith) (cell-by-add op _ _ (λ z. omega arith))))
 
       pub made-did : (regs′ cells′ log′ : List ℕ) → bitOr w bit ≡ bit → Transferred op (d * 32 + j) (a * 32 + j) i regs cells regs′ cells′
-          → log′ ≡ enteredWords op (length cells) i bit log → Did n (stepsOf turn) s turn Done regs′ cells′ log′
+          → log′ ≡ enteredWords op (length cells) i bit log → Did n s turn Done regs′ cells′ log′
       made-did regs′ cells′ log′ z T E =
           let G : LogIs n (length (s .cells)) (logged (s .log) i t kind) log′ =
           subst₂ (λ k g. LogIs n k (logged (s .log) i t kind) g) cells-size (sym E)
@@ -214,5 +214,5 @@ module _ (n t : ℕ) (s : LockState) (regs cells log : List ℕ) (M : Memory n s
             answer = refl;
             memory = made regs′ cells′ log′ T G;
             kept = unfold madeAccess in
-                (record { row-same = refl; enabled-same = refl; saved-same = refl; rows-same = refl; barriers-same = refl; steps-more = omega arith });
+                (record { row-same = refl; enabled-same = refl; saved-same = refl; rows-same = refl; barriers-same = refl });
           })

@@ -32,7 +32,7 @@ use Rattle.allruns.proofs.Rows.{openersOf, fresh, Sim, Advanced, RowDon
 use Rattle.allruns.proofs.Rows.{any-has, if-row, else-row, endif-row, while-row, endwhile-row, plain-row, keeps-touch, keeps-calc}
 use Rattle.allruns.proofs.Aside.{parked, Past}
 use Rattle.allruns.proofs.Progress as later
-use Rattle.allruns.proofs.Classes.{isRow}
+use Rattle.allruns.proofs.StepCounts.{stepsAfter}
 use Rattle.allruns.proofs.Simulation.{Pos, Frame, loopsOf, exit, place, place-in, place-any, body, Match}
 
 full-has : (m : Mask) (t : ℕ) → full m ≡ true → t < length m → has m t ≡ true
@@ -123,7 +123,7 @@ module _ (T : Table) (w : WellFormed T) (L : Shape) (s : LockState) (fs : List F
           framed = fresh later′;
           within = l;
         };
-        counted = omega arith;
+        counted = unfold stepsAfter in refl;
         released = unfold isRelease in (omega arith);
         sees = sym (unfold passedAt passes in (ap (λ o. passedAt o s) q ∙ ap (λ b. cond (b && full (s .enabled)) (s .cells ∷ []) []) a));
       }
@@ -170,7 +170,7 @@ module _ (T : Table) (w : WellFormed T) (L : Shape) (s : LockState) (fs : List F
           framed = unfold passBarrier in (fresh later′);
           within = unfold passBarrier in l;
         };
-        counted = unfold passBarrier isRow in (omega arith);
+        counted = unfold passBarrier stepsAfter in refl;
         released = unfold passBarrier isRelease in (omega arith);
         sees = saw;
       }

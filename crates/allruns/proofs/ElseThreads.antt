@@ -28,11 +28,11 @@ abbrev Masked : LockState → Step → Type 0
 Masked s (continues z) = (z .enabled ≡ s .enabled) × (z .saved ≡ s .saved)
 Masked s (stops v z) = Unit {0}
 
-masked : (f : LockState → ℕ → Step) → ((s : LockState) (t : ℕ) → Keeps 1 s (f s t)) → (s : LockState) → Masked s (forEnabled f s)
+masked : (f : LockState → ℕ → Step) → ((s : LockState) (t : ℕ) → Keeps (t ∷ []) s (f s t)) → (s : LockState) → Masked s (forEnabled f s)
 unfolding forEnabled
 masked f one s = by (inTurn f (members (s .enabled)) s) (keeps-all f one (members (s .enabled)) s)
   where
-    by : (x : Step) → Keeps (length (members (s .enabled))) s x → Masked s (andThen x (λ z. continues (advance (suc (z .row)) (z .enabled) (z .saved) z)))
+    by : (x : Step) → Keeps (members (s .enabled)) s x → Masked s (andThen x (λ z. continues (advance (suc (z .row)) (z .enabled) (z .saved) z)))
     by (continues z) k = unfold andThen advance in (k .onSame, k .savedSame)
     by (stops v z) k = unfold andThen in tt
 

@@ -1,25 +1,27 @@
 -- Demand 3 holds of every launch that is not refused: nothing else is asked. Assumes nothing.
-use mathlib.Core.Path.{_≡_, refl, subst}
+use mathlib.Core.Path.{_≡_, refl, sym, subst}
 use mathlib.Core.List.{List}
 use mathlib.Core.Bool.{Bool, true, false}
 use mathlib.Core.Option.{Option, none, some}
 use Prim.Native.Nat.{ℕ}
 use native.Mathlib.Omega.{arith}
 use lib.Dec.{leb}
-use lib.ListN.{length}
+use lib.ListN.{length, take, replicate}
 use Rattle.spec.specs.declared.Refusal.{Refusal}
 use Rattle.spec.specs.declared.Refusal.the-variants.{FileTooLong}
-use Rattle.spec.specs.Limits.{maxFile}
+use Rattle.spec.specs.Limits.{maxFile, maxThreads}
 use Rattle.spec.specs.Answers.{first}
 use Rattle.spec.specs.Table.{rowsOf}
 use Rattle.spec.specs.TableCheck.{tableRefusal}
 use Rattle.spec.specs.LaunchFile.{Launch, Checked, refused, accepted, Read, stop, read, unlessRefused, checkedTable, launchLines, fileLaunch}
-use Rattle.spec.specs.LockStep.{LockResult, outcomeOf}
+use Rattle.spec.specs.LockStep.{LockResult, lockstep, outcomeOf}
 use Rattle.spec.specs.AllRuns.{Demand3}
-use Rattle.spec.specs.Entries.{bareRefusal, bareRun, answerOf, keptIf, bareAnswer, bareCells, launchRun}
+use Rattle.spec.specs.Entries.{over, bareRefusal, bareRun, answerOf, keptIf, bareAnswer, bareCells, bareSteps, launchRun}
 use Rattle.spec.specs.Demands.{BareDemand3}
+use Rattle.spec.proofs.Laws.{front-of}
 use Rattle.structure.proofs.Refusals.{orElse-none}
 use Rattle.structure.proofs.Acceptance.{well-formed}
+use Rattle.allruns.proofs.LockInvariants.{steps-size}
 use Rattle.allruns.proofs.Theorem.{demand3}
 
 -- The rows are the second thing that a bare launch tests.
@@ -28,16 +30,22 @@ pub bare-table : (table : List ℕ) (threads cells limit : ℕ) (lentCells lentL
 unfolding bareRefusal first
 bare-table table threads cells limit lentCells lentLog e = orElse-none _ _ .0 (orElse-none _ _ .0 e .1) .0
 
--- A bare launch, of its answer and of the cells that it leaves.
-module _ (table : List ℕ) (threads cells limit : ℕ) (lentCells lentLog : List ℕ) where
+-- A bare launch, of its answer and of the cells and the step counts that it leaves.
+module _ (table : List ℕ) (threads cells limit : ℕ) (lentCells lentLog lentSteps : List ℕ) where
   ran-demand3 : bareRefusal table threads cells limit lentCells lentLog ≡ none
-      → Demand3 (rowsOf table) threads lentCells limit (outcomeOf (bareRun table threads limit lentCells)) (bareRun table threads limit lentCells .state .cells)
+      → let run = bareRun table threads limit lentCells in Demand3 (rowsOf table) threads lentCells limit (outcomeOf run) (run .state .steps) (run .state .cells)
   unfolding bareRun
   ran-demand3 e = demand3 (rowsOf table) (well-formed (rowsOf table) (bare-table table threads cells limit lentCells lentLog e)) threads lentCells limit
 
+  steps-front : (behind : List ℕ) → let steps = bareRun table threads limit lentCells .state .steps in take threads (over steps behind) ≡ steps
+  unfolding bareRun
+  steps-front behind =
+      let steps = lockstep (rowsOf table) threads lentCells limit .state .steps in
+      subst (λ k. take k (over steps behind) ≡ steps) (steps-size (rowsOf table) threads lentCells limit) (front-of steps behind _ refl)
+
   pub bare-demand3 : BareDemand3 table threads limit lentCells (bareAnswer table threads cells limit lentCells lentLog)
-      (bareCells table threads cells limit lentCells lentLog)
-  unfolding bareAnswer bareCells answerOf keptIf
+      (bareCells table threads cells limit lentCells lentLog) (bareSteps table threads cells limit lentCells lentLog lentSteps)
+  unfolding bareAnswer bareCells bareSteps answerOf keptIf
   bare-demand3 = by (bareRefusal table threads cells limit lentCells lentLog) refl
     where
       run : LockResult
@@ -45,7 +53,9 @@ module _ (table : List ℕ) (threads cells limit : ℕ) (lentCells lentLog : Lis
 
       by : (x : Option Refusal) → bareRefusal table threads cells limit lentCells lentLog ≡ x
           → BareDemand3 table threads limit lentCells (answerOf x (outcomeOf run)) (keptIf x lentCells (run .state .cells))
-      by none e = ran-demand3 e
+          (keptIf x lentSteps (over (run .state .steps) (replicate maxThreads 0)))
+      by none e =
+          subst (λ steps. Demand3 (rowsOf table) threads lentCells limit (outcomeOf run) steps (run .state .cells)) (sym (steps-front _)) (ran-demand3 e)
       by (some why) e = tt
 
 -- The table of an accepted file is not refused.
@@ -74,7 +84,8 @@ file-table file launch = by (leb (length file) maxFile)
 
 -- An accepted launch, of its run.
 pub launch-demand3 : (file : List ℕ) (launch : Launch) → fileLaunch file ≡ accepted launch
-    → Demand3 (launch .table) (launch .threads) (launch .cells) (launch .limit) (outcomeOf (launchRun launch)) (launchRun launch .state .cells)
+    → let run = launchRun launch in
+    Demand3 (launch .table) (launch .threads) (launch .cells) (launch .limit) (outcomeOf run) (run .state .steps) (run .state .cells)
 unfolding launchRun
 launch-demand3 file launch e =
     demand3 (launch .table) (well-formed (launch .table) (file-table file launch e)) (launch .threads) (launch .cells) (launch .limit)

@@ -7,7 +7,7 @@ pub mod LogRecord
 pub mod Nesting
 pub mod Progress
 pub mod Blocked
-pub mod Classes
+pub mod StepCounts
 pub mod Simulation
 pub mod Turns
 pub mod Rows
@@ -18,6 +18,7 @@ pub mod Counts
 pub mod Theorem
 pub mod Launches
 pub mod Invariants
+pub mod LockInvariants
 pub mod LoopCounts
 pub mod StuckAtBarrier
 pub mod ElseThreads

@@ -23,7 +23,7 @@ use Rattle.allruns.proofs.LogRecord.{log-empty}
 use Rattle.allruns.proofs.Bools.{and-make}
 use Rattle.allruns.proofs.Blocked.{Blocked}
 use Rattle.allruns.proofs.BarrierRow.{row-done, every-make}
-use Rattle.allruns.proofs.Classes.{isRow}
+use Rattle.allruns.proofs.StepCounts.{stepsAfter, steps-append}
 use Rattle.allruns.proofs.Rows.{openersOf, fresh, Sim, Advanced, Failed, RowDone, framed-fresh}
 use Rattle.allruns.proofs.Nesting.{isWhile}
 use Rattle.allruns.proofs.Simulation.{Frame, loopsOf, place, body}
@@ -33,7 +33,7 @@ pub record Completes (T : Table) (L : Shape) (s : LockState) (g : Group) (o : Lo
   pub moves : List Move
   pub run : Run (machine T L) g moves
   pub ended : atEnd T (after (machine T L) g moves) ≡ true
-  pub counted : o .state .steps ≡ many isRow moves + s .steps
+  pub counted : o .state .steps ≡ stepsAfter (s .steps) moves
   pub released : many isRelease moves + s .barriers ≡ o .state .barriers
   pub sees : shownTo (machine T L) tt g moves ≡ bs
   pub finally : after (machine T L) g moves .cells ≡ o .state .cells
@@ -77,7 +77,7 @@ complete-here T w L s fs g S l o e =
       moves = [];
       run = tt;
       ended = at-end T w L s fs g S l;
-      counted = let a = ap (λ z. z .steps) e in omega arith;
+      counted = unfold stepsAfter in (ap (λ z. z .steps) e);
       released = let b = ap (λ z. z .barriers) e in omega arith;
       sees = refl;
       finally = S .match .cells ∙ ap (λ z. z .cells) (sym e);
@@ -90,7 +90,7 @@ complete-on T L s z g o bs h t =
       moves = h .moves ++ t .moves;
       run = run-append (machine T L) g (h .moves) (t .moves) (h .run) (t .run);
       ended = ap (atEnd T) (after-append (machine T L) g (h .moves) (t .moves)) ∙ t .ended;
-      counted = omega (arith, many-append (machine T L) isRow (h .moves) (t .moves), h .counted, t .counted);
+      counted = t .counted ∙ ap (λ steps. stepsAfter steps (t .moves)) (h .counted) ∙ sym (steps-append (s .steps) (h .moves) (t .moves));
       released = omega (arith, many-append (machine T L) isRelease (h .moves) (t .moves), h .released, t .released);
       sees = seen-append (machine T L) tt g (h .moves) (t .moves) ∙ ap₂ _++_ (h .sees) (t .sees);
       finally = ap (λ x. x .cells) (after-append (machine T L) g (h .moves) (t .moves)) ∙ t .finally;

@@ -19,6 +19,7 @@ use Rattle.spec.specs.Mask.{Mask, any, has, holding, lowest, members, membersFr
 use Rattle.spec.specs.Op.{ELSE, ENDIF, ENDWHILE, IF, Mem, Op, WHILE}
 use Rattle.spec.specs.Runs.{Run, after, many, shownTo}
 use Rattle.spec.specs.Shape.{Shape, address, bound}
+use Rattle.spec.specs.Steps.{allStepped}
 use Rattle.spec.specs.Table.{Fits, Row, Table, WellFormed, cellByte, closing, elseOf, endOf, innermost, kindOf, openBefore, openedBy, role, rowAt, startOf}
 use Rattle.spec.specs.Threads.{Group, Move, effect, effectOf, isOutside, machine, next, row}
 use Rattle.spec.specs.declared.Verdict.{Verdict}
@@ -30,7 +31,7 @@ use Rattle.allruns.proofs.Bools.{and-left}
 use Rattle.allruns.proofs.Turns.{One, Turned, turn-all, quiet-all, act-is}
 use Rattle.allruns.proofs.Blocked.{Blocked}
 use Rattle.allruns.proofs.Nesting.{isWhile, outer, Opened, AllOpened, all-opened, else-of-else, else-of-endif, end-here, Left, after-end, innermost-at}
-use Rattle.allruns.proofs.Classes.{isRow}
+use Rattle.allruns.proofs.StepCounts.{stepsAfter, steps-rows}
 use Rattle.allruns.proofs.Simulation.{exitBy, Pos, Frame, loopsOf, exit, place, Nested, place-in, place-out, place-any, body, Match, movedAll, allMoved}
 
 abbrev pub savedOf : List Frame → List Saved
@@ -72,7 +73,7 @@ pub record Advanced (T : Table) (L : Shape) (s : LockState) (g : Group) (z : Loc
   pub frames : List Frame
   pub run : Run (machine T L) g moves
   pub sim : Sim T L z frames (after (machine T L) g moves)
-  pub counted : z .steps ≡ many isRow moves + s .steps
+  pub counted : z .steps ≡ stepsAfter (s .steps) moves
   pub released : many isRelease moves + s .barriers ≡ z .barriers
   pub sees : shownTo (machine T L) tt g moves ≡ passedAt (rowAt T (s .row) .op) s
 
@@ -126,7 +127,7 @@ match-stepped T L m P s g h =
       logs = h .logs;
     }
 
--- Rows of threads show nothing and release nothing, and are as many as the threads.
+-- Rows of threads show nothing and release nothing.
 pub rows-seen : (T : Table) (L : Shape) (g : Group) (ts : List ℕ) → shownTo (machine T L) tt g (map row ts) ≡ []
 unfolding own.shown
 rows-seen T L g [] = refl
@@ -136,11 +137,6 @@ rows-release : (ts : List ℕ) → many isRelease (map row ts) ≡ 0
 unfolding isRelease
 rows-release [] = refl
 rows-release (t ∷ ts) = let h = rows-release ts in omega arith
-
-rows-count : (ts : List ℕ) → many isRow (map row ts) ≡ length ts
-unfolding isRow
-rows-count [] = refl
-rows-count (t ∷ ts) = let h = rows-count ts in omega arith
 
 -- Where the enabled threads go on together.
 pub together : (T : Table) (n r q : ℕ) (on : Mask) (fs : List Frame) → Nested n on fs → (t : ℕ) → t < n
@@ -174,7 +170,7 @@ control T L s g m P new here q on fs h len at acts to nest size sized framed wit
         framed = framed;
         within = within;
       };
-      counted = let h = rows-count (membersFrom 0 m) in omega arith;
+      counted = sym (steps-rows (s .steps) (membersFrom 0 m));
       released = omega (arith, rows-release (membersFrom 0 m));
       sees = rows-seen T L g (membersFrom 0 m) ∙ sym none;
     }
@@ -636,64 +632,65 @@ while-row T w L s fs g S l q = by fs S (S .framed)
         kept : savedAtWhile (s .row) (s .enabled) (savedOf (f ∷ fs)) ≡ record { opener = s .row; mask = f .mask } ∷ savedOf fs
         kept = unfold savedAtWhile in (rw (eq-eqb (f .opener) (s .row) p) (ap (λ e. record { opener = e; mask = f .mask } ∷ savedOf fs) p))
 
--- What a plain row keeps.
-pub record Kept (k : ℕ) (s z : LockState) : Type 0 where
+-- What a plain row keeps, where these threads have stepped.
+pub record Kept (ts : List ℕ) (s z : LockState) : Type 0 where
   pub rowSame : z .row ≡ s .row
   pub onSame : z .enabled ≡ s .enabled
   pub savedSame : z .saved ≡ s .saved
-  pub stepsMore : z .steps ≡ k + s .steps
+  pub stepsMore : z .steps ≡ allStepped (s .steps) ts
   pub barriersSame : z .barriers ≡ s .barriers
 
-abbrev pub Keeps : ℕ → LockState → Step → Type 0
-Keeps k s (continues z) = Kept k s z
-Keeps k s (stops v z) = Stopping v
+abbrev pub Keeps : (ts : List ℕ) → LockState → Step → Type 0
+Keeps ts s (continues z) = Kept ts s z
+Keeps ts s (stops v z) = Stopping v
 
-keeps-then : (k : ℕ) (s : LockState) (o : Step) (f : LockState → Step) → Keeps 1 s o → ((z : LockState) → Keeps k z (f z)) → Keeps (suc k) s (andThen o f)
-unfolding andThen
-keeps-then k s (stops v z) f h ih = h
-keeps-then k s (continues z) f h ih = by (f z) (ih z)
+keeps-then : (t : ℕ) (ts : List ℕ) (s : LockState) (o : Step) (f : LockState → Step) → Keeps (t ∷ []) s o → ((z : LockState) → Keeps ts z (f z))
+    → Keeps (t ∷ ts) s (andThen o f)
+unfolding andThen allStepped
+keeps-then t ts s (stops v z) f h ih = h
+keeps-then t ts s (continues z) f h ih = by (f z) (ih z)
   where
-    by : (o : Step) → Keeps k z o → Keeps (suc k) s o
+    by : (o : Step) → Keeps ts z o → Keeps (t ∷ ts) s o
     by (stops v y) u = u
     by (continues y) u =
         record {
           rowSame = u .rowSame ∙ h .rowSame;
           onSame = u .onSame ∙ h .onSame;
           savedSame = u .savedSame ∙ h .savedSame;
-          stepsMore = omega (arith, u .stepsMore, h .stepsMore);
+          stepsMore = u .stepsMore ∙ ap (λ steps. allStepped steps ts) (h .stepsMore);
           barriersSame = u .barriersSame ∙ h .barriersSame;
         }
 
-pub keeps-all : (f : LockState → ℕ → Step) → ((s : LockState) (t : ℕ) → Keeps 1 s (f s t)) → (ts : List ℕ) (s : LockState) → Keeps (length ts) s (inTurn f ts s)
-unfolding inTurn
-keeps-all f one [] s = record { rowSame = refl; onSame = refl; savedSame = refl; stepsMore = omega arith; barriersSame = refl }
-keeps-all f one (t ∷ ts) s = keeps-then (length ts) s (f s t) (inTurn f ts) (one s t) (keeps-all f one ts)
+pub keeps-all : (f : LockState → ℕ → Step) → ((s : LockState) (t : ℕ) → Keeps (t ∷ []) s (f s t)) → (ts : List ℕ) (s : LockState) → Keeps ts s (inTurn f ts s)
+unfolding inTurn allStepped
+keeps-all f one [] s = record { rowSame = refl; onSame = refl; savedSame = refl; stepsMore = refl; barriersSame = refl }
+keeps-all f one (t ∷ ts) s = keeps-then t ts s (f s t) (inTurn f ts) (one s t) (keeps-all f one ts)
 
-pub keeps-touch : (L : Shape) (m : Mem) (x : Row) (s : LockState) (t : ℕ) → Keeps 1 s (accessTurn L m x s t)
-unfolding accessTurn tryAccess
+pub keeps-touch : (L : Shape) (m : Mem) (x : Row) (s : LockState) (t : ℕ) → Keeps (t ∷ []) s (accessTurn L m x s t)
+unfolding accessTurn tryAccess allStepped
 keeps-touch L m x s t = by (leb (bound L m) (reg s t (cellByte m x))) (address L m (reg s t (cellByte m x))) (kindOf m (reg s t (x .a)))
   where
     made : (c : ℕ) (k : Kind) (e : Bool)
-        → Keeps 1 s (cond e (stops (Race t (lowest (conflictMask (s .log) c t k)) (raceKind (s .log) c (lowest (conflictMask (s .log) c t k)) k) c) s)
+        → Keeps (t ∷ []) s (cond e (stops (Race t (lowest (conflictMask (s .log) c t k)) (raceKind (s .log) c (lowest (conflictMask (s .log) c t k)) k) c) s)
         (continues (madeAccess s t (x .d) c k)))
     made c k true = tt
-    made c k false = unfold madeAccess in (record { rowSame = refl; onSame = refl; savedSame = refl; stepsMore = omega arith; barriersSame = refl })
+    made c k false = unfold madeAccess in (record { rowSame = refl; onSame = refl; savedSame = refl; stepsMore = refl; barriersSame = refl })
 
     by : (a : Bool) (c : ℕ) (k : Kind)
-        → Keeps 1 s (cond a (stops (Outside t (reg s t (cellByte m x))) s)
+        → Keeps (t ∷ []) s (cond a (stops (Outside t (reg s t (cellByte m x))) s)
         (cond (any (conflictMask (s .log) c t k))
         (stops (Race t (lowest (conflictMask (s .log) c t k)) (raceKind (s .log) c (lowest (conflictMask (s .log) c t k)) k) c) s)
         (continues (madeAccess s t (x .d) c k))))
     by true c k = tt
     by false c k = made c k (any (conflictMask (s .log) c t k))
 
-pub keeps-calc : (x : Row) (f : ℕ → ℕ → ℕ → ℕ) (s : LockState) (t : ℕ) → Keeps 1 s (computeTurn x f s t)
-unfolding computeTurn setReg
-keeps-calc x f s t = record { rowSame = refl; onSame = refl; savedSame = refl; stepsMore = omega arith; barriersSame = refl }
+pub keeps-calc : (x : Row) (f : ℕ → ℕ → ℕ → ℕ) (s : LockState) (t : ℕ) → Keeps (t ∷ []) s (computeTurn x f s t)
+unfolding computeTurn setReg allStepped
+keeps-calc x f s t = record { rowSame = refl; onSame = refl; savedSame = refl; stepsMore = refl; barriersSame = refl }
 
 -- A plain row: CALC, LOAD or STORE.
 pub plain-row : (T : Table) (L : Shape) (s : LockState) (fs : List Frame) (g : Group) → Sim T L s fs g → s .row < length T → (f : LockState → ℕ → Step)
-    → ((s : LockState) (t : ℕ) → Keeps 1 s (f s t))
+    → ((s : LockState) (t : ℕ) → Keeps (t ∷ []) s (f s t))
     → ((t : ℕ) (P : ℕ → Pos) (z : LockState) (g : Group) → t < (L .threads) → P t ≡ record { row = s .row; loops = loopsOf T fs } → Match T L P z g
     → One T L (λ u. record { row = suc (s .row); loops = loopsOf T fs }) (record { row = s .row; loops = loopsOf T fs }) t P g (f z t))
     → openersOf fs ≡ openBefore T (suc (s .row)) → passedAt (rowAt T (s .row) .op) s ≡ []
@@ -706,7 +703,7 @@ plain-row T L s fs g S l f keep one later none =
     (let h = S .onSize in omega arith) (λ j h. ap (place T (s .row) (s .enabled) fs) (let z : 0 + j ≡ j = omega arith in z)
     ∙ place-in T (s .row) (s .enabled) fs j h) (S .match))
   where
-    by : (o : Step) → Keeps (length (membersFrom 0 (s .enabled))) s o
+    by : (o : Step) → Keeps (membersFrom 0 (s .enabled)) s o
         → Turned T L (λ u. record { row = suc (s .row); loops = loopsOf T fs }) (record { row = s .row; loops = loopsOf T fs }) 0 (s .enabled)
         (place T (s .row) (s .enabled) fs) g o
         → RowDone T L s g (andThen o (λ z. continues (advance (suc (z .row)) (z .enabled) (z .saved) z)))
@@ -727,7 +724,7 @@ plain-row T L s fs g S l f keep one later none =
             framed = fresh later;
             within = l;
           };
-          counted = omega (arith, rows-count (membersFrom 0 (s .enabled)), k .stepsMore);
+          counted = k .stepsMore ∙ sym (steps-rows (s .steps) (membersFrom 0 (s .enabled)));
           released = omega (arith, rows-release (membersFrom 0 (s .enabled)), k .barriersSame);
           sees = rows-seen T L g (membersFrom 0 (s .enabled)) ∙ sym none;
         }))

@@ -1,34 +1,29 @@
 -- Words stay words: in the lock-step run and in every run of the threads all registers and cells are below 2 ^ 32. Assumes nothing.
-use mathlib.Core.Path.{_≡_, refl, _∙_}
+use mathlib.Core.Path.{_≡_, _∙_}
 use mathlib.Core.Logic.{_⊎_, inl, inr}
-use mathlib.Core.List.{List, [], _∷_}
-use mathlib.Core.Bool.{Bool, true, false, cond}
+use mathlib.Core.List.{List, []}
+use mathlib.Core.Bool.{Bool}
 use Prim.Native.Nat.{ℕ, zero, suc, _+_, _-_, _*_, _^_, _<_, _≤_}
 use native.Mathlib.Omega.{arith}
 use native.Mathlib.Nat.{mod-lt, div-le-self}
-use borrow.Author.Tests.{leb-false}
 use lib.Bits.{and-lt, or-lt, xor-lt}
-use lib.Dec.{eqb, leb, ltb}
+use lib.Dec.{eqb, ltb}
 use lib.IntN.{ℤ, pos, negsuc}
 use lib.Signed.{ltZ, mag, mag-shr, shrZ}
 use lib.ListN.{length, getD, set, replicate, length-set, length-replicate, List·getD-eq-default}
-use Rattle.spec.specs.declared.Verdict.the-variants.{Passed}
 use Rattle.spec.specs.Access.{Kind, load, store, atomicAdd, cellAfter, registersAfter}
 use Rattle.spec.specs.AllRuns.{RunOf, leaves}
 use Rattle.spec.specs.Limits.{registers}
-use Rattle.spec.specs.LockStep.{LockState, LockResult, Saved, Step, accessTurn, advance, andThen, barrierRow, computeTurn, continues, countSteps}
-use Rattle.spec.specs.LockStep.{elseRow, endifRow, endwhileRow, forEnabled, ifRow, inTurn, initialState, leaveOrStay, lockstep, madeAccess}
-use Rattle.spec.specs.LockStep.{passBarrier, pop, reg, resultOf, runFrom, runRow, setReg, stops, topMask, tryAccess, whileRow}
-use Rattle.spec.specs.Log.{conflictMask}
-use Rattle.spec.specs.Mask.{Mask, any, full}
+use Rattle.spec.specs.LockStep.{LockState, advance, countSteps, initialState, lockstep, madeAccess, passBarrier, reg, setReg}
 use Rattle.spec.specs.Op.{Op, Calc, SET, TID, COUNT, ADD, SUB, MUL, AND, OR, XOR, SHR, SAR, EQ, LT, SLT, CALC, Mem, MEM, LOAD, STORE, ATOMICADD, IF, ELSE}
 use Rattle.spec.specs.Op.{ENDIF, WHILE, ENDWHILE, BARRIER, UNKNOWN, value}
-use Rattle.spec.specs.Shape.{Shape, address, bound, shapeOf}
-use Rattle.spec.specs.Table.{Table, Row, rowAt, cellByte, endOf, kindOf}
+use Rattle.spec.specs.Shape.{Shape, shapeOf}
+use Rattle.spec.specs.Table.{Table, rowAt, kindOf}
 use Rattle.spec.specs.Threads as own
 use Rattle.spec.specs.Threads.{Group, Move, Thread, cellsAfter, effectOf, goto, noThread, onIf, onWhile, pastBarrier, put, threadAfter}
 use Rattle.spec.specs.Word.{places, signed, truth, unsigned}
 use Rattle.spec.proofs.Laws.{lt-or-le}
+use Rattle.allruns.proofs.LockInvariants.{RowsKeep, cond-keeps, in-lockstep}
 use Rattle.allruns.proofs.Invariants.{Holds, Keeps, in-every-run, reach-cases, replicate-keeps, set-keeps}
 
 abbrev pub Word : ℕ → Type 0
@@ -37,10 +32,6 @@ Word v = v < 2 ^ 32
 -- The default of a list is 0, so a place past the end needs no word.
 abbrev pub Words : List ℕ → Type 0
 Words xs = (i : ℕ) → Word (getD xs i 0)
-
-cond-keeps : {A : Type 0} (P : A → Type 0) (b : Bool) {x y : A} → P x → P y → P (cond b x y)
-cond-keeps P true p q = p
-cond-keeps P false p q = q
 
 truth-word : (b : Bool) → Word (truth b)
 truth-word b = cond-keeps Word b (omega arith) (omega arith)
@@ -112,29 +103,9 @@ WordGroup s = WordsIn (λ t. getD (s .threads) t noThread .regs) (s .cells)
 abbrev pub Bytes : Table → Type 0
 Bytes T = (r : ℕ) → r < length T → (rowAt T r .a < 256) × (rowAt T r .b < 256)
 
--- A state of n threads, whose registers and cells are words; and what a row comes to, such a state.
+-- A state of n threads, whose registers and cells are words.
 abbrev Sound : (n : ℕ) → LockState → Type 0
 Sound n s = (length (s .regs) ≡ n) × WordState s
-
-abbrev SoundStep : (n : ℕ) → Step → Type 0
-SoundStep n (continues s) = Sound n s
-SoundStep n (stops v s) = Sound n s
-
-sound-then : (n : ℕ) (x : Step) (f : LockState → Step) → SoundStep n x → ((s : LockState) → Sound n s → SoundStep n (f s)) → SoundStep n (andThen x f)
-unfolding andThen
-sound-then n (continues s) f h g = g s h
-sound-then n (stops v s) f h g = h
-
-sound-turns : (n : ℕ) (f : LockState → ℕ → Step) → ((s : LockState) (t : ℕ) → Sound n s → SoundStep n (f s t)) → (ts : List ℕ) (s : LockState)
-    → Sound n s → SoundStep n (inTurn f ts s)
-unfolding inTurn
-sound-turns n f g [] s h = h
-sound-turns n f g (t ∷ ts) s h = sound-then n (f s t) (inTurn f ts) (g s t h) (sound-turns n f g ts)
-
-sound-enabled : (n : ℕ) (f : LockState → ℕ → Step) → ((s : LockState) (t : ℕ) → Sound n s → SoundStep n (f s t)) → (s : LockState) → Sound n s
-    → SoundStep n (forEnabled f s)
-unfolding forEnabled advance
-sound-enabled n f g s h = sound-then n (inTurn f _ s) _ (sound-turns n f g _ s h) (λ z k. k)
 
 -- One thread's registers put.
 put-words : (n t : ℕ) (s : LockState) (regs cells : List ℕ) → Sound n s → (t < n → Words regs) → Words cells
@@ -144,74 +115,29 @@ put-words n t s regs cells h p q = (
   record { ofThreads = λ u. set-keeps Words (s .regs) [] t regs u (λ l. p (omega (arith, h .0))) (h .1 .ofThreads u); ofCells = q },
 )
 
-sound-compute : (n : ℕ) (x : Row) (f : ℕ → ℕ → ℕ → ℕ) → ((t p q : ℕ) → t < n → Word p → Word q → Word (f t p q)) → (s : LockState) (t : ℕ) → Sound n s
-    → SoundStep n (computeTurn x f s t)
-unfolding computeTurn setReg reg
-sound-compute n x f g s t h =
-    put-words n t s _ (s .cells) h
-    (λ l i. set-keeps Word (getD (s .regs) t []) 0 (x .d) _ i (λ z. g t _ _ l (h .1 .ofThreads t (x .a)) (h .1 .ofThreads t (x .b)))
-    (h .1 .ofThreads t i)) (h .1 .ofCells)
-
-sound-access : (n : ℕ) (L : Shape) (m : Mem) (x : Row) (s : LockState) (t : ℕ) → Sound n s → SoundStep n (accessTurn L m x s t)
-unfolding accessTurn tryAccess madeAccess reg
-sound-access n L m x s t h =
-    cond-keeps (SoundStep n) (leb (bound L m) c) h
-    (cond-keeps (SoundStep n) (any (conflictMask (s .log) (address L m c) t k)) h
-    (put-words n t s _ _ h (λ l. registers-words k (x .d) _ _ w (h .1 .ofCells (address L m c)) (h .1 .ofThreads t))
-    (cells-words k (address L m c) (s .cells) w (h .1 .ofCells))))
-  where
-    c : ℕ
-    c = reg s t (cellByte m x)
-
-    k : Kind
-    k = kindOf m (reg s t (x .a))
-
-    w : KindWord k
-    w = kind-word m _ (h .1 .ofThreads t (x .a))
-
-sound-while : (n : ℕ) (T : Table) (s : LockState) (v : List Saved) (m : Mask) → Sound n s → Sound n (leaveOrStay T s v m)
-unfolding leaveOrStay advance
-sound-while n T s v m h = cond-keeps (Sound n) (any m) {x = advance (suc (s .row)) m v s} {y = advance (suc (endOf T (s .row))) (topMask v) (pop v) s} h h
-
 module _ (T : Table) (L : Shape) (bytes : Bytes T) (few : Word (L .threads)) where
-  sound-row : (s : LockState) → s .row < length T → (o : Op) → Sound (L .threads) s → SoundStep (L .threads) (runRow T L (rowAt T (s .row)) s o)
-  unfolding runRow advance countSteps barrierRow ifRow elseRow endifRow whileRow endwhileRow passBarrier
-  sound-row s l (CALC c) h =
-      let b = bytes (s .row) l in
-      sound-enabled (L .threads) _
-      (sound-compute (L .threads) _ _ (λ t p q m hp hq. value-word c (L .threads) t _ _ p q few (omega arith) (b .0) (b .1) hp hq)) s h
-  sound-row s l (MEM m) h = sound-enabled (L .threads) _ (sound-access (L .threads) L m _) s h
-  sound-row s l IF h = h
-  sound-row s l ELSE h = h
-  sound-row s l ENDIF h = h
-  sound-row s l WHILE h = sound-while (L .threads) T (countSteps (s .enabled) s) _ _ h
-  sound-row s l ENDWHILE h = h
-  sound-row s l BARRIER h = cond-keeps (SoundStep (L .threads)) (any (s .enabled)) (cond-keeps (SoundStep (L .threads)) (full (s .enabled)) h h) h
-  sound-row s l UNKNOWN h = h
-
-  sound-result : (x : Step) (f : LockState → LockResult) → SoundStep (L .threads) x
-      → ((s : LockState) → Sound (L .threads) s → Sound (L .threads) (f s .state)) → Sound (L .threads) (resultOf x f .state)
-  unfolding resultOf
-  sound-result (continues s) f h g = g s h
-  sound-result (stops v s) f h g = h
-
-  sound-run : (left : ℕ) (s : LockState) → Sound (L .threads) s → Sound (L .threads) (runFrom T L left s .state)
-  unfolding runFrom
-  sound-run zero s h = h
-  sound-run (suc left) s h = by (leb (length T) (s .row)) refl (sound-run left)
-    where
-      out : LockResult
-      out = resultOf (runRow T L (rowAt T (s .row)) s (rowAt T (s .row) .op)) (runFrom T L left)
-
-      by : (z : Bool) → leb (length T) (s .row) ≡ z → ((s : LockState) → Sound (L .threads) s → Sound (L .threads) (runFrom T L left s .state))
-          → Sound (L .threads) ((elim z as (λ c. LockResult) [ true ↦ record { verdict = Passed; state = s } | false ↦ out ]) .state)
-      by true q ih = h
-      by false q ih = sound-result _ _ (sound-row s (leb-false _ _ q) (rowAt T (s .row) .op) h) ih
+  sound-rows : RowsKeep T L (Sound (L .threads))
+  unfolding setReg reg madeAccess advance countSteps passBarrier
+  sound-rows =
+      record {
+        computes = λ s r t c l h.
+            let b = bytes r l in
+            put-words (L .threads) t s _ (s .cells) h
+            (λ m i. set-keeps Word (getD (s .regs) t []) 0 _ _ i
+            (λ z. value-word c (L .threads) t _ _ _ _ few (omega arith) (b .0) (b .1) (h .1 .ofThreads t _) (h .1 .ofThreads t _)) (h .1 .ofThreads t i))
+            (h .1 .ofCells);
+        accesses = λ s r t c m h.
+            let w = kind-word m _ (h .1 .ofThreads t (rowAt T r .a)) in
+            put-words (L .threads) t s _ _ h (λ l. registers-words _ _ _ _ w (h .1 .ofCells c) (h .1 .ofThreads t)) (cells-words _ c (s .cells) w (h .1 .ofCells));
+        steps = λ s m h. h;
+        passes = λ s h. h;
+        onward = λ s r m v h. h;
+      }
 
 pub lockstep-words : (T : Table) (n : ℕ) (cells : List ℕ) (limit : ℕ) → Word n → Bytes T → Words cells → WordState (lockstep T n cells limit .state)
-unfolding lockstep shapeOf initialState
+unfolding shapeOf initialState
 lockstep-words T n cells limit few bytes words =
-    sound-run T (shapeOf n cells) bytes few limit (initialState n cells)
+    in-lockstep T n cells limit (Sound n) (sound-rows T (shapeOf n cells) bytes few)
     (length-replicate n _, record { ofThreads = λ t. replicate-keeps Words n _ [] t zero-words (λ i. omega arith); ofCells = words }) .1
 
 -- The same of the threads' own machine.

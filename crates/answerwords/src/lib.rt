@@ -45,13 +45,13 @@ fn value_code(value: Value) -> u32
     }
 }
 
-pub fn outcome_words(outcome: Outcome) -> [u32; 9]
+pub fn outcome_words(outcome: Outcome) -> [u32; 8]
     ensures { λ r. ⌜ r ≡ outcomeWords outcome ⌝ }
 {
     let values = reportvalues::run_values(outcome);
-    let mut words = [0u32; 9];
+    let mut words = [0u32; 8];
     let mut i = 0;
-    while i < 9 {
+    while i < 8 {
         words[i] = value_code(values[i]);
         i += 1;
     }
@@ -100,7 +100,7 @@ fn verdict_from(code: u32, thread: u32, other: u32, kind: u32, at: u32) -> Verdi
     Verdict::Spent
 }
 
-pub fn outcome_from(words: &[u32; 9]) -> Outcome
+pub fn outcome_from(words: &[u32; 8]) -> Outcome
     ensures { λ r. ⌜ r ≡ outcomeFrom (now (words .entry)) ⌝ }
 {
     let verdict = verdict_from(words[0], words[2], words[3], words[4], words[5]);
@@ -108,8 +108,7 @@ pub fn outcome_from(words: &[u32; 9]) -> Outcome
         verdict,
         row: words[1],
         rows: words[6],
-        steps: words[7],
-        barriers: words[8],
+        barriers: words[7],
     }
 }
 

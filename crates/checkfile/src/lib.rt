@@ -39,6 +39,8 @@ fn run_launch(
 {
     let count = words.len();
     let logged = 3 * count;
+    let used = threads as usize;
+    let mut steps: [u32; 32] = [0; 32];
     place(words, cells);
     let outcome = run::run(
         table,
@@ -47,8 +49,14 @@ fn run_launch(
         limit,
         &mut cells[..count],
         &mut log[..logged],
+        &mut steps,
     );
-    report::write_report(Subject::Ran(outcome), &cells[..count], output)
+    report::write_report(
+        Subject::Ran(outcome),
+        &steps[..used],
+        &cells[..count],
+        output,
+    )
 }
 
 // The entry for whoever has a launch file. The lent cells are 1,024 words, the log 3,072, the output 17,408 bytes or

@@ -6,7 +6,6 @@ use native.Mathlib.Nat.{le-refl}
 use native.Mathlib.Numerals.{add-one}
 use native.Mathlib.Omega.{arith}
 use native.Mathlib.Decide.{ℕ-discrete}
-use lib.Count.{ones}
 use lib.Pow.{shr-shr}
 use lib.ListN.{length, getD, set}
 use lib.Seq.{set-getD}
@@ -22,9 +21,9 @@ use Rattle.compute.proofs.Values.{value-read}
 use Rattle.compute.proofs.Putting.{puts-none, puts-old, puts-more, puts-agree, stored-on, stored-off}
 
 -- Buffers that are the same where registers stand are those of the same state.
-did-alike : (n k : ℕ) (s : LockState) (o : Step) (regs regs′ cells log : List ℕ) → length regs′ ≡ 512 → ((t r : ℕ) → t < n → lane r regs′ t ≡ lane r regs t)
-    → Did n k s o Done regs cells log → Did n k s o Done regs′ cells log
-did-alike n k s o regs regs′ cells log l e D =
+did-alike : (n : ℕ) (s : LockState) (o : Step) (regs regs′ cells log : List ℕ) → length regs′ ≡ 512 → ((t r : ℕ) → t < n → lane r regs′ t ≡ lane r regs t)
+    → Did n s o Done regs cells log → Did n s o Done regs′ cells log
+did-alike n s o regs regs′ cells log l e D =
     let M = D .memory in
     let R = M .regs-are in
     record {
@@ -57,7 +56,7 @@ module _ (c : Calc) (n : ℕ) (x : Row) where
           cells-are = M .cells-are;
           log-is = M .log-is;
         };
-        kept = record { row-same = refl; enabled-same = refl; saved-same = refl; rows-same = refl; barriers-same = refl; steps-more = omega arith };
+        kept = record { row-same = refl; enabled-same = refl; saved-same = refl; rows-same = refl; barriers-same = refl };
       }
 
 module _ (op n mask d a b : ℕ) (regs : List ℕ) (A : ComputeAsks op d a b)
@@ -131,17 +130,17 @@ module _ (op n mask d a b : ℕ) (regs : List ℕ) (A : ComputeAsks op d a b)
             subst (λ rs. Turning (turn c n x) n s (suc t) (mask / 2 ^ suc t) rs cells log) (turn-off t h q)
             (step t (after t) (turn-out (turn c n x) n s t (mask / 2 ^ t) (after t) cells log T h q))
 
-    row-did : Did n (ones mask) s (inTurn (turn c n x) (members (s .enabled)) s) Done (after n) cells log
+    row-did : Did n s (inTurn (turn c n x) (members (s .enabled)) s) Done (after n) cells log
     row-did =
         let T = turns n (le-refl n) in
         let none = turn-end (turn c n x) n s n (mask / 2 ^ n) (after n) cells log T (le-refl n) in
-        turn-whole (turn c n x) n s n (mask / 2 ^ n) (after n) cells log T mask (ones mask) em refl none
+        turn-whole (turn c n x) n s n (mask / 2 ^ n) (after n) cells log T none
 
     -- So do the words that a computing row leaves.
     pub compute-did : (regs′ : List ℕ) → Computed op n mask d a b regs regs′
-        → Did n (ones mask) s (inTurn (computeTurn x (λ t p q. value c n t (x .a) (x .b) p q)) (members (s .enabled)) s) Done regs′ cells log
+        → Did n s (inTurn (computeTurn x (λ t p q. value c n t (x .a) (x .b) p q)) (members (s .enabled)) s) Done regs′ cells log
     unfolding turn
     compute-did regs′ C =
-        did-alike n (ones mask) s (inTurn (turn c n x) (members (s .enabled)) s) (after n) regs′ cells log (C c o .size ∙ size)
+        did-alike n s (inTurn (turn c n x) (members (s .enabled)) s) (after n) regs′ cells log (C c o .size ∙ size)
         (puts-agree d n new new regs regs′ (after n) (M .few) (C c o) (after-puts n (M .few)) (λ t h. refl))
         row-did

@@ -1,7 +1,6 @@
 // A computing row: its values in all 32 lanes, then a store under the mask.
 ghost use mathlib.Core.Path.{_≡_};
 ghost use Prim.Native.Nat.{_/_, _%_, _^_, _<_, _≤_};
-ghost use lib.Count.{ones};
 ghost use lib.ListN.{length, getD};
 ghost use Rattle.layout.specs.Memory.{ComputeAsks, lane, Puts, Computed};
 ghost use Rattle.lanes.specs.Lanes.{Filled};
@@ -97,25 +96,16 @@ fn value_lanes(regs: &[u32; 512], n: u32, op: u8, a: usize, b: usize) -> [u32; 3
     }
 }
 
-// Answers how many threads step: all of them, or the ones of the mask. Where all n are enabled the lanes behind the last one are stored to as well.
-pub fn compute_row(
-    regs: &mut [u32; 512],
-    n: u32,
-    mask: u32,
-    op: u8,
-    d: usize,
-    a: usize,
-    b: usize,
-) -> u32
+// Where all n are enabled the lanes behind the last one are stored to as well.
+pub fn compute_row(regs: &mut [u32; 512], n: u32, mask: u32, op: u8, d: usize, a: usize, b: usize)
     requires { ⌜ (n ≤ 32) × (a < 256) × (b < 256) × ComputeAsks op d a b × (length (now regs) ≡ 512) ⌝ }
-    ensures { λ k. ⌜ (k ≡ ones mask) × (k ≤ 32) × Computed op n mask d a b (now (regs .entry)) (now (regs .exit)) ⌝ }
+    ensures { λ _. ⌜ Computed op n mask d a b (now (regs .entry)) (now (regs .exit)) ⌝ }
 {
     let v = value_lanes(regs, n, op, a, b);
     let all = masks::all(n);
     if mask == all {
         put_all(regs, d, v);
-        return n;
+        return;
     }
     put(regs, d, v, bits_of(mask));
-    masks::count(mask)
 }

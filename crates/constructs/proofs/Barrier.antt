@@ -26,11 +26,11 @@ use Rattle.layout.specs.Constructs.{passedState, divergedNext, barrierNext, bar
 use Rattle.layout.proofs.PlainRows.{moves-on}
 
 module _ (n : ℕ) (z : LockState) (s : State) (regs cells log saved openers : List ℕ) (R : Represents n z s regs cells log saved openers) where
-  skips : s .mask ≡ 0 → After n (barrierRow z) (next.Go (movedOn s 0)) regs cells log saved openers
+  skips : s .mask ≡ 0 → After n (barrierRow z) (next.Go (movedOn s)) regs cells log saved openers
   unfolding barrierRow
   skips e =
       let no : any (z .enabled) ≡ false = any-none (z .enabled) (sym (R .enabled-is) ∙ e) in
-      rw no (movedOn s 0, refl, moves-on n z s regs cells log saved openers R 0 z regs cells log (kept-none z) (R .memory) (R .reach-is))
+      rw no (movedOn s, refl, moves-on n z s regs cells log saved openers R z regs cells log (kept-none z) (R .memory) (R .reach-is))
 
   some-on : (s .mask ≡ 0 → ⊥) → any (z .enabled) ≡ true
   some-on ne = any-some (z .enabled) (λ e. ne (R .enabled-is ∙ e))
@@ -64,7 +64,6 @@ module _ (n : ℕ) (z : LockState) (s : State) (regs cells log saved openers : L
           saved-size = R .saved-size;
           openers-size = R .openers-size;
           rows-is = omega (arith, R .rows-is);
-          steps-is = R .steps-is;
           barriers-is = omega (arith, R .barriers-is);
           reach-is = zeros-empty 0 (length cells) (length log) walked whole;
         },
@@ -98,7 +97,7 @@ pub barrier-counts : (n : ℕ) (s : State) → Counts s (barrierNext n s)
 unfolding barrierNext
 barrier-counts n s = by (eqb (s .mask) (2 ^ n - 1)) (eqb (s .mask) 0)
   where
-    by : (a b : Bool) → Counts s (cond a (next.Go (passedState s)) (cond b (next.Go (movedOn s 0)) (divergedNext n s)))
-    by true b = record { rows-one = refl; steps-some = omega arith; barriers-one = omega arith }
-    by false true = record { rows-one = refl; steps-some = omega arith; barriers-one = omega arith }
+    by : (a b : Bool) → Counts s (cond a (next.Go (passedState s)) (cond b (next.Go (movedOn s)) (divergedNext n s)))
+    by true b = record { rows-one = refl; since-one = omega arith; barriers-one = omega arith }
+    by false true = record { rows-one = refl; since-one = omega arith; barriers-one = omega arith }
     by false false = refl

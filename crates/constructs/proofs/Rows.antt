@@ -7,13 +7,12 @@ use native.Mathlib.Omega.{arith}
 use native.Mathlib.Decide.{ℕ-discrete}
 use borrow.Author.Tests.{eq-eqb, ne-eqb}
 use lib.Bits.{bitAnd}
-use lib.Count.{ones}
 use lib.ListN.{length, getD, set, length-set}
 use Rattle.spec.specs.Table.{Table, endOf}
-use Rattle.spec.specs.Mask.{Mask, maskWord, any, holding, minus, members}
+use Rattle.spec.specs.Mask.{Mask, maskWord, any, holding, minus}
 use Rattle.spec.specs.LockStep.{Saved, LockState, topMask, pop, topOpener, savedAtWhile, leaveOrStay, advance, countSteps, elseRow, endifRow, endwhileRow}
 use Rattle.spec.proofs.Laws.{minus-size, holding-size}
-use Rattle.masks.proofs.Words.{ones-are, any-none, any-some, word-minus}
+use Rattle.masks.proofs.Words.{any-none, any-some, word-minus}
 use Rattle.layout.specs.Memory.{Memory, holdingWord}
 use Rattle.layout.specs.declared.State.{State}
 use Rattle.layout.specs.Represents.{Saves, Represents, RoomForWhile, goneOn}
@@ -27,11 +26,6 @@ unfolding countSteps
 memory-stepped n m z regs cells log M =
     record { few = M .few; regs-are = M .regs-are; cells-are = M .cells-are; log-is = M .log-is }
 
--- how many step
-stepping : (m : Mask) (w : ℕ) → w ≡ maskWord m → ones w ≡ length (members m)
-unfolding members
-stepping m w q = ap ones q ∙ ones-are m 0
-
 -- IF and WHILE by the register that they test.
 abbrev pub ifOn : ℕ → LockState → LockState
 ifOn a s = advance (suc (s .row)) (holding a (s .enabled) (s .regs)) (record { opener = s .row; mask = s .enabled } ∷ s .saved) (countSteps (s .enabled) s)
@@ -41,11 +35,11 @@ whileOn a T s = leaveOrStay T (countSteps (s .enabled) s) (savedAtWhile (s .row)
 
 -- A row that goes on at row r with the mask m and the saved masks v, after the threads of w have stepped.
 module _ (n : ℕ) (z : LockState) (s : State) (regs cells log saved openers : List ℕ) (R : Represents n z s regs cells log saved openers) where
-  pub goes-on : (w : Mask) (r : ℕ) (m : Mask) (v : List Saved) (row mask depth k : ℕ) (saved′ openers′ : List ℕ) → row ≡ r → mask ≡ maskWord m
-      → length m ≡ n → depth ≡ length v → Saves n v saved′ openers′ → length saved′ ≡ 8 → length openers′ ≡ 8 → k ≡ length (members w)
-      → Represents n (advance r m v (countSteps w z)) (goneOn s row mask depth k) regs cells log saved′ openers′
+  pub goes-on : (w : Mask) (r : ℕ) (m : Mask) (v : List Saved) (row mask depth : ℕ) (saved′ openers′ : List ℕ) → row ≡ r → mask ≡ maskWord m
+      → length m ≡ n → depth ≡ length v → Saves n v saved′ openers′ → length saved′ ≡ 8 → length openers′ ≡ 8
+      → Represents n (advance r m v (countSteps w z)) (goneOn s row mask depth) regs cells log saved′ openers′
   unfolding advance countSteps
-  goes-on w r m v row mask depth k saved′ openers′ er em lm ed S ls lo ek =
+  goes-on w r m v row mask depth saved′ openers′ er em lm ed S ls lo =
       record {
         memory = memory-advance n r m v (countSteps w z) regs cells log (memory-stepped n w z regs cells log (R .memory));
         row-is = er;
@@ -56,7 +50,6 @@ module _ (n : ℕ) (z : LockState) (s : State) (regs cells log saved openers : L
         saved-size = ls;
         openers-size = lo;
         rows-is = omega (arith, R .rows-is);
-        steps-is = omega (arith, R .steps-is, ek);
         barriers-is = R .barriers-is;
         reach-is = R .reach-is;
       }
@@ -68,18 +61,15 @@ module _ (n : ℕ) (z : LockState) (s : State) (regs cells log saved openers : L
   held : (a : ℕ) → a < 16 → holdingWord (s .mask) a regs ≡ maskWord (holding a (z .enabled) (z .regs))
   held a l = holding-means a regs n (z .regs) (R .memory .regs-are) l (s .mask) (z .enabled) (R .memory .few) (R .enabled-is) (R .enabled-size)
 
-  stepped : ones (s .mask) ≡ length (members (z .enabled))
-  stepped = stepping (z .enabled) (s .mask) (R .enabled-is)
-
   pub if-done : (a : ℕ) → a < 16 → s .depth < 8
       → Represents n (ifOn a z) (ifState a regs s) regs cells log (set saved (s .depth) (s .mask)) (set openers (s .depth) (s .row))
   if-done a l l8 =
       goes-on (z .enabled) (suc (z .row)) (holding a (z .enabled) (z .regs)) (record { opener = z .row; mask = z .enabled } ∷ z .saved) (s .row + 1)
-      (holdingWord (s .mask) a regs) (s .depth + 1) (ones (s .mask)) (set saved (s .depth) (s .mask)) (set openers (s .depth) (s .row))
+      (holdingWord (s .mask) a regs) (s .depth + 1) (set saved (s .depth) (s .mask)) (set openers (s .depth) (s .row))
       next-row (held a l) (holding-size a (z .enabled) (z .regs) ∙ R .enabled-size) (omega (arith, R .depth-is))
       (saves-push n (z .saved) saved openers (s .depth) (s .mask) (s .row) (z .row) (z .enabled) (R .saved-size) (R .openers-size) (R .depth-is) l8
       (R .enabled-is) (R .enabled-size) (R .row-is) (R .saves))
-      (length-set saved (s .depth) (s .mask) ∙ R .saved-size) (length-set openers (s .depth) (s .row) ∙ R .openers-size) stepped
+      (length-set saved (s .depth) (s .mask) ∙ R .saved-size) (length-set openers (s .depth) (s .row) ∙ R .openers-size)
 
   module _ (l : 0 < s .depth) where
     top-is : topWord s saved ≡ maskWord (topMask (z .saved))
@@ -93,27 +83,27 @@ module _ (n : ℕ) (z : LockState) (s : State) (regs cells log saved openers : L
     else-done l8 =
         goes-on (z .enabled) (suc (z .row)) (minus (topMask (z .saved)) (z .enabled))
         (record { opener = z .row; mask = topMask (z .saved) } ∷ pop (z .saved)) (s .row + 1) (bitAnd (topWord s saved) (4294967295 - s .mask)) (s .depth)
-        (ones (s .mask)) saved (set openers (s .depth - 1) (s .row))
+        saved (set openers (s .depth - 1) (s .row))
         next-row
         (ap₂ (λ x y. bitAnd x (4294967295 - y)) top-is (R .enabled-is)
         ∙ word-minus (topMask (z .saved)) (z .enabled) 32 (omega (arith, top-long, R .memory .few)) (omega (arith, R .memory .few, R .enabled-size)))
         (minus-size (topMask (z .saved)) (z .enabled) ∙ top-long) (anew-length (z .saved) (s .depth) (z .row) (R .depth-is) l)
         (saves-anew n (z .saved) saved openers (s .depth) (s .row) (z .row) (R .openers-size) (R .depth-is) l l8 (R .row-is) (R .saves))
-        (R .saved-size) (length-set openers (s .depth - 1) (s .row) ∙ R .openers-size) stepped
+        (R .saved-size) (length-set openers (s .depth - 1) (s .row) ∙ R .openers-size)
 
     pub endif-done : Represents n (endifRow z) (endifState saved s) regs cells log saved openers
     unfolding endifRow
     endif-done =
         goes-on (topMask (z .saved)) (suc (z .row)) (topMask (z .saved)) (pop (z .saved)) (s .row + 1) (topWord s saved) (s .depth - 1)
-        (ones (topWord s saved)) saved openers next-row top-is top-long (pop-length n (z .saved) (s .depth) (R .depth-is) l)
-        (saves-pop n (z .saved) saved openers (R .saves)) (R .saved-size) (R .openers-size) (stepping (topMask (z .saved)) (topWord s saved) top-is)
+        saved openers next-row top-is top-long (pop-length n (z .saved) (s .depth) (R .depth-is) l)
+        (saves-pop n (z .saved) saved openers (R .saves)) (R .saved-size) (R .openers-size)
 
     pub endwhile-done : Represents n (endwhileRow z) (endwhileState openers s) regs cells log saved openers
     unfolding endwhileRow
     endwhile-done =
-        goes-on (z .enabled) (topOpener (z .saved)) (z .enabled) (z .saved) (topWord s openers) (s .mask) (s .depth) (ones (s .mask)) saved openers
+        goes-on (z .enabled) (topOpener (z .saved)) (z .enabled) (z .saved) (topWord s openers) (s .mask) (s .depth) saved openers
         (saves-back n (z .saved) saved openers (s .depth) (R .depth-is) l (R .saves)) (R .enabled-is) (R .enabled-size) (R .depth-is)
-        (R .saves) (R .saved-size) (R .openers-size) stepped
+        (R .saves) (R .saved-size) (R .openers-size)
 
   -- WHILE, whose ENDWHILE is at row e
   module _ (T : Table) (a e : ℕ) (l : a < 16) (room : RoomForWhile s openers) (ee : e ≡ endOf T (z .row)) where
@@ -150,11 +140,11 @@ module _ (n : ℕ) (z : LockState) (s : State) (regs cells log saved openers : L
         by : Dec (holdingWord (s .mask) a regs ≡ 0) → Represents n (whileOn a T z) (whileState a e regs s saved openers) regs cells log saved′ openers′
         by (yes q) =
             rw (eq-eqb (holdingWord (s .mask) a regs) 0 q, whiled-at false (any-none holds (sym (held a l) ∙ q)))
-            (goes-on (z .enabled) (suc (endOf T (z .row))) (topMask masks) (pop masks) (e + 1) (getD saved′ (d - 1) 0) (d - 1) (ones (s .mask)) saved′ openers′
+            (goes-on (z .enabled) (suc (endOf T (z .row))) (topMask masks) (pop masks) (e + 1) (getD saved′ (d - 1) 0) (d - 1) saved′ openers′
             (omega (arith, ee)) (saves-top n masks saved′ openers′ d (there .1) (there .0) (there .2))
             (top-size n masks saved′ openers′ d (there .1) (there .0) (there .2)) (pop-length n masks d (there .1) (there .0))
-            (saves-pop n masks saved′ openers′ (there .2)) (there .3) (there .4) stepped)
+            (saves-pop n masks saved′ openers′ (there .2)) (there .3) (there .4))
         by (no q) =
             rw (ne-eqb (holdingWord (s .mask) a regs) 0 q, whiled-at true (any-some holds (λ f. q (held a l ∙ f))))
-            (goes-on (z .enabled) (suc (z .row)) holds masks (s .row + 1) (holdingWord (s .mask) a regs) d (ones (s .mask)) saved′ openers′ next-row (held a l)
-            (holding-size a (z .enabled) (z .regs) ∙ R .enabled-size) (there .1) (there .2) (there .3) (there .4) stepped)
+            (goes-on (z .enabled) (suc (z .row)) holds masks (s .row + 1) (holdingWord (s .mask) a regs) d saved′ openers′ next-row (held a l)
+            (holding-size a (z .enabled) (z .regs) ∙ R .enabled-size) (there .1) (there .2) (there .3) (there .4))

@@ -4,7 +4,7 @@ use mathlib.Core.List.{List}
 use Prim.Native.Nat.{ℕ, _+_, _-_, _^_}
 use borrow.Author.Tests.{eq-eqb, ne-eqb}
 use lib.Bits.{bitAnd}
-use lib.Count.{ones, trailingZeros}
+use lib.Count.{trailingZeros}
 use lib.ListN.{getD, set}
 use Rattle.spec.specs.declared.Verdict.the-variants.{Diverged}
 use Rattle.spec.specs.Log.{cellsCleared}
@@ -12,25 +12,23 @@ use Rattle.layout.specs.declared.State.{State}
 use Rattle.layout.specs.declared.Next.the-variants as next
 use Rattle.layout.specs.Memory.{holdingWord}
 use Rattle.layout.specs.Represents.{Counted, goneOn, movedOn}
-use Rattle.layout.specs.Constructs.{ifState, elseState, endifState, whileDepth, whileState, endwhileState, constructState, saving, savedAfter}
+use Rattle.layout.specs.Constructs.{ifState, elseState, endifState, whileState, endwhileState, constructState, saving, savedAfter}
 use Rattle.layout.specs.Constructs.{openersAfter, EnteredWhile, ConstructDone, passedState, barrierNext, barrierLog}
 
 -- WHILE, by whether a thread holds.
 module _ (s : State) (saved openers : List ℕ) {d : ℕ} {saved′ openers′ : List ℕ} (E : EnteredWhile d s saved openers saved′ openers′)
-    (a e : ℕ) (regs : List ℕ) (h k : ℕ) (eh : h ≡ holdingWord (s .mask) a regs) (ek : k ≡ ones (s .mask)) where
-  pub while-left : h ≡ 0 → goneOn s (e + 1) (getD saved′ (d - 1) 0) (d - 1) k ≡ whileState a e regs s saved openers
+    (a e : ℕ) (regs : List ℕ) (h : ℕ) (eh : h ≡ holdingWord (s .mask) a regs) where
+  pub while-left : h ≡ 0 → goneOn s (e + 1) (getD saved′ (d - 1) 0) (d - 1) ≡ whileState a e regs s saved openers
   unfolding whileState
   while-left z =
       rw (eq-eqb (holdingWord (s .mask) a regs) 0 (sym eh ∙ z))
-      (ap₂ (λ (x : List ℕ) (y : ℕ). goneOn s (e + 1) (getD x (y - 1) 0) (y - 1) k) (E .saved-are) (E .depth-is)
-      ∙ ap (goneOn s (e + 1) (getD (savedAfter 35 s saved openers) (whileDepth s openers - 1) 0) (whileDepth s openers - 1)) ek)
+      (ap₂ (λ (x : List ℕ) (y : ℕ). goneOn s (e + 1) (getD x (y - 1) 0) (y - 1)) (E .saved-are) (E .depth-is))
 
-  pub while-stayed : (h ≡ 0 → ⊥) → goneOn s (s .row + 1) h d k ≡ whileState a e regs s saved openers
+  pub while-stayed : (h ≡ 0 → ⊥) → goneOn s (s .row + 1) h d ≡ whileState a e regs s saved openers
   unfolding whileState
   while-stayed ne =
       rw (ne-eqb (holdingWord (s .mask) a regs) 0 (λ z. ne (eh ∙ z)))
-      (ap₂ (λ (x y : ℕ). goneOn s (s .row + 1) x y k) eh (E .depth-is)
-      ∙ ap (goneOn s (s .row + 1) (holdingWord (s .mask) a regs) (whileDepth s openers)) ek)
+      (ap₂ (λ (x y : ℕ). goneOn s (s .row + 1) x y) eh (E .depth-is))
 
 -- A construct's row, by its op.
 module _ (op a e : ℕ) (regs : List ℕ) (s : State) (saved openers : List ℕ) {r : State} {saved′ openers′ : List ℕ} where
@@ -72,7 +70,7 @@ module _ (n : ℕ) (s : State) (k : ℕ) (log : List ℕ) where
   unfolding barrierNext barrierLog
   barrier-all e el = rw (eq-eqb (s .mask) (2 ^ n - 1) e) (refl, el)
 
-  pub barrier-none : {r : State} → (s .mask ≡ 2 ^ n - 1 → ⊥) → s .mask ≡ 0 → r ≡ movedOn s 0 → (next.Go r ≡ barrierNext n s) × (log ≡ barrierLog n s k log)
+  pub barrier-none : {r : State} → (s .mask ≡ 2 ^ n - 1 → ⊥) → s .mask ≡ 0 → r ≡ movedOn s → (next.Go r ≡ barrierNext n s) × (log ≡ barrierLog n s k log)
   unfolding barrierNext barrierLog
   barrier-none ne z er = rw (ne-eqb (s .mask) (2 ^ n - 1) ne, eq-eqb (s .mask) 0 z) (ap next.Go er, refl)
 

@@ -30,7 +30,7 @@ fn if_row(
         mask: h,
         depth: depth + 1,
         rows: s.rows + 1,
-        steps: s.steps + masks::count(mask),
+        since: s.since + 1,
         barriers: s.barriers,
     }
 }
@@ -51,7 +51,7 @@ fn else_row(saved: &[u32; 8], openers: &mut [usize; 8], s: layout::State) -> lay
         mask: masks::minus(m, mask),
         depth: depth,
         rows: s.rows + 1,
-        steps: s.steps + masks::count(mask),
+        since: s.since + 1,
         barriers: s.barriers,
     }
 }
@@ -68,7 +68,7 @@ fn endif_row(saved: &[u32; 8], s: layout::State) -> layout::State
         mask: m,
         depth: depth - 1,
         rows: s.rows + 1,
-        steps: s.steps + masks::count(m),
+        since: s.since + 1,
         barriers: s.barriers,
     }
 }
@@ -106,7 +106,6 @@ fn while_row(
     let row = s.row;
     let mask = s.mask;
     let depth = enter_while(saved, openers, s);
-    let k = masks::count(mask);
     let h = truth::holding(regs, mask, a);
     if h == 0 {
         let m = saved[depth - 1];
@@ -116,7 +115,7 @@ fn while_row(
             mask: m,
             depth: depth - 1,
             rows: s.rows + 1,
-            steps: s.steps + k,
+            since: s.since + 1,
             barriers: s.barriers,
         };
     }
@@ -126,7 +125,7 @@ fn while_row(
         mask: h,
         depth: depth,
         rows: s.rows + 1,
-        steps: s.steps + k,
+        since: s.since + 1,
         barriers: s.barriers,
     }
 }
@@ -142,7 +141,7 @@ fn endwhile_row(openers: &[usize; 8], s: layout::State) -> layout::State
         mask: s.mask,
         depth: depth,
         rows: s.rows + 1,
-        steps: s.steps + masks::count(s.mask),
+        since: s.since + 1,
         barriers: s.barriers,
     }
 }
@@ -168,9 +167,10 @@ pub fn construct_row(
     }
 }
 
-pub fn moved(s: layout::State, k: u32) -> layout::State
-    requires { ⌜ Room s × (k ≤ 32) ⌝ }
-    ensures { λ r. ⌜ r ≡ movedOn s k ⌝ }
+// On at the next row, after one more step of each enabled thread.
+pub fn moved(s: layout::State) -> layout::State
+    requires { ⌜ Room s ⌝ }
+    ensures { λ r. ⌜ r ≡ movedOn s ⌝ }
 {
     layout::State {
         reach: s.reach,
@@ -178,7 +178,7 @@ pub fn moved(s: layout::State, k: u32) -> layout::State
         mask: s.mask,
         depth: s.depth,
         rows: s.rows + 1,
-        steps: s.steps + k,
+        since: s.since + 1,
         barriers: s.barriers,
     }
 }
@@ -198,12 +198,12 @@ pub fn barrier_row(log: &mut [u32], cells: usize, n: u32, s: layout::State) -> l
             mask: mask,
             depth: s.depth,
             rows: s.rows + 1,
-            steps: s.steps,
+            since: s.since,
             barriers: s.barriers + 1,
         });
     }
     if mask == 0 {
-        return layout::Next::Go(moved(s, 0));
+        return layout::Next::Go(moved(s));
     }
     layout::Next::Stop(
         spec::Verdict::Diverged(masks::lowest(mask), masks::lowest(masks::minus(all, mask))),

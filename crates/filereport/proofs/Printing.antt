@@ -20,7 +20,7 @@ use Rattle.spec.proofs.Laws.{front-of}
 use Rattle.readback.proofs.Runs.{file-readable, report-demand3}
 use Rattle.reportlines.proofs.Writing.{over-length}
 use Rattle.report.specs.Subjects.{FitsOutput}
-use Rattle.report.proofs.Entry.{no-cells-asked, fitting}
+use Rattle.report.proofs.Entry.{no-lines-asked, fitting}
 
 -- The two cases of an answer.
 abbrev sizeIn : Written → Option ℕ
@@ -42,27 +42,27 @@ over-fits : (w xs l : List ℕ) → l ≡ over w xs → length l ≡ length xs �
 unfolding over
 over-fits w xs l e h = omega (arith, h, ap length e, length-append w (drop (length w) xs), length-drop (length w) xs)
 
--- The report of a refusal: it is asked for no cells, and it has room.
-module _ (why : Refusal) (number place : ℕ) (en : number ≡ refusalNumber why) (ep : place ≡ refusalPlace why) (cells output out : List ℕ)
+-- The report of a refusal: it is asked for no steps and no cells, and it has room.
+module _ (why : Refusal) (number place : ℕ) (en : number ≡ refusalNumber why) (ep : place ≡ refusalPlace why) (steps cells output out : List ℕ)
     (r : Written) (room : 17408 ≤ length output) where
   abbrev text : List ℕ
   text = refusalReport (refusalNumber why) (refusalPlace why)
 
   abbrev Told : Type 0
   Told =
-      (r ≡ writerAnswer (subject.Refused number place) cells output)
-      × ((out ≡ writerBuffer (subject.Refused number place) cells output) × FitsOutput (subject.Refused number place) cells)
+      (r ≡ writerAnswer (subject.Refused number place) steps cells output)
+      × ((out ≡ writerBuffer (subject.Refused number place) steps cells output) × FitsOutput (subject.Refused number place) steps cells)
 
-  same-text : reportOf (subject.Refused number place) cells ≡ text
+  same-text : reportOf (subject.Refused number place) steps cells ≡ text
   unfolding reportOf
   same-text = ap₂ refusalReport en ep
 
   short : Told → length text ≤ 17408
-  short t = omega (arith, ap length same-text, t .1 .1 (no-cells-asked number place cells))
+  short t = omega (arith, ap length same-text, t .1 .1 (no-lines-asked number place steps cells))
 
-  taken : Told → writerRefusal (subject.Refused number place) cells output ≡ none
+  taken : Told → writerRefusal (subject.Refused number place) steps cells output ≡ none
   taken t =
-      fitting (subject.Refused number place) cells output (length text) (no-cells-asked number place cells) (ap length (sym same-text)) (omega (arith, short t))
+      fitting (subject.Refused number place) steps cells output (length text) (no-lines-asked number place steps cells) (ap length (sym same-text)) (omega (arith, short t))
 
   wrote : Told → r ≡ Wrote (length text)
   unfolding writerAnswer writtenOf

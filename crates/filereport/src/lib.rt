@@ -19,7 +19,7 @@ fn report_refusal(why: Refusal, output: &mut [u8]) -> usize
     let told = refusals::words(why);
     let subject = Subject::Refused(told[0], told[1]);
     let none: [u32; 0] = [];
-    match report::write_report(subject, &none, output) {
+    match report::write_report(subject, &none, &none, output) {
         Written::Wrote(size) => size,
         // A refusal's report has room.
         Written::Refused(short) => 0,

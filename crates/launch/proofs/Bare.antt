@@ -6,7 +6,7 @@ use Prim.Native.Nat.{ℕ, _*_, _/_, _%_, _≤_}
 use native.Mathlib.Omega.{arith}
 use borrow.Author.Tests.{eqb-true, leb-true}
 use lib.Dec.{leb}
-use lib.ListN.{length}
+use lib.ListN.{length, replicate}
 use Rattle.spec.specs.Limits.{logPerCell}
 use Rattle.spec.specs.declared.Refusal.{Refusal}
 use Rattle.spec.specs.declared.Outcome.{Outcome}
@@ -17,7 +17,7 @@ use Rattle.spec.specs.Table.{rowsOf}
 use Rattle.spec.specs.TableCheck.{tableRefusal}
 use Rattle.spec.specs.Log.{logWords}
 use Rattle.spec.specs.LockStep.{lockstep, outcomeOf}
-use Rattle.spec.specs.Entries.{bareNumbers, bareLent, bareRefusal, bareRun, answerOf, keptIf, bareAnswer, bareCells, bareLog}
+use Rattle.spec.specs.Entries.{bareNumbers, bareLent, bareRefusal, bareRun, answerOf, keptIf, bareAnswer, bareCells, bareLog, bareSteps, over}
 use Rattle.spec.specs.Demands.{BareDemand3}
 use Rattle.structure.proofs.Refusals.{unless-none, orElse-none}
 use Rattle.allruns.proofs.Bools.{and-left, and-right}
@@ -64,40 +64,42 @@ lent-is cells held logged e =
     let b = orElse-none _ _ .0 (a .1) in
     (eqb-true _ _ (unless-none _ _ .0 (a .0)), eqb-true _ _ (unless-none _ _ .0 (b .0)))
 
-module _ (table : List ℕ) (threads count limit : ℕ) (cells log : List ℕ) where
+module _ (table : List ℕ) (threads count limit : ℕ) (cells log steps : List ℕ) where
   abbrev refusal : Option Refusal
   refusal = bareRefusal table threads count limit cells log
 
   -- the answer, by its case and by number and place, the buffers, and what the answer says of every run
-  abbrev pub Entry : Answer → (cells′ log′ : List ℕ) → Type 0
-  Entry r cells′ log′ =
+  abbrev pub Entry : Answer → (cells′ log′ steps′ : List ℕ) → Type 0
+  Entry r cells′ log′ steps′ =
       (r ≡ bareAnswer table threads count limit cells log)
       × ((toldBy r ≡ told (bareRefusal table threads count limit cells log))
       × ((cells′ ≡ bareCells table threads count limit cells log)
-      × ((log′ ≡ bareLog table threads count limit cells log) × BareDemand3 table threads limit cells r cells′)))
+      × ((log′ ≡ bareLog table threads count limit cells log)
+      × ((steps′ ≡ bareSteps table threads count limit cells log steps) × BareDemand3 table threads limit cells r cells′ steps′))))
 
   told-by : (x : Option Refusal) (o : Outcome) → toldBy (answerOf x o) ≡ told x
   unfolding answerOf toldBy told
   told-by none o = refl
   told-by (some why) o = refl
 
-  entry : (r : Answer) (cells′ log′ : List ℕ) → r ≡ bareAnswer table threads count limit cells log → cells′ ≡ bareCells table threads count limit cells log
-      → log′ ≡ bareLog table threads count limit cells log → Entry r cells′ log′
+  entry : (r : Answer) (cells′ log′ steps′ : List ℕ) → r ≡ bareAnswer table threads count limit cells log → cells′ ≡ bareCells table threads count limit cells log
+      → log′ ≡ bareLog table threads count limit cells log → steps′ ≡ bareSteps table threads count limit cells log steps → Entry r cells′ log′ steps′
   unfolding bareAnswer
-  entry r cells′ log′ a c l = (
+  entry r cells′ log′ steps′ a c l s = (
     a,
     (
       ap toldBy a ∙ told-by refusal _,
-      (c, (l, rw (a, c) (bare-demand3 table threads count limit cells log))),
+      (c, (l, (s, rw (a, c, s) (bare-demand3 table threads count limit cells log steps)))),
     ),
   )
 
-  refused : (why : Refusal) → refusal ≡ some why → Entry (answer.Refused why) cells log
-  unfolding bareAnswer bareCells bareLog answerOf keptIf
+  refused : (why : Refusal) → refusal ≡ some why → Entry (answer.Refused why) cells log steps
+  unfolding bareAnswer bareCells bareLog bareSteps answerOf keptIf
   refused why e =
-      entry (answer.Refused why) cells log (sym (ap (λ x. answerOf x (outcomeOf (bareRun table threads limit cells))) e))
+      entry (answer.Refused why) cells log steps (sym (ap (λ x. answerOf x (outcomeOf (bareRun table threads limit cells))) e))
       (sym (ap (λ x. keptIf x cells (bareRun table threads limit cells .state .cells)) e))
       (sym (ap (λ x. keptIf x log (logWords (bareRun table threads limit cells .state .log))) e))
+      (sym (ap (λ x. keptIf x steps (over (bareRun table threads limit cells .state .steps) (replicate 32 0))) e))
 
   abbrev byNumbers : Option Refusal
   byNumbers = bareNumbers (length table) threads count limit
@@ -108,23 +110,24 @@ module _ (table : List ℕ) (threads count limit : ℕ) (cells log : List ℕ) w
   abbrev byState : Option Refusal
   byState = bareLent count (length cells) (length log)
 
-  pub numbers-refuse : (why : Refusal) → byNumbers ≡ some why → Entry (answer.Refused why) cells log
+  pub numbers-refuse : (why : Refusal) → byNumbers ≡ some why → Entry (answer.Refused why) cells log steps
   unfolding bareRefusal
   numbers-refuse why e = refused why (found byNumbers why _ e)
 
-  pub table-refuses : (why : Refusal) → byNumbers ≡ none → byTable ≡ some why → Entry (answer.Refused why) cells log
+  pub table-refuses : (why : Refusal) → byNumbers ≡ none → byTable ≡ some why → Entry (answer.Refused why) cells log steps
   unfolding bareRefusal
   table-refuses why n e = refused why (passed byNumbers _ n ∙ found byTable why _ e)
 
-  pub state-refuses : (why : Refusal) → byNumbers ≡ none → byTable ≡ none → byState ≡ some why → Entry (answer.Refused why) cells log
+  pub state-refuses : (why : Refusal) → byNumbers ≡ none → byTable ≡ none → byState ≡ some why → Entry (answer.Refused why) cells log steps
   unfolding bareRefusal
   state-refuses why n t e = refused why (passed byNumbers _ n ∙ passed byTable _ t ∙ found byState why _ e)
 
-  pub ran : (o : Outcome) (cells′ log′ : List ℕ) → byNumbers ≡ none → byTable ≡ none → byState ≡ none
-      → RunIs (lockstep (rowsOf table) threads cells limit) o cells′ log′ → Entry (answer.Ran o) cells′ log′
-  unfolding bareRefusal bareAnswer bareCells bareLog answerOf keptIf bareRun
-  ran o cells′ log′ n t s R =
+  pub ran : (o : Outcome) (cells′ log′ steps′ : List ℕ) → byNumbers ≡ none → byTable ≡ none → byState ≡ none
+      → RunIs (lockstep (rowsOf table) threads cells limit) o cells′ log′ steps′ → Entry (answer.Ran o) cells′ log′ steps′
+  unfolding bareRefusal bareAnswer bareCells bareLog bareSteps answerOf keptIf bareRun
+  ran o cells′ log′ steps′ n t s R =
       let e : refusal ≡ none = passed byNumbers _ n ∙ passed byTable _ t ∙ passed byState _ s ∙ ends in
-      entry (answer.Ran o) cells′ log′ (ap answer.Ran (R .outcome-is) ∙ sym (ap (λ x. answerOf x (outcomeOf (bareRun table threads limit cells))) e))
+      entry (answer.Ran o) cells′ log′ steps′ (ap answer.Ran (R .outcome-is) ∙ sym (ap (λ x. answerOf x (outcomeOf (bareRun table threads limit cells))) e))
       (R .cells-are ∙ sym (ap (λ x. keptIf x cells (bareRun table threads limit cells .state .cells)) e))
       (R .log-is ∙ sym (ap (λ x. keptIf x log (logWords (bareRun table threads limit cells .state .log))) e))
+      (R .counts-are ∙ sym (ap (λ x. keptIf x steps (over (bareRun table threads limit cells .state .steps) (replicate 32 0))) e))

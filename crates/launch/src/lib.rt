@@ -1,13 +1,13 @@
-// The bare launch: a table, its launch's numbers, and lent cells and log.
+// The bare launch: a table, its launch's numbers, and lent cells, log and step counts.
 use admission::Admission;
 use spec::Answer;
 ghost use mathlib.Core.Path.{_≡_};
 ghost use Rattle.spec.specs.Answers.{told, toldBy};
-ghost use Rattle.spec.specs.Entries.{bareRefusal, bareAnswer, bareCells, bareLog};
+ghost use Rattle.spec.specs.Entries.{bareRefusal, bareAnswer, bareCells, bareLog, bareSteps};
 ghost use Rattle.spec.specs.Demands.{BareDemand3};
 
 // The entry for whoever has a table without a file: `count` is the number of cells, which are lent in `cells`
-// with the launch's words. A refusal leaves both buffers as they were lent.
+// with the launch's words. `steps` gets the steps of each thread, 0 behind the last one. A refusal leaves all three as they were lent.
 pub fn bare_launch(
     table: &[u8],
     threads: u32,
@@ -15,12 +15,14 @@ pub fn bare_launch(
     limit: u32,
     cells: &mut [u32],
     log: &mut [u32],
+    steps: &mut [u32; 32],
 ) -> Answer
     ensures answer { λ r. ⌜ r ≡ bareAnswer (now (table .entry)) threads count limit (now (cells .entry)) (now (log .entry)) ⌝ }
     ensures refusal { λ r. ⌜ toldBy r ≡ told (bareRefusal (now (table .entry)) threads count limit (now (cells .entry)) (now (log .entry))) ⌝ }
     ensures cells { λ _. ⌜ now (cells .exit) ≡ bareCells (now (table .entry)) threads count limit (now (cells .entry)) (now (log .entry)) ⌝ }
     ensures log { λ _. ⌜ now (log .exit) ≡ bareLog (now (table .entry)) threads count limit (now (cells .entry)) (now (log .entry)) ⌝ }
-    ensures runs { λ r. ⌜ BareDemand3 (now (table .entry)) threads limit (now (cells .entry)) r (now (cells .exit)) ⌝ }
+    ensures steps { λ _. ⌜ now (steps .exit) ≡ bareSteps (now (table .entry)) threads count limit (now (cells .entry)) (now (log .entry)) (now (steps .entry)) ⌝ }
+    ensures runs { λ r. ⌜ BareDemand3 (now (table .entry)) threads limit (now (cells .entry)) r (now (cells .exit)) (now (steps .exit)) ⌝ }
 {
     match admission::numbers(table.len(), threads, count, limit) {
         Admission::Refused(why) => return Answer::Refused(why),
@@ -37,5 +39,5 @@ pub fn bare_launch(
         Admission::Refused(why) => return Answer::Refused(why),
         Admission::Accepted => {}
     }
-    Answer::Ran(run::run(table, &ends, threads, limit, cells, log))
+    Answer::Ran(run::run(table, &ends, threads, limit, cells, log, steps))
 }

@@ -12,17 +12,25 @@ use Rattle.layout.specs.declared.State.{State}
 use Rattle.layout.specs.declared.Next.{Next}
 use Rattle.layout.specs.Memory.{Memory, Kept, Did}
 use Rattle.layout.specs.Logging.{EmptyAbove}
-use Rattle.layout.specs.Represents.{Saves, Represents, After, Counted, Counts, goneOn, movedOn, heldBack, reached, accessed}
+use Rattle.layout.specs.Represents.{Saves, Represents, After, Counted, Counts, goneOn, movedOn, withSince, reached, accessed}
 
-pub counted-gone : (s : State) (row mask depth k : ℕ) → k ≤ 32 → Counted s (goneOn s row mask depth k)
-counted-gone s row mask depth k h = record { rows-one = refl; steps-some = omega arith; barriers-one = omega arith }
+pub counted-gone : (s : State) (row mask depth : ℕ) → Counted s (goneOn s row mask depth)
+counted-gone s row mask depth = record { rows-one = refl; since-one = omega arith; barriers-one = omega arith }
 
-pub counted-moved : (s r : State) (k : ℕ) → r ≡ movedOn s k → k ≤ 32 → Counted s r
-counted-moved s r k e h = subst (Counted s) (sym e) (counted-gone s (s .row + 1) (s .mask) (s .depth) k h)
+pub counted-moved : (s r : State) → r ≡ movedOn s → Counted s r
+counted-moved s r e = subst (Counted s) (sym e) (counted-gone s (s .row + 1) (s .mask) (s .depth))
 
-pub counts-accessed : (s : State) (g : ℕ) (r : Next) (a : Access) (k : ℕ) → r ≡ accessed (reached s g) a k → k ≤ 32 → Counts s r
-counts-accessed s g r Done k e h = subst (Counts s) (sym e) (record { rows-one = refl; steps-some = omega arith; barriers-one = omega arith })
-counts-accessed s g r (Stop v) k e h = subst (Counts s) (sym e) refl
+pub counted-settled : (s z r : State) → Counted s z → r ≡ withSince z (r .since) → r .since ≤ z .since → Counted s r
+counted-settled s z r C e h =
+    record {
+      rows-one = ap (λ x. x .rows) e ∙ C .rows-one;
+      since-one = omega (arith, C .since-one);
+      barriers-one = subst (λ b. b ≤ s .barriers + 1) (sym (ap (λ x. x .barriers) e)) (C .barriers-one);
+    }
+
+pub counts-accessed : (s : State) (g : ℕ) (r : Next) (a : Access) → r ≡ accessed (reached s g) a → Counts s r
+counts-accessed s g r Done e = subst (Counts s) (sym e) (record { rows-one = refl; since-one = omega arith; barriers-one = omega arith })
+counts-accessed s g r (Stop v) e = subst (Counts s) (sym e) refl
 
 pub memory-advance : (n r : ℕ) (m : Mask) (v : List Saved) (z : LockState) (regs cells log : List ℕ) → Memory n z regs cells log
     → Memory n (advance r m v z) regs cells log
@@ -31,11 +39,11 @@ memory-advance n r m v z regs cells log M = record { few = M .few; regs-are = M 
 
 module _ (n : ℕ) (z : LockState) (s : State) (regs cells log saved openers : List ℕ) (R : Represents n z s regs cells log saved openers) where
   -- after the threads of a plain row
-  pub moves-on : (k : ℕ) (y : LockState) (regs′ cells′ log′ : List ℕ) → Kept k z y → Memory n y regs′ cells′ log′
+  pub moves-on : (y : LockState) (regs′ cells′ log′ : List ℕ) → Kept z y → Memory n y regs′ cells′ log′
       → EmptyAbove (s .reach) (length cells′) log′
-      → Represents n (advance (suc (y .row)) (y .enabled) (y .saved) y) (movedOn s k) regs′ cells′ log′ saved openers
+      → Represents n (advance (suc (y .row)) (y .enabled) (y .saved) y) (movedOn s) regs′ cells′ log′ saved openers
   unfolding advance
-  moves-on k y regs′ cells′ log′ K M E =
+  moves-on y regs′ cells′ log′ K M E =
       record {
         memory = memory-advance n (suc (y .row)) (y .enabled) (y .saved) y regs′ cells′ log′ M;
         row-is = omega (arith, R .row-is, K .row-same);
@@ -46,15 +54,14 @@ module _ (n : ℕ) (z : LockState) (s : State) (regs cells log saved openers : L
         saved-size = R .saved-size;
         openers-size = R .openers-size;
         rows-is = omega (arith, R .rows-is, K .rows-same);
-        steps-is = ap (λ q. q + k) (R .steps-is) ∙ sym (K .steps-more);
         barriers-is = R .barriers-is ∙ sym (K .barriers-same);
         reach-is = E;
       }
 
-  pub stands : (k : ℕ) (y : LockState) (regs′ cells′ log′ : List ℕ) → Kept k z y → Memory n y regs′ cells′ log′
+  pub stands : (y : LockState) (regs′ cells′ log′ : List ℕ) → Kept z y → Memory n y regs′ cells′ log′
       → EmptyAbove (s .reach) (length cells′) log′
-      → Represents n y (heldBack s k) regs′ cells′ log′ saved openers
-  stands k y regs′ cells′ log′ K M E =
+      → Represents n y s regs′ cells′ log′ saved openers
+  stands y regs′ cells′ log′ K M E =
       record {
         memory = M;
         row-is = R .row-is ∙ sym (K .row-same);
@@ -65,18 +72,36 @@ module _ (n : ℕ) (z : LockState) (s : State) (regs cells log saved openers : L
         saved-size = R .saved-size;
         openers-size = R .openers-size;
         rows-is = R .rows-is ∙ sym (K .rows-same);
-        steps-is = ap (λ q. q + k) (R .steps-is) ∙ sym (K .steps-more);
         barriers-is = R .barriers-is ∙ sym (K .barriers-same);
         reach-is = E;
       }
 
-  pub plain-after : (f : LockState → ℕ → Step) (k : ℕ) (a : Access) (r : Next) (regs′ cells′ log′ : List ℕ)
-      → Did n k z (inTurn f (members (z .enabled)) z) a regs′ cells′ log′ → EmptyAbove (s .reach) (length cells′) log′ → r ≡ accessed s a k
+  pub plain-after : (f : LockState → ℕ → Step) (a : Access) (r : Next) (regs′ cells′ log′ : List ℕ)
+      → Did n z (inTurn f (members (z .enabled)) z) a regs′ cells′ log′ → EmptyAbove (s .reach) (length cells′) log′ → r ≡ accessed s a
       → After n (forEnabled f z) r regs′ cells′ log′ saved openers
   unfolding forEnabled
-  plain-after f k a r regs′ cells′ log′ D E e = by (inTurn f (members (z .enabled)) z) D
+  plain-after f a r regs′ cells′ log′ D E e = by (inTurn f (members (z .enabled)) z) D
     where
-      by : (x : Step) → Did n k z x a regs′ cells′ log′
+      by : (x : Step) → Did n z x a regs′ cells′ log′
           → After n (andThen x (λ y. continues (advance (suc (y .row)) (y .enabled) (y .saved) y))) r regs′ cells′ log′ saved openers
-      by (continues y) D = unfold andThen in (movedOn s k, e ∙ ap (λ b. accessed s b k) (D .answer), moves-on k y regs′ cells′ log′ (D .kept) (D .memory) E)
-      by (stops v y) D = unfold andThen in (heldBack s k, e ∙ ap (λ b. accessed s b k) (D .answer), stands k y regs′ cells′ log′ (D .kept) (D .memory) E)
+      by (continues y) D = unfold andThen in (movedOn s, e ∙ ap (λ b. accessed s b) (D .answer), moves-on y regs′ cells′ log′ (D .kept) (D .memory) E)
+      by (stops v y) D = unfold andThen in (s, e ∙ ap (λ b. accessed s b) (D .answer), stands y regs′ cells′ log′ (D .kept) (D .memory) E)
+
+  -- How far up the log was written may be said less exactly, and the steps that are not counted yet are no part of what stands.
+  pub stands-alike : (h k : ℕ) → EmptyAbove h (length cells) log
+      → Represents n z (record { reach = h; row = s .row; mask = s .mask; depth = s .depth; rows = s .rows; since = k; barriers = s .barriers })
+      regs cells log saved openers
+  stands-alike h k E =
+      record {
+        memory = R .memory;
+        row-is = R .row-is;
+        enabled-is = R .enabled-is;
+        enabled-size = R .enabled-size;
+        depth-is = R .depth-is;
+        saves = R .saves;
+        saved-size = R .saved-size;
+        openers-size = R .openers-size;
+        rows-is = R .rows-is;
+        barriers-is = R .barriers-is;
+        reach-is = E;
+      }

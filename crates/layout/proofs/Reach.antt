@@ -13,6 +13,7 @@ use Rattle.spec.specs.LockStep.{LockState}
 use Rattle.layout.specs.declared.State.{State}
 use Rattle.layout.specs.Logging.{modeOf, placeOf, enteredWords, EmptyAbove, SameAbove, SameBut}
 use Rattle.layout.specs.Represents.{Represents, reached}
+use Rattle.layout.proofs.PlainRows.{stands-alike}
 
 -- Numbers put together bit by bit are not above what comes out.
 pub or-left : (a b : ℕ) → a ≤ bitOr a b
@@ -59,17 +60,4 @@ zeros-empty h k n log e j l = ap (λ x. getD x j 0) e ∙ zeros n j
 pub reach-more : (n : ℕ) (z : LockState) (s : State) (h : ℕ) (regs cells log saved openers : List ℕ) → Represents n z s regs cells log saved openers
     → Represents n z (reached s h) regs cells log saved openers
 reach-more n z s h regs cells log saved openers R =
-    record {
-      memory = R .memory;
-      row-is = R .row-is;
-      enabled-is = R .enabled-is;
-      enabled-size = R .enabled-size;
-      depth-is = R .depth-is;
-      saves = R .saves;
-      saved-size = R .saved-size;
-      openers-size = R .openers-size;
-      rows-is = R .rows-is;
-      steps-is = R .steps-is;
-      barriers-is = R .barriers-is;
-      reach-is = λ j l. R .reach-is j (omega (arith, or-left (s .reach) h));
-    }
+    stands-alike n z s regs cells log saved openers R (bitOr (s .reach) h) (s .since) (λ j l. R .reach-is j (omega (arith, or-left (s .reach) h)))

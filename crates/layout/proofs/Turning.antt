@@ -5,27 +5,25 @@ use mathlib.Core.Bool.{true, false}
 use Prim.Native.Nat.{ℕ, suc, _+_, _/_, _%_, _<_, _≤_}
 use native.Mathlib.Omega.{arith}
 use lib.ListN.{length}
-use lib.Count.{ones}
 use Rattle.spec.specs.declared.Verdict.{Verdict}
 use Rattle.spec.specs.Mask.{Mask, maskWord, members, membersFrom}
 use Rattle.spec.specs.LockStep.{LockState, Step, continues, stops, inTurn, andThen}
-use Rattle.masks.proofs.Words.{word-half, word-odd, ones-are}
+use Rattle.masks.proofs.Words.{word-half, word-odd}
 use Rattle.layout.specs.declared.Access.{Access}
 use Rattle.layout.specs.declared.Access.the-variants.{Done, Stop}
-use Rattle.layout.specs.Memory.{Memory, Kept, Did, OneTurn, stepsOf}
+use Rattle.layout.specs.Memory.{Memory, Kept, Did, OneTurn}
 
-pub kept-none : (s : LockState) → Kept 0 s s
-kept-none s = record { row-same = refl; enabled-same = refl; saved-same = refl; rows-same = refl; barriers-same = refl; steps-more = omega arith }
+pub kept-none : (s : LockState) → Kept s s
+kept-none s = record { row-same = refl; enabled-same = refl; saved-same = refl; rows-same = refl; barriers-same = refl }
 
-pub kept-more : (j k : ℕ) (s y z : LockState) → Kept j s y → Kept k y z → Kept (j + k) s z
-kept-more j k s y z p q =
+pub kept-more : (s y z : LockState) → Kept s y → Kept y z → Kept s z
+kept-more s y z p q =
     record {
       row-same = q .row-same ∙ p .row-same;
       enabled-same = q .enabled-same ∙ p .enabled-same;
       saved-same = q .saved-same ∙ p .saved-same;
       rows-same = q .rows-same ∙ p .rows-same;
       barriers-same = q .barriers-same ∙ p .barriers-same;
-      steps-more = omega arith;
     }
 
 no-members : (m : Mask) (t : ℕ) → maskWord m ≡ 0 → membersFrom t m ≡ []
@@ -38,38 +36,24 @@ no-members (false ∷ m) t e = no-members m (suc t) (omega arith)
 pub record Turning (f : LockState → ℕ → Step) (n : ℕ) (s : LockState) (t m : ℕ) (regs cells log : List ℕ) : Type 0 where
   pub here : LockState
   pub rest : Mask
-  pub steps : ℕ
   pub mask : m ≡ maskWord rest
   pub left : t + length rest ≡ n
   pub same : inTurn f (membersFrom t rest) here ≡ inTurn f (members (s .enabled)) s
   pub memory : Memory n here regs cells log
-  pub kept : Kept steps s here
-  pub counted : steps + length (membersFrom t rest) ≡ length (members (s .enabled))
+  pub kept : Kept s here
 
 module _ (f : LockState → ℕ → Step) (n : ℕ) (s : LockState) where
   pub turn-start : (mask : ℕ) (regs cells log : List ℕ) → mask ≡ maskWord (s .enabled) → length (s .enabled) ≡ n → Memory n s regs cells log
       → Turning f n s 0 mask regs cells log
   unfolding members
   turn-start mask regs cells log e l M =
-      record { here = s; rest = s .enabled; steps = 0; mask = e; left = omega arith; same = refl; memory = M; kept = kept-none s; counted = omega arith }
+      record { here = s; rest = s .enabled; mask = e; left = omega arith; same = refl; memory = M; kept = kept-none s }
 
   module _ (t m : ℕ) (regs cells log : List ℕ) (C : Turning f n s t m regs cells log) where
-    -- the steps that were taken are the ones of the mask that are gone
-    pub turn-steps : (mask k : ℕ) → mask ≡ maskWord (s .enabled) → k + ones m ≡ ones mask → k ≡ C .steps
-    turn-steps mask k e c =
-        let all : ones mask ≡ length (members (s .enabled)) = unfold members in (ap ones e ∙ ones-are (s .enabled) 0) in
-        let left : ones m ≡ length (membersFrom t (C .rest)) = ap ones (C .mask) ∙ ones-are (C .rest) t in
-        omega (arith, C .counted)
-
     -- with nothing left of the mask all turns are made
-    pub turn-whole : (mask j : ℕ) → mask ≡ maskWord (s .enabled) → j ≡ ones mask → m ≡ 0 → Did n j s (inTurn f (members (s .enabled)) s) Done regs cells log
-    turn-whole mask j e ej z =
-        subst (λ i. Did n i s (inTurn f (members (s .enabled)) s) Done regs cells log) (sym (turn-steps mask j e gone))
-        (subst (λ o. Did n (C .steps) s o Done regs cells log) (sym made ∙ C .same) (record { answer = refl; memory = C .memory; kept = C .kept }))
+    pub turn-whole : m ≡ 0 → Did n s (inTurn f (members (s .enabled)) s) Done regs cells log
+    turn-whole z = subst (λ o. Did n s o Done regs cells log) (sym made ∙ C .same) (record { answer = refl; memory = C .memory; kept = C .kept })
       where
-        gone : j + ones m ≡ ones mask
-        gone = let none : ones m ≡ 0 = unfold ones in (ap ones z) in omega arith
-
         made : inTurn f (membersFrom t (C .rest)) (C .here) ≡ continues (C .here)
         made = unfold inTurn in (ap (λ ts. inTurn f ts (C .here)) (no-members (C .rest) t (sym (C .mask) ∙ z)))
 
@@ -81,78 +65,72 @@ module _ (f : LockState → ℕ → Step) (n : ℕ) (s : LockState) where
         by (b ∷ rest) l = absurd (omega arith)
 
     pub turn-out : t < n → (m % 2 ≡ 1 → ⊥) → Turning f n s (t + 1) (m / 2) regs cells log
-    turn-out h o = by (C .rest) (C .mask) (C .left) (C .same) (C .counted)
+    turn-out h o = by (C .rest) (C .mask) (C .left) (C .same)
       where
         by : (rest : Mask) → m ≡ maskWord rest → t + length rest ≡ n → inTurn f (membersFrom t rest) (C .here) ≡ inTurn f (members (s .enabled)) s
-            → C .steps + length (membersFrom t rest) ≡ length (members (s .enabled)) → Turning f n s (t + 1) (m / 2) regs cells log
-        by [] e l q c = absurd (omega arith)
-        by (true ∷ rest) e l q c = absurd (o (ap (λ z. z % 2) e ∙ word-odd true rest))
-        by (false ∷ rest) e l q c =
+            → Turning f n s (t + 1) (m / 2) regs cells log
+        by [] e l q = absurd (omega arith)
+        by (true ∷ rest) e l q = absurd (o (ap (λ z. z % 2) e ∙ word-odd true rest))
+        by (false ∷ rest) e l q =
             let u : t + 1 ≡ suc t = omega arith in
             record {
               here = C .here;
               rest = rest;
-              steps = C .steps;
               mask = ap (λ z. z / 2) e ∙ word-half false rest;
               left = omega arith;
               same = ap (λ z. inTurn f (membersFrom z rest) (C .here)) u ∙ (unfold membersFrom in q);
               memory = C .memory;
               kept = C .kept;
-              counted = ap (λ z. C .steps + length (membersFrom z rest)) u ∙ (unfold membersFrom in c);
             }
 
     pub turn-in : (regs′ cells′ log′ : List ℕ) → t < n → m % 2 ≡ 1 → OneTurn f n t regs cells log Done regs′ cells′ log′
         → Turning f n s (t + 1) (m / 2) regs′ cells′ log′
-    turn-in regs′ cells′ log′ h o d = by (C .rest) (C .mask) (C .left) (C .same) (C .counted)
+    turn-in regs′ cells′ log′ h o d = by (C .rest) (C .mask) (C .left) (C .same)
       where
         at : (rest : Mask) (x : Step) → inTurn f (t ∷ membersFrom (suc t) rest) (C .here) ≡ andThen x (inTurn f (membersFrom (suc t) rest))
-            → Did n (stepsOf x) (C .here) x Done regs′ cells′ log′ → m / 2 ≡ maskWord rest → t + 1 + length rest ≡ n
+            → Did n (C .here) x Done regs′ cells′ log′ → m / 2 ≡ maskWord rest → t + 1 + length rest ≡ n
             → inTurn f (t ∷ membersFrom (suc t) rest) (C .here) ≡ inTurn f (members (s .enabled)) s
-            → C .steps + 1 + length (membersFrom (suc t) rest) ≡ length (members (s .enabled)) → Turning f n s (t + 1) (m / 2) regs′ cells′ log′
-        at rest (stops v z) p D e l q c = let z : _≡_ {A = ℕ} 0 1 = cc (D .answer) in absurd (omega arith)
-        at rest (continues z) p D e l q c =
+            → Turning f n s (t + 1) (m / 2) regs′ cells′ log′
+        at rest (stops v z) p D e l q = let z : _≡_ {A = ℕ} 0 1 = cc (D .answer) in absurd (omega arith)
+        at rest (continues z) p D e l q =
             let u : t + 1 ≡ suc t = omega arith in
             let p′ : inTurn f (t ∷ membersFrom (suc t) rest) (C .here) ≡ inTurn f (membersFrom (suc t) rest) z = (unfold andThen in p) in
             record {
               here = z;
               rest = rest;
-              steps = C .steps + 1;
               mask = e;
               left = l;
               same = ap (λ w. inTurn f (membersFrom w rest) z) u ∙ sym p′ ∙ q;
               memory = D .memory;
-              kept = kept-more (C .steps) 1 s (C .here) z (C .kept) (D .kept);
-              counted = ap (λ w. C .steps + 1 + length (membersFrom w rest)) u ∙ c;
+              kept = kept-more s (C .here) z (C .kept) (D .kept);
             }
 
         by : (rest : Mask) → m ≡ maskWord rest → t + length rest ≡ n → inTurn f (membersFrom t rest) (C .here) ≡ inTurn f (members (s .enabled)) s
-            → C .steps + length (membersFrom t rest) ≡ length (members (s .enabled)) → Turning f n s (t + 1) (m / 2) regs′ cells′ log′
-        by [] e l q c = absurd (omega arith)
-        by (false ∷ rest) e l q c = let z : _≡_ {A = ℕ} 0 1 = sym (word-odd false rest) ∙ sym (ap (λ z. z % 2) e) ∙ o in absurd (omega arith)
-        by (true ∷ rest) e l q c =
+            → Turning f n s (t + 1) (m / 2) regs′ cells′ log′
+        by [] e l q = absurd (omega arith)
+        by (false ∷ rest) e l q = let z : _≡_ {A = ℕ} 0 1 = sym (word-odd false rest) ∙ sym (ap (λ z. z % 2) e) ∙ o in absurd (omega arith)
+        by (true ∷ rest) e l q =
             at rest (f (C .here) t) (unfold inTurn in refl) (d (C .here) (C .memory)) (ap (λ z. z / 2) e ∙ word-half true rest) (omega arith)
             (unfold membersFrom in q)
-            (let c′ : C .steps + suc (length (membersFrom (suc t) rest)) ≡ length (members (s .enabled)) = (unfold membersFrom in c) in omega arith)
 
     pub turn-stop : (v : Verdict) (regs′ cells′ log′ : List ℕ) → t < n → m % 2 ≡ 1 → OneTurn f n t regs cells log (Stop v) regs′ cells′ log′
-        → Did n (C .steps) s (inTurn f (members (s .enabled)) s) (Stop v) regs′ cells′ log′
+        → Did n s (inTurn f (members (s .enabled)) s) (Stop v) regs′ cells′ log′
     turn-stop v regs′ cells′ log′ h o d = by (C .rest) (C .mask) (C .left) (C .same)
       where
-        at : (ts : List ℕ) (x : Step) → Did n (stepsOf x) (C .here) x (Stop v) regs′ cells′ log′ → andThen x (inTurn f ts) ≡ inTurn f (members (s .enabled)) s
-            → Did n (C .steps) s (inTurn f (members (s .enabled)) s) (Stop v) regs′ cells′ log′
+        at : (ts : List ℕ) (x : Step) → Did n (C .here) x (Stop v) regs′ cells′ log′ → andThen x (inTurn f ts) ≡ inTurn f (members (s .enabled)) s
+            → Did n s (inTurn f (members (s .enabled)) s) (Stop v) regs′ cells′ log′
         at ts (continues z) D q = let z : _≡_ {A = ℕ} 0 1 = cc (D .answer) in absurd (omega arith)
         at ts (stops w z) D q =
             let q′ : stops w z ≡ inTurn f (members (s .enabled)) s = (unfold andThen in q) in
-            subst (λ x. Did n (C .steps) s x (Stop v) regs′ cells′ log′) q′
+            subst (λ x. Did n s x (Stop v) regs′ cells′ log′) q′
             (record {
               answer = D .answer;
               memory = D .memory;
-              kept = subst (λ j. Kept j s z) (let e : C .steps + 0 ≡ C .steps = omega arith in e)
-                  (kept-more (C .steps) 0 s (C .here) z (C .kept) (D .kept));
+              kept = kept-more s (C .here) z (C .kept) (D .kept);
             })
 
         by : (rest : Mask) → m ≡ maskWord rest → t + length rest ≡ n → inTurn f (membersFrom t rest) (C .here) ≡ inTurn f (members (s .enabled)) s
-            → Did n (C .steps) s (inTurn f (members (s .enabled)) s) (Stop v) regs′ cells′ log′
+            → Did n s (inTurn f (members (s .enabled)) s) (Stop v) regs′ cells′ log′
         by [] e l q = absurd (omega arith)
         by (false ∷ rest) e l q = let z : _≡_ {A = ℕ} 0 1 = sym (word-odd false rest) ∙ sym (ap (λ z. z % 2) e) ∙ o in absurd (omega arith)
         by (true ∷ rest) e l q = at (membersFrom (suc t) rest) (f (C .here) t) (d (C .here) (C .memory)) (unfold membersFrom inTurn in q)
@@ -165,7 +143,7 @@ module _ (f : LockState → ℕ → Step) (n : ℕ) (s : LockState) where
         subst (λ z. Turning f n s (t + 1) (m / 2) z cells₂ log₂) (sym er)
         (subst (λ z. Turning f n s (t + 1) (m / 2) regs₁ z log₂) (sym ec)
         (subst (λ z. Turning f n s (t + 1) (m / 2) regs₁ cells₁ z) (sym el)
-        (turn-in regs₁ cells₁ log₁ h o (λ y M. subst (λ z. Did n (stepsOf (f y t)) y (f y t) z regs₁ cells₁ log₁) e (d y M)))))
+        (turn-in regs₁ cells₁ log₁ h o (λ y M. subst (λ z. Did n y (f y t) z regs₁ cells₁ log₁) e (d y M)))))
 
     pub go-out : (regs₂ cells₂ log₂ : List ℕ) → t < n → (m % 2 ≡ 1 → ⊥) → regs₂ ≡ regs → cells₂ ≡ cells → log₂ ≡ log
         → Turning f n s (t + 1) (m / 2) regs₂ cells₂ log₂
@@ -174,12 +152,9 @@ module _ (f : LockState → ℕ → Step) (n : ℕ) (s : LockState) where
         (subst (λ z. Turning f n s (t + 1) (m / 2) regs z log₂) (sym ec)
         (subst (λ z. Turning f n s (t + 1) (m / 2) regs cells z) (sym el) (turn-out h o)))
 
-    pub go-stop : (mask k : ℕ) (r : Access) (v : Verdict) (regs₁ cells₁ log₁ : List ℕ) → mask ≡ maskWord (s .enabled) → k + ones m ≡ ones mask → t < n
-        → m % 2 ≡ 1 → OneTurn f n t regs cells log r regs₁ cells₁ log₁ → r ≡ Stop v
-        → Did n k s (inTurn f (members (s .enabled)) s) (Stop v) regs₁ cells₁ log₁
-    go-stop mask k r v regs₁ cells₁ log₁ e c h o d q =
-        subst (λ i. Did n i s (inTurn f (members (s .enabled)) s) (Stop v) regs₁ cells₁ log₁) (sym (turn-steps mask k e c))
-        (turn-stop v regs₁ cells₁ log₁ h o (λ y M. subst (λ z. Did n (stepsOf (f y t)) y (f y t) z regs₁ cells₁ log₁) q (d y M)))
+    pub go-stop : (r : Access) (v : Verdict) (regs₁ cells₁ log₁ : List ℕ) → t < n → m % 2 ≡ 1 → OneTurn f n t regs cells log r regs₁ cells₁ log₁ → r ≡ Stop v
+        → Did n s (inTurn f (members (s .enabled)) s) (Stop v) regs₁ cells₁ log₁
+    go-stop r v regs₁ cells₁ log₁ h o d q = turn-stop v regs₁ cells₁ log₁ h o (λ y M. subst (λ z. Did n y (f y t) z regs₁ cells₁ log₁) q (d y M))
 
 -- The loop's state, for every state that the buffers stood for at its start.
 abbrev pub Turns : (LockState → ℕ → Step) → (n mask : ℕ) → (regs₀ cells₀ log₀ : List ℕ) → (t m : ℕ) → (regs cells log : List ℕ) → Type 0

@@ -4,7 +4,7 @@ use mathlib.Core.List.{List}
 use mathlib.Core.Bool.{Bool, true, false, cond, not}
 use Prim.Native.Nat.{ℕ, _+_, _-_, _^_, _<_, _≤_}
 use lib.Bits.{bitAnd}
-use lib.Count.{ones, trailingZeros}
+use lib.Count.{trailingZeros}
 use lib.Dec.{eqb, ltb}
 use lib.ListN.{getD, set}
 use Rattle.spec.specs.declared.Verdict.the-variants.{Diverged}
@@ -37,13 +37,13 @@ openersAfter op s openers =
 
 -- IF goes on with those that have register a true, ELSE with the others, ENDIF with all that came.
 abbrev pub ifState : (a : ℕ) → (regs : List ℕ) → State → State
-ifState a regs s = goneOn s (s .row + 1) (holdingWord (s .mask) a regs) (s .depth + 1) (ones (s .mask))
+ifState a regs s = goneOn s (s .row + 1) (holdingWord (s .mask) a regs) (s .depth + 1)
 
 abbrev pub elseState : (saved : List ℕ) → State → State
-elseState saved s = goneOn s (s .row + 1) (bitAnd (topWord s saved) (4294967295 - s .mask)) (s .depth) (ones (s .mask))
+elseState saved s = goneOn s (s .row + 1) (bitAnd (topWord s saved) (4294967295 - s .mask)) (s .depth)
 
 abbrev pub endifState : (saved : List ℕ) → State → State
-endifState saved s = goneOn s (s .row + 1) (topWord s saved) (s .depth - 1) (ones (topWord s saved))
+endifState saved s = goneOn s (s .row + 1) (topWord s saved) (s .depth - 1)
 
 -- The depth with a WHILE's own saved mask.
 unfoldable pub whileDepth : State → (openers : List ℕ) → ℕ
@@ -53,16 +53,16 @@ whileDepth s openers = cond (entered s openers) (s .depth) (s .depth + 1)
 abbrev pub leftState : (e : ℕ) → State → (saved openers : List ℕ) → State
 leftState e s saved openers =
     let outer = whileDepth s openers - 1 in
-    goneOn s (e + 1) (getD (savedAfter 35 s saved openers) outer 0) outer (ones (s .mask))
+    goneOn s (e + 1) (getD (savedAfter 35 s saved openers) outer 0) outer
 
 unfoldable pub whileState : (a e : ℕ) → (regs : List ℕ) → State → (saved openers : List ℕ) → State
 whileState a e regs s saved openers =
     cond (eqb (holdingWord (s .mask) a regs) 0) (leftState e s saved openers)
-    (goneOn s (s .row + 1) (holdingWord (s .mask) a regs) (whileDepth s openers) (ones (s .mask)))
+    (goneOn s (s .row + 1) (holdingWord (s .mask) a regs) (whileDepth s openers))
 
 -- ENDWHILE goes back to its WHILE.
 abbrev pub endwhileState : (openers : List ℕ) → State → State
-endwhileState openers s = goneOn s (topWord s openers) (s .mask) (s .depth) (ones (s .mask))
+endwhileState openers s = goneOn s (topWord s openers) (s .mask) (s .depth)
 
 -- The state after a construct's row, by its op.
 unfoldable pub constructState : (op a e : ℕ) → (regs : List ℕ) → State → (saved openers : List ℕ) → State
@@ -88,13 +88,13 @@ pub record EnteredWhile (k : ℕ) (s : State) (saved openers saved′ openers′
 -- BARRIER of n threads: passed by all of them, which clears the log; skipped by none of them; diverged else.
 abbrev pub passedState : State → State
 passedState s =
-    record { reach = 0; row = s .row + 1; mask = s .mask; depth = s .depth; rows = s .rows + 1; steps = s .steps; barriers = s .barriers + 1 }
+    record { reach = 0; row = s .row + 1; mask = s .mask; depth = s .depth; rows = s .rows + 1; since = s .since; barriers = s .barriers + 1 }
 
 abbrev pub divergedNext : ℕ → State → Next
 divergedNext n s = next.Stop (Diverged (trailingZeros 32 (s .mask)) (trailingZeros 32 (bitAnd (2 ^ n - 1) (4294967295 - s .mask)))) s
 
 unfoldable pub barrierNext : ℕ → State → Next
-barrierNext n s = cond (eqb (s .mask) (2 ^ n - 1)) (next.Go (passedState s)) (cond (eqb (s .mask) 0) (next.Go (movedOn s 0)) (divergedNext n s))
+barrierNext n s = cond (eqb (s .mask) (2 ^ n - 1)) (next.Go (passedState s)) (cond (eqb (s .mask) 0) (next.Go (movedOn s)) (divergedNext n s))
 
 -- The walk goes no further than the cells that may have been logged.
 unfoldable pub barrierLog : ℕ → State → (k : ℕ) → (log : List ℕ) → List ℕ

@@ -3,3 +3,4 @@ pub mod Memory
 pub mod Represents
 pub mod Constructs
 pub mod Running
+pub mod Counting

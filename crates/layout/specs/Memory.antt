@@ -43,14 +43,13 @@ pub record Memory (n : ℕ) (s : LockState) (regs cells log : List ℕ) : Type 0
   pub cells-are : cells ≡ s .cells
   pub log-is : LogIs n (length (s .cells)) (s .log) log
 
--- A row's threads change nothing else but the count of steps.
-pub record Kept (k : ℕ) (s z : LockState) : Type 0 where
+-- A row's threads change nothing else but their counts of steps.
+pub record Kept (s z : LockState) : Type 0 where
   pub row-same : z .row ≡ s .row
   pub enabled-same : z .enabled ≡ s .enabled
   pub saved-same : z .saved ≡ s .saved
   pub rows-same : z .rows ≡ s .rows
   pub barriers-same : z .barriers ≡ s .barriers
-  pub steps-more : z .steps ≡ s .steps + k
 
 abbrev pub accessOf : Step → Access
 accessOf (continues z) = Done
@@ -60,25 +59,21 @@ abbrev pub stateOf : Step → LockState
 stateOf (continues z) = z
 stateOf (stops v z) = z
 
-abbrev pub stepsOf : Step → ℕ
-stepsOf (continues z) = 1
-stepsOf (stops v z) = 0
-
--- From s, what o says was done: the answer, the buffers, and k steps.
-pub record Did (n k : ℕ) (s : LockState) (o : Step) (r : Access) (regs cells log : List ℕ) : Type 0 where
+-- From s, what o says was done: the answer and the buffers.
+pub record Did (n : ℕ) (s : LockState) (o : Step) (r : Access) (regs cells log : List ℕ) : Type 0 where
   pub answer : r ≡ accessOf o
   pub memory : Memory n (stateOf o) regs cells log
-  pub kept : Kept k s (stateOf o)
+  pub kept : Kept s (stateOf o)
 
 -- One thread's turn, for every state that the buffers stand for.
 abbrev pub OneTurn : (LockState → ℕ → Step) → (n t : ℕ) → (regs cells log : List ℕ) → Access → (regs′ cells′ log′ : List ℕ) → Type 0
-OneTurn f n t regs cells log r regs′ cells′ log′ = (s : LockState) → Memory n s regs cells log → Did n (stepsOf (f s t)) s (f s t) r regs′ cells′ log′
+OneTurn f n t regs cells log r regs′ cells′ log′ = (s : LockState) → Memory n s regs cells log → Did n s (f s t) r regs′ cells′ log′
 
 -- The turns of a row's enabled threads, `mask` being the enabled mask.
-abbrev pub AllTurns : (LockState → ℕ → Step) → (n mask : ℕ) → (regs cells log : List ℕ) → (r : Access) (k : ℕ) → (regs′ cells′ log′ : List ℕ) → Type 0
-AllTurns f n mask regs cells log r k regs′ cells′ log′ =
+abbrev pub AllTurns : (LockState → ℕ → Step) → (n mask : ℕ) → (regs cells log : List ℕ) → Access → (regs′ cells′ log′ : List ℕ) → Type 0
+AllTurns f n mask regs cells log r regs′ cells′ log′ =
     (s : LockState) → mask ≡ maskWord (s .enabled) → length (s .enabled) ≡ n → Memory n s regs cells log
-    → Did n k s (inTurn f (members (s .enabled)) s) r regs′ cells′ log′
+    → Did n s (inTurn f (members (s .enabled)) s) r regs′ cells′ log′
 
 -- The k lanes from i on, by whether register a is 0 in them; and the first k as a word.
 unfoldable pub zeros : (a : ℕ) (regs : List ℕ) (i k : ℕ) → Mask
@@ -154,7 +149,7 @@ AccessOne op t d a regs cells log r regs′ cells′ log′ =
 abbrev pub AccessAll : (op n mask d a : ℕ) → (regs cells log : List ℕ) → Turns → (regs′ cells′ log′ : List ℕ) → Type 0
 AccessAll op n mask d a regs cells log r regs′ cells′ log′ =
     (m : Mem) (x : Row) → opOf op ≡ MEM m → x .d ≡ d → x .a ≡ a
-    → AllTurns (accessTurn (shapeBy n cells) m x) n mask regs cells log (r .access) (r .steps) regs′ cells′ log′
+    → AllTurns (accessTurn (shapeBy n cells) m x) n mask regs cells log (r .access) regs′ cells′ log′
 
 -- What a row's accesses ask, and what they come to.
 abbrev pub AccessRowAsks : (op n d a : ℕ) → (regs cells log : List ℕ) → Type 0
@@ -162,7 +157,7 @@ AccessRowAsks op n d a regs cells log = AccessAsks op d a cells log × InMemory 
 
 abbrev pub AccessRow : (op n mask d a : ℕ) → (regs cells log : List ℕ) → Turns → (regs′ cells′ log′ : List ℕ) → Type 0
 AccessRow op n mask d a regs cells log r regs′ cells′ log′ =
-    (r .steps ≤ 32) × AccessAll op n mask d a regs cells log r regs′ cells′ log′ × KeptBut d n regs regs′ × SameAbove (r .reach) (length cells) log log′
+    AccessAll op n mask d a regs cells log r regs′ cells′ log′ × KeptBut d n regs regs′ × SameAbove (r .reach) (length cells) log log′
 
 -- A LOAD moves cell i to place `to` of the registers; a STORE moves place `from` to cell i, an ATOMIC ADD adds it there.
 unfoldable pub cellBy : (op old word : ℕ) → ℕ

@@ -31,7 +31,6 @@ pub record Represents (n : ℕ) (z : LockState) (s : State) (regs cells log save
   pub saved-size : length saved ≡ 8
   pub openers-size : length openers ≡ 8
   pub rows-is : s .rows ≡ z .rows
-  pub steps-is : s .steps ≡ z .steps
   pub barriers-is : s .barriers ≡ z .barriers
   pub reach-is : EmptyAbove (s .reach) (length cells) log
 
@@ -44,30 +43,31 @@ pub record Standing (n : ℕ) (s : State) (regs cells log saved openers : List �
 pub record Room (s : State) : Type 0 where
   pub row-few : s .row < 256
   pub rows-few : s .rows < 1000000
-  pub steps-few : s .steps ≤ 32 * s .rows
+  pub since-few : s .since ≤ s .rows
   pub barriers-few : s .barriers ≤ s .rows
 
 pub record Counted (s r : State) : Type 0 where
   pub rows-one : r .rows ≡ s .rows + 1
-  pub steps-some : r .steps ≤ s .steps + 32
+  pub since-one : r .since ≤ s .since + 1
   pub barriers-one : r .barriers ≤ s .barriers + 1
 
 abbrev pub Counts : State → Next → Type 0
 Counts s (next.Go r) = Counted s r
 Counts s (next.Stop v r) = r .row ≡ s .row
 
--- On at another row, with another mask and depth, after a row whose threads took k steps.
-abbrev pub goneOn : State → (row mask depth k : ℕ) → State
-goneOn s row mask depth k =
-    record { reach = s .reach; row = row; mask = mask; depth = depth; rows = s .rows + 1; steps = s .steps + k; barriers = s .barriers }
+-- On at another row, with another mask and depth, after one more step.
+abbrev pub goneOn : State → (row mask depth : ℕ) → State
+goneOn s row mask depth =
+    record { reach = s .reach; row = row; mask = mask; depth = depth; rows = s .rows + 1; since = s .since + 1; barriers = s .barriers }
 
--- On at the next row; and at the same row, where it stopped.
-abbrev pub movedOn : State → ℕ → State
-movedOn s k = goneOn s (s .row + 1) (s .mask) (s .depth) k
+-- On at the next row.
+abbrev pub movedOn : State → State
+movedOn s = goneOn s (s .row + 1) (s .mask) (s .depth)
 
-abbrev pub heldBack : State → ℕ → State
-heldBack s k =
-    record { reach = s .reach; row = s .row; mask = s .mask; depth = s .depth; rows = s .rows; steps = s .steps + k; barriers = s .barriers }
+-- With another number of steps that are not counted yet.
+abbrev pub withSince : State → ℕ → State
+withSince s k =
+    record { reach = s .reach; row = s .row; mask = s .mask; depth = s .depth; rows = s .rows; since = k; barriers = s .barriers }
 
 -- After accesses of cells that are not above h. Neither of two numbers is above what they are put together to bit by bit.
 abbrev pub reached : State → ℕ → State
@@ -78,13 +78,13 @@ reached s h =
       mask = s .mask;
       depth = s .depth;
       rows = s .rows;
-      steps = s .steps;
+      since = s .since;
       barriers = s .barriers;
     }
 
-abbrev pub accessed : State → Access → ℕ → Next
-accessed s Done k = next.Go (movedOn s k)
-accessed s (Stop v) k = next.Stop v (heldBack s k)
+abbrev pub accessed : State → Access → Next
+accessed s Done = next.Go (movedOn s)
+accessed s (Stop v) = next.Stop v s
 
 -- What a row comes to in the code is what it comes to by the definition.
 abbrev pub After : ℕ → Step → Next → (regs cells log saved openers : List ℕ) → Type 0

@@ -3,7 +3,7 @@ use mathlib.Core.Path.{_≡_}
 use mathlib.Core.List.{List}
 use mathlib.Core.Option.{none}
 use Prim.Native.Nat.{ℕ, _+_, _*_, _<_, _≤_}
-use lib.ListN.{length, getD}
+use lib.ListN.{length, getD, replicate}
 use Rattle.spec.specs.declared.Verdict.{Verdict}
 use Rattle.spec.specs.declared.Outcome.{Outcome}
 use Rattle.spec.specs.Op.{WHILE, opOf}
@@ -12,6 +12,7 @@ use Rattle.spec.specs.TableCheck.{tableRefusal}
 use Rattle.spec.specs.Limits.{logPerCell}
 use Rattle.spec.specs.Log.{logWords}
 use Rattle.spec.specs.LockStep.{LockState, runRow, LockResult, outcomeOf}
+use Rattle.spec.specs.Entries.{over}
 use Rattle.layout.specs.declared.State.{State}
 use Rattle.layout.specs.declared.Next.{Next}
 use Rattle.layout.specs.Memory.{ComputeAsks, Computed, KeptBut, shapeBy}
@@ -69,12 +70,17 @@ pub record Steps (table : List ℕ) (n : ℕ) (s : State) (regs cells log saved 
   pub saved-are : saved′ ≡ savedAfter (getD table (s .row * 4) 0) s saved openers
   pub openers-are : openers′ ≡ openersAfter (getD table (s .row * 4) 0) s openers
 
--- What the run comes to: the answer, the cells and the log are those of the definition's result o.
-pub record RunIs (o : LockResult) (r : Outcome) (cells log : List ℕ) : Type 0 where
+-- What the run comes to: the answer, the cells, the log and the step counts are those of the definition's result o.
+pub record RunIs (o : LockResult) (r : Outcome) (cells log counts : List ℕ) : Type 0 where
   pub outcome-is : r ≡ outcomeOf o
   pub cells-are : cells ≡ o .state .cells
   pub log-is : log ≡ logWords (o .state .log)
+  pub counts-are : counts ≡ over (o .state .steps) (replicate 32 0)
+
+-- The state at the start, with the mask of all threads.
+abbrev pub startState : (all : ℕ) → State
+startState all = record { reach = 0; row = 0; mask = all; depth = 0; rows = 0; since = 0; barriers = 0 }
 
 -- The answer of a run that has ended in this state.
 abbrev pub endedAs : Verdict → State → Outcome
-endedAs v s = record { verdict = v; row = s .row; rows = s .rows; steps = s .steps; barriers = s .barriers }
+endedAs v s = record { verdict = v; row = s .row; rows = s .rows; barriers = s .barriers }

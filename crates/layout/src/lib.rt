@@ -9,23 +9,23 @@ pub enum Access {
     Stop(spec::Verdict),
 }
 
-// What a row's accesses come to, how many threads have stepped, and a number that no cell which they accessed is above.
+// What a row's accesses come to, and a number that no cell which they accessed is above.
 pub struct Turns {
     pub access: Access,
-    pub steps: u32,
     pub reach: u32,
 }
 
 // The small part of the state, which goes by value. Above the cell numbered `reach` nothing has been logged since the log was cleared.
+// `since` is how many steps each enabled thread has made under the present mask that are not in the step counts yet.
 // The order of the words is one of the fastest that were tried: where four small ones stand side by side, a row takes half as long again.
 pub struct State {
-    pub rows: u32,
-    pub row: usize,
-    pub reach: u32,
-    pub depth: usize,
     pub mask: u32,
+    pub reach: u32,
+    pub row: usize,
+    pub since: u32,
+    pub rows: u32,
     pub barriers: u32,
-    pub steps: u32,
+    pub depth: usize,
 }
 
 // What a row comes to.

@@ -7,9 +7,9 @@ use native.Mathlib.Nat.{mod-eq-of-lt}
 use native.Mathlib.Omega.{arith}
 use lib.Bits.{bitAnd, bitOr, and-step, or-step, and-zero-l, and-zero-r, or-zero-l, or-zero-r, and-mask}
 use lib.Pow.{pow-lt, pow-mono, pow-pos}
-use lib.Count.{ones, ones-step, trailingZeros, under}
+use lib.Count.{trailingZeros, under}
 use lib.ListN.{length, set, replicate}
-use Rattle.spec.specs.Mask.{Mask, maskWord, has, any, full, minus, union, lowest, membersFrom}
+use Rattle.spec.specs.Mask.{Mask, maskWord, has, any, full, minus, union, lowest}
 
 bit-small : (b : Bool) → cond b 1 0 ≤ 1
 bit-small true = omega arith
@@ -178,16 +178,6 @@ lowest-is [] w l h = absurd (false≢true h)
 lowest-is (b ∷ m) zero l h = absurd (omega arith)
 lowest-is (true ∷ m) (suc w) l h = ap₂ under (word-odd true m) (ap (trailingZeros w) (word-half true m))
 lowest-is (false ∷ m) (suc w) l h = ap₂ under (word-odd false m) (ap (trailingZeros w) (word-half false m) ∙ lowest-is m w (omega arith) h)
-
-pub ones-are : (m : Mask) (k : ℕ) → ones (maskWord m) ≡ length (membersFrom k m)
-unfolding membersFrom maskWord ones
-ones-are [] k = refl
-ones-are (true ∷ m) k =
-    ones-step (maskWord (true ∷ m)) ∙ ap₂ _+_ (word-odd true m) (ap ones (word-half true m) ∙ ones-are m (suc k))
-    ∙ (let z : 1 + length (membersFrom (suc k) m) ≡ suc (length (membersFrom (suc k) m)) = omega arith in z)
-ones-are (false ∷ m) k =
-    ones-step (maskWord (false ∷ m)) ∙ ap₂ _+_ (word-odd false m) (ap ones (word-half false m) ∙ ones-are m (suc k))
-    ∙ (let z : 0 + length (membersFrom (suc k) m) ≡ length (membersFrom (suc k) m) = omega arith in z)
 
 pub word-all : (n : ℕ) → maskWord (replicate n true) ≡ 2 ^ n - 1
 unfolding maskWord

@@ -27,7 +27,6 @@ fn access_all(
             layout::Access::Stop(v) => {
                 return layout::Turns {
                     access: layout::Access::Stop(v),
-                    steps: t,
                     reach: reach,
                 };
             }
@@ -37,12 +36,11 @@ fn access_all(
     }
     layout::Turns {
         access: layout::Access::Done,
-        steps: n,
         reach: reach,
     }
 }
 
-// The accesses of the enabled threads, lowest first. The ones of the mask are the row's steps; where it stops, those that are gone.
+// The accesses of the enabled threads, lowest first.
 fn access_enabled(
     regs: &mut [u32; 512],
     cells: &mut [u32],
@@ -70,7 +68,6 @@ fn access_enabled(
                 layout::Access::Stop(v) => {
                     return layout::Turns {
                         access: layout::Access::Stop(v),
-                        steps: masks::count(mask) - masks::count(m),
                         reach: reach,
                     };
                 }
@@ -82,7 +79,6 @@ fn access_enabled(
     }
     layout::Turns {
         access: layout::Access::Done,
-        steps: masks::count(mask),
         reach: reach,
     }
 }

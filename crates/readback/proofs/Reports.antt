@@ -1,7 +1,7 @@
 -- What is read from the report of a run, and of a refusal. Assumes nothing.
 use mathlib.Core.Path.{_≡_, refl, sym, ap, ap₂, _∙_}
-use mathlib.Core.List.{List, [], _∷_, _++_, map, append-assoc, map-append}
-use mathlib.Core.Bool.{Bool, true, false, false≢true, _&&_, _||_, and-true, and-false}
+use mathlib.Core.List.{List, [], _∷_, _++_, map, append-assoc, append-nil, map-append}
+use mathlib.Core.Bool.{Bool, true, false, cond, false≢true, _&&_, _||_, and-true, and-false}
 use mathlib.Core.Option.{Option, some}
 use Prim.Native.Nat.{ℕ}
 use Prim.Native.String.{String}
@@ -9,17 +9,27 @@ use lib.ListN.{take}
 use Rattle.spec.specs.declared.Outcome.{Outcome}
 use Rattle.spec.specs.declared.Subject.{Subject}
 use Rattle.spec.specs.declared.Subject.the-variants as subject
+use Rattle.spec.specs.declared.Value.the-variants as value
 use Rattle.spec.specs.declared.Verdict.{Verdict}
 use Rattle.spec.specs.declared.Verdict.the-variants.{Passed, Race, Outside, Diverged, Spent}
 use Rattle.spec.specs.Lists.{anyOf, every, equalList}
 use Rattle.spec.specs.Text.{text, decimal, equals}
-use Rattle.spec.specs.Report.{Line, _is_, verdictText, valueText, bytesOf, headWith, headLines, eachLine, endLine, runLines, runReport}
+use Rattle.spec.specs.Report.{Line, _is_, verdictText, valueText, bytesOf, headWith, headLines, barriersLine, eachLine, endLine, runLines, runReport}
 use Rattle.spec.specs.Report.{refusalLines, refusalReport, reportOf}
 use Rattle.spec.specs.Reading.{linesIn, isLine, hasLine, isFirst, beginsWith, numberIn, numbersAt, EndsOnce, isPassed, hasPassed, installs, Readable}
 use Rattle.readback.proofs.Numbers.{every-append, number-back}
 use Rattle.readback.proofs.Clean.{noNewline}
 use Rattle.readback.proofs.Back.{inKey, keyed, lineText, lines-back, saidBy, numbers-back}
 use Rattle.readback.proofs.Ends.{cut-off}
+
+-- The lines of a run's report behind its head, up to the last, and then these. The line of the barriers is a key with one number.
+abbrev behind : Outcome → (steps cells : List ℕ) → List Line → List Line
+behind o steps cells last =
+    eachLine (text "steps") steps ++ (eachLine (text "barriers") (o .barriers ∷ []) ++ (eachLine (text "cell") cells ++ last))
+
+run-lines : (o : Outcome) (steps cells : List ℕ) → runLines o steps cells ≡ headLines o ++ behind o steps cells (endLine ∷ [])
+unfolding runLines barriersLine eachLine _is_
+run-lines o steps cells = refl
 
 -- The keys of reports are such that each line is read as it was written.
 head-keyed : (o : Outcome) → every keyed (headLines o) ≡ true
@@ -30,21 +40,23 @@ end-keyed : every keyed (endLine ∷ []) ≡ true
 unfolding every keyed inKey noNewline endLine _is_ text
 end-keyed = refl
 
-cells-keyed : (cells : List ℕ) → every keyed (eachLine (text "cell") cells) ≡ true
-unfolding every keyed inKey noNewline eachLine text
-cells-keyed [] = refl
-cells-keyed (c ∷ cells) = cells-keyed cells
+each-keyed : (key : String) → every inKey (text key) ≡ true → (ns : List ℕ) (rest : List Line) → every keyed rest ≡ true
+    → every keyed (eachLine (text key) ns ++ rest) ≡ true
+unfolding every keyed eachLine
+each-keyed key k [] rest e = e
+each-keyed key k (n ∷ ns) rest e = rw k (each-keyed key k ns rest e)
 
-run-keyed : (o : Outcome) (cells : List ℕ) → every keyed (runLines o cells) ≡ true
-unfolding runLines
-run-keyed o cells =
-    every-append keyed (headLines o) _ (head-keyed o) (every-append keyed (eachLine (text "cell") cells) _ (cells-keyed cells) end-keyed)
+run-keyed : (o : Outcome) (steps cells : List ℕ) → every keyed (runLines o steps cells) ≡ true
+unfolding every inKey noNewline text
+run-keyed o steps cells =
+    ap (every keyed) (run-lines o steps cells)
+    ∙ every-append keyed (headLines o) _ (head-keyed o)
+    (each-keyed "steps" refl steps _ (each-keyed "barriers" refl (o .barriers ∷ []) _ (each-keyed "cell" refl cells _ end-keyed)))
 
 refusal-keyed : (number place : ℕ) → every keyed (refusalLines number place) ≡ true
 unfolding every keyed inKey noNewline refusalLines endLine _is_ text
 refusal-keyed number place = refl
 
--- Whether some line of a run's report passes a test: the head's, the cells', the last one.
 pub any-append : {A : Type 0} (p : A → Bool) (xs ys : List A) → anyOf p (xs ++ ys) ≡ (anyOf p xs || anyOf p ys)
 unfolding anyOf
 any-append p [] ys = refl
@@ -53,6 +65,23 @@ any-append p (x ∷ xs) ys = by (p x) (any-append p xs ys)
     by : (b : Bool) → anyOf p (xs ++ ys) ≡ (anyOf p xs || anyOf p ys) → (b || anyOf p (xs ++ ys)) ≡ ((b || anyOf p xs) || anyOf p ys)
     by true e = refl
     by false e = e
+
+-- A test that no line with this key and a number passes. Where the keys of a run's report are such, only the head and the last line can pass it.
+abbrev NoNumber : (p : List ℕ → Bool) → (key : String) → Type 0
+NoNumber p key = (n : ℕ) → p (lineText (key is value.Number n)) ≡ false
+
+module _ (p : List ℕ → Bool) where
+  each-fails : (key : String) → NoNumber p key → (ns : List ℕ) (rest : List Line) → anyOf p (map lineText (eachLine (text key) ns ++ rest)) ≡ anyOf p (map lineText rest)
+  unfolding anyOf eachLine _is_
+  each-fails key fails [] rest = refl
+  each-fails key fails (n ∷ ns) rest = rw (fails n) (each-fails key fails ns rest)
+
+  any-line : NoNumber p "steps" → NoNumber p "barriers" → NoNumber p "cell" → (o : Outcome) (steps cells : List ℕ) (last : List Line)
+      → anyOf p (map lineText (headLines o ++ behind o steps cells last)) ≡ (anyOf p (map lineText (headLines o)) || anyOf p (map lineText last))
+  any-line s b c o steps cells last =
+      ap (anyOf p) (map-append lineText (headLines o) (behind o steps cells last)) ∙ any-append p (map lineText (headLines o)) _
+      ∙ ap (λ x. anyOf p (map lineText (headLines o)) || x)
+      (each-fails "steps" s steps _ ∙ each-fails "barriers" b (o .barriers ∷ []) _ ∙ each-fails "cell" c cells last)
 
 -- Lines that end in `end=report`, which is none of those before.
 ends-once : (ls : List Line) → every keyed (ls ++ (endLine ∷ [])) ≡ true → anyOf (isLine "end=report") (map lineText ls) ≡ false
@@ -66,40 +95,27 @@ ends-once ls e f =
       whole = λ k h. cut-off (isLine "end=report") ls endLine e f k h;
     }
 
--- No line of a cell, and none of the head, is `end=report`.
-cells-no-end : (cells : List ℕ) → anyOf (isLine "end=report") (map lineText (eachLine (text "cell") cells)) ≡ false
-unfolding anyOf isLine equalList lineText eachLine text
-cells-no-end [] = refl
-cells-no-end (c ∷ cells) = cells-no-end cells
-
-head-no-end : (o : Outcome) → anyOf (isLine "end=report") (map lineText (headLines o)) ≡ false
-unfolding anyOf isLine equalList lineText headLines headWith _is_ text
-head-no-end o = refl
-
-run-ends : (o : Outcome) (cells : List ℕ) → EndsOnce (runReport o cells)
-unfolding runReport runLines
-run-ends o cells = rw (sym same) (ends-once front (ap (every keyed) same ∙ run-keyed o cells) no-end)
+run-ends : (o : Outcome) (steps cells : List ℕ) → EndsOnce (runReport o steps cells)
+unfolding runReport anyOf isLine equalList lineText headLines headWith _is_ text
+run-ends o steps cells = rw (sym same) (ends-once front (ap (every keyed) same ∙ run-keyed o steps cells) no-end)
   where
     front : List Line
-    front = headLines o ++ eachLine (text "cell") cells
+    front = headLines o ++ behind o steps cells []
 
-    same : front ++ (endLine ∷ []) ≡ headLines o ++ (eachLine (text "cell") cells ++ (endLine ∷ []))
-    same = append-assoc (headLines o) (eachLine (text "cell") cells) (endLine ∷ [])
+    same : front ++ (endLine ∷ []) ≡ runLines o steps cells
+    same = simp append-assoc (sym (run-lines o steps cells))
 
     no-end : anyOf (isLine "end=report") (map lineText front) ≡ false
-    no-end =
-        ap (anyOf (isLine "end=report")) (map-append lineText (headLines o) (eachLine (text "cell") cells))
-        ∙ any-append (isLine "end=report") (map lineText (headLines o)) (map lineText (eachLine (text "cell") cells))
-        ∙ ap₂ _||_ (head-no-end o) (cells-no-end cells)
+    no-end = any-line (isLine "end=report") (λ n. refl) (λ n. refl) (λ n. refl) o steps cells []
 
 refusal-ends : (number place : ℕ) → EndsOnce (refusalReport number place)
 unfolding refusalReport refusalLines anyOf isLine equalList lineText _is_ text
 refusal-ends number place = ends-once ("refused" is _ ∷ "place" is _ ∷ []) (refusal-keyed number place) refl
 
 -- The first line of a run's report says its verdict.
-run-read : (o : Outcome) (cells : List ℕ) → linesIn (runReport o cells) ≡ map lineText (runLines o cells)
+run-read : (o : Outcome) (steps cells : List ℕ) → linesIn (runReport o steps cells) ≡ map lineText (runLines o steps cells)
 unfolding runReport
-run-read o cells = lines-back (runLines o cells) (run-keyed o cells)
+run-read o steps cells = lines-back (runLines o steps cells) (run-keyed o steps cells)
 
 refusal-read : (number place : ℕ) → linesIn (refusalReport number place) ≡ map lineText (refusalLines number place)
 unfolding refusalReport
@@ -116,29 +132,24 @@ passed-line (Outside thread at) = refl
 passed-line (Diverged thread other) = refl
 passed-line Spent = refl
 
-begins : (s : String) (o : Outcome) (cells : List ℕ) → beginsWith s (runReport o cells) ≡ isLine s (verdictLine (o .verdict))
+begins : (s : String) (o : Outcome) (steps cells : List ℕ) → beginsWith s (runReport o steps cells) ≡ isLine s (verdictLine (o .verdict))
 unfolding beginsWith isFirst runLines headLines headWith lineText _is_ valueText verdictLine
-begins s o cells = ap (isFirst s) (run-read o cells)
+begins s o steps cells = ap (isFirst s) (run-read o steps cells)
 
-pub begins-passed : (o : Outcome) (cells : List ℕ) → beginsWith "verdict=passed" (runReport o cells) ≡ isPassed (o .verdict)
-begins-passed o cells = begins "verdict=passed" o cells ∙ passed-line (o .verdict)
-
--- `verdict=passed` stands nowhere else.
-cells-no-verdict : (cells : List ℕ) → anyOf (isLine "verdict=passed") (map lineText (eachLine (text "cell") cells ++ (endLine ∷ []))) ≡ false
-unfolding anyOf isLine equalList lineText eachLine endLine _is_ text
-cells-no-verdict [] = refl
-cells-no-verdict (c ∷ cells) = cells-no-verdict cells
+pub begins-passed : (o : Outcome) (steps cells : List ℕ) → beginsWith "verdict=passed" (runReport o steps cells) ≡ isPassed (o .verdict)
+begins-passed o steps cells = begins "verdict=passed" o steps cells ∙ passed-line (o .verdict)
 
 or-none : (b : Bool) → (b || false) ≡ b
 or-none true = refl
 or-none false = refl
 
-anywhere : (o : Outcome) (cells : List ℕ) → hasLine "verdict=passed" (runReport o cells) ≡ isPassed (o .verdict)
-unfolding hasLine runLines headLines headWith _is_ anyOf isLine equalList lineText valueText verdictLine text
-anywhere o cells =
-    ap (anyOf (isLine "verdict=passed")) (run-read o cells)
-    ∙ ap (λ b. isLine "verdict=passed" (verdictLine (o .verdict)) || b) (cells-no-verdict cells)
-    ∙ or-none _ ∙ passed-line (o .verdict)
+-- `verdict=passed` stands nowhere else.
+anywhere : (o : Outcome) (steps cells : List ℕ) → hasLine "verdict=passed" (runReport o steps cells) ≡ isPassed (o .verdict)
+unfolding hasLine headLines headWith endLine _is_ anyOf isLine equalList lineText valueText verdictLine text
+anywhere o steps cells =
+    ap (anyOf (isLine "verdict=passed")) (run-read o steps cells ∙ ap (map lineText) (run-lines o steps cells))
+    ∙ any-line (isLine "verdict=passed") (λ n. refl) (λ n. refl) (λ n. refl) o steps cells (endLine ∷ [])
+    ∙ or-none _ ∙ or-none _ ∙ passed-line (o .verdict)
 
 -- A loader's decision, by where `end=report` stands.
 has-end : (report : List ℕ) → EndsOnce report → hasLine "end=report" report ≡ true
@@ -159,10 +170,11 @@ read-by what report e b a =
       cutOff = λ k h. ap (λ (x : Bool). beginsWith "verdict=passed" (take k report) && x) (e .whole k h) ∙ and-false (beginsWith "verdict=passed" (take k report));
     }
 
-pub readable : (what : Subject) (cells : List ℕ) → Readable what (reportOf what cells)
+pub readable : (what : Subject) (steps cells : List ℕ) → Readable what (reportOf what steps cells)
 unfolding reportOf hasPassed hasLine beginsWith isFirst refusalLines endLine anyOf isLine equalList lineText _is_ text
-readable (subject.Ran o) cells = read-by (subject.Ran o) (runReport o cells) (run-ends o cells) (begins-passed o cells) (anywhere o cells)
-readable (subject.Refused number place) cells =
+readable (subject.Ran o) steps cells =
+    read-by (subject.Ran o) (runReport o steps cells) (run-ends o steps cells) (begins-passed o steps cells) (anywhere o steps cells)
+readable (subject.Refused number place) steps cells =
     read-by (subject.Refused number place) (refusalReport number place) (refusal-ends number place)
     (ap (isFirst "verdict=passed") (refusal-read number place)) (ap (anyOf (isLine "verdict=passed")) (refusal-read number place))
 
@@ -187,45 +199,62 @@ spent-line (Outside thread at) e = absurd (false≢true e)
 spent-line (Diverged thread other) e = absurd (false≢true e)
 spent-line Spent e = refl
 
-pub begins-spent : (o : Outcome) (cells : List ℕ) → beginsWith "verdict=spent" (runReport o cells) ≡ true → o .verdict ≡ Spent
-begins-spent o cells e = spent-line (o .verdict) (sym (begins "verdict=spent" o cells) ∙ e)
+pub begins-spent : (o : Outcome) (steps cells : List ℕ) → beginsWith "verdict=spent" (runReport o steps cells) ≡ true → o .verdict ≡ Spent
+begins-spent o steps cells e = spent-line (o .verdict) (sym (begins "verdict=spent" o steps cells) ∙ e)
 
-pub spent-begins : (o : Outcome) (cells : List ℕ) → o .verdict ≡ Spent → beginsWith "verdict=spent" (runReport o cells) ≡ true
+pub spent-begins : (o : Outcome) (steps cells : List ℕ) → o .verdict ≡ Spent → beginsWith "verdict=spent" (runReport o steps cells) ≡ true
 unfolding isLine equalList verdictLine verdictText text
-spent-begins o cells e = begins "verdict=spent" o cells ∙ ap (λ v. isLine "verdict=spent" (verdictLine v)) e
+spent-begins o steps cells e = begins "verdict=spent" o steps cells ∙ ap (λ v. isLine "verdict=spent" (verdictLine v)) e
 
--- The numbers on the lines of a run's report. The last part of it has no other key than `cell` and `end`.
-cells-said : (cells : List ℕ) → saidBy "cell" (eachLine (text "cell") cells ++ (endLine ∷ [])) ≡ map some cells
-unfolding saidBy eachLine endLine _is_ equalList text valueText
-cells-said [] = refl
-cells-said (c ∷ cells) = ap₂ (λ (x : Option ℕ) (xs : List (Option ℕ)). x ∷ xs) (number-back c) (cells-said cells)
+-- The numbers on the lines of a run's report.
+each-said : (key own : String) (ns : List ℕ) (rest : List Line)
+    → saidBy key (eachLine (text own) ns ++ rest) ≡ cond (equalList (text own) (text key)) (map some ns) [] ++ saidBy key rest
+unfolding saidBy eachLine valueText
+each-said key own [] rest = by (equalList (text own) (text key))
+  where
+    by : (b : Bool) → saidBy key rest ≡ cond b [] [] ++ saidBy key rest
+    by true = refl
+    by false = refl
+each-said key own (n ∷ ns) rest = by (equalList (text own) (text key)) (each-said key own ns rest)
+  where
+    more : List (Option ℕ)
+    more = saidBy key (eachLine (text own) ns ++ rest)
 
-module _ (key : String) (no-cell : equalList (text "cell") (text key) ≡ false) (no-end : equalList (text "end") (text key) ≡ false) where
-  nothing-said : (cells : List ℕ) → saidBy key (eachLine (text "cell") cells ++ (endLine ∷ [])) ≡ []
-  unfolding saidBy eachLine endLine _is_
-  nothing-said [] = rw no-end refl
-  nothing-said (c ∷ cells) = rw no-cell (nothing-said cells)
+    by : (b : Bool) → more ≡ cond b (map some ns) [] ++ saidBy key rest
+        → cond b (numberIn (decimal n) ∷ []) [] ++ more ≡ cond b (some n ∷ map some ns) [] ++ saidBy key rest
+    by true e = ap₂ (λ (x : Option ℕ) (xs : List (Option ℕ)). x ∷ xs) (number-back n) e
+    by false e = e
 
-said-in : (key : String) (o : Outcome) (cells : List ℕ) → numbersAt key (runReport o cells) ≡ saidBy key (runLines o cells)
-unfolding runReport
-said-in key o cells = numbers-back key (runLines o cells) (run-keyed o cells)
+module _ (key : String) (o : Outcome) (steps cells : List ℕ) where
+  abbrev saidUnder : (own : String) → (ns : List ℕ) → List (Option ℕ)
+  saidUnder own ns = cond (equalList (text own) (text key)) (map some ns) []
 
-one-said : (n : ℕ) (rest : List (Option ℕ)) → rest ≡ [] → numberIn (decimal n) ∷ rest ≡ some n ∷ []
-one-said n rest e = ap₂ (λ (x : Option ℕ) (xs : List (Option ℕ)). x ∷ xs) (number-back n) e
+  behind-said : saidBy key (behind o steps cells (endLine ∷ []))
+      ≡ saidUnder "steps" steps ++ (saidUnder "barriers" (o .barriers ∷ []) ++ (saidUnder "cell" cells ++ saidBy key (endLine ∷ [])))
+  behind-said =
+      each-said key "steps" steps _
+      ∙ ap (λ xs. saidUnder "steps" steps ++ xs)
+      (each-said key "barriers" (o .barriers ∷ []) _ ∙ ap (λ xs. saidUnder "barriers" (o .barriers ∷ []) ++ xs) (each-said key "cell" cells (endLine ∷ [])))
 
-module _ (o : Outcome) (cells : List ℕ) where
-  pub steps-read : numbersAt "steps" (runReport o cells) ≡ some (o .steps) ∷ []
-  unfolding runLines headLines headWith saidBy _is_ equalList text valueText
-  steps-read = said-in "steps" o cells ∙ one-said (o .steps) _ (nothing-said "steps" refl refl cells)
+  said-in : numbersAt key (runReport o steps cells) ≡ saidBy key (headLines o ++ behind o steps cells (endLine ∷ []))
+  unfolding runReport
+  said-in = numbers-back key (runLines o steps cells) (run-keyed o steps cells) ∙ ap (saidBy key) (run-lines o steps cells)
 
-  pub barriers-read : numbersAt "barriers" (runReport o cells) ≡ some (o .barriers) ∷ []
-  unfolding runLines headLines headWith saidBy _is_ equalList text valueText
-  barriers-read = said-in "barriers" o cells ∙ one-said (o .barriers) _ (nothing-said "barriers" refl refl cells)
+module _ (o : Outcome) (steps cells : List ℕ) where
+  pub rows-read : numbersAt "rows" (runReport o steps cells) ≡ some (o .rows) ∷ []
+  unfolding headLines headWith endLine saidBy _is_ equalList text valueText
+  rows-read =
+      said-in "rows" o steps cells
+      ∙ ap₂ (λ (x : Option ℕ) (xs : List (Option ℕ)). x ∷ xs) (number-back (o .rows)) (behind-said "rows" o steps cells)
 
-  pub rows-read : numbersAt "rows" (runReport o cells) ≡ some (o .rows) ∷ []
-  unfolding runLines headLines headWith saidBy _is_ equalList text valueText
-  rows-read = said-in "rows" o cells ∙ one-said (o .rows) _ (nothing-said "rows" refl refl cells)
+  pub steps-read : numbersAt "steps" (runReport o steps cells) ≡ map some steps
+  unfolding headLines headWith endLine saidBy _is_ equalList text valueText
+  steps-read = said-in "steps" o steps cells ∙ behind-said "steps" o steps cells ∙ append-nil (map some steps)
 
-  pub cells-read : numbersAt "cell" (runReport o cells) ≡ map some cells
-  unfolding runLines headLines headWith saidBy _is_ equalList text valueText
-  cells-read = said-in "cell" o cells ∙ cells-said cells
+  pub barriers-read : numbersAt "barriers" (runReport o steps cells) ≡ some (o .barriers) ∷ []
+  unfolding headLines headWith endLine saidBy _is_ equalList text valueText
+  barriers-read = said-in "barriers" o steps cells ∙ behind-said "barriers" o steps cells
+
+  pub cells-read : numbersAt "cell" (runReport o steps cells) ≡ map some cells
+  unfolding headLines headWith endLine saidBy _is_ equalList text valueText
+  cells-read = said-in "cell" o steps cells ∙ behind-said "cell" o steps cells ∙ append-nil (map some cells)

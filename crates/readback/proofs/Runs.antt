@@ -27,9 +27,10 @@ unfolding checkPrints
 file-readable file = by (fileLaunch file)
   where
     by : (x : Checked Launch) → Readable (subjectOf x) (printed x)
-    by (refused why) = unfold subjectOf printed reportOf in (readable (subject.Refused (refusalNumber why) (refusalPlace why)) [])
+    by (refused why) = unfold subjectOf printed reportOf in (readable (subject.Refused (refusalNumber why) (refusalPlace why)) [] [])
     by (accepted launch) =
-        unfold subjectOf printed launchReport reportOf in (readable (subject.Ran (outcomeOf (launchRun launch))) (launchRun launch .state .cells))
+        let run = launchRun launch in
+        unfold subjectOf printed launchReport reportOf in (readable (subject.Ran (outcomeOf run)) (run .state .steps) (run .state .cells))
 
 -- An accepted launch.
 module _ (file : List ℕ) (launch : Launch) (e : fileLaunch file ≡ accepted launch) where
@@ -39,16 +40,16 @@ module _ (file : List ℕ) (launch : Launch) (e : fileLaunch file ≡ accepted l
   abbrev outcome : Outcome
   outcome = outcomeOf run
 
-  demand : Demand3 (launch .table) (launch .threads) (launch .cells) (launch .limit) outcome (run .state .cells)
+  demand : Demand3 (launch .table) (launch .threads) (launch .cells) (launch .limit) outcome (run .state .steps) (run .state .cells)
   demand = launch-demand3 file launch e
 
   has-passed : beginsWith "verdict=passed" (launchReport launch) ≡ true → outcome .verdict ≡ Passed
   unfolding launchReport
-  has-passed b = only-passed (outcome .verdict) (sym (begins-passed outcome (run .state .cells)) ∙ b)
+  has-passed b = only-passed (outcome .verdict) (sym (begins-passed outcome (run .state .steps) (run .state .cells)) ∙ b)
 
   says-passed : outcome .verdict ≡ Passed → beginsWith "verdict=passed" (launchReport launch) ≡ true
   unfolding launchReport
-  says-passed p = begins-passed outcome (run .state .cells) ∙ is-passed (outcome .verdict) p
+  says-passed p = begins-passed outcome (run .state .steps) (run .state .cells) ∙ is-passed (outcome .verdict) p
 
   not-spent : outcome .verdict ≡ Passed → ¬ (outcome .verdict ≡ Spent)
   unfolding isPassed
@@ -56,18 +57,18 @@ module _ (file : List ℕ) (launch : Launch) (e : fileLaunch file ≡ accepted l
 
   unspent : beginsWith "verdict=spent" (launchReport launch) ≡ false → ¬ (outcome .verdict ≡ Spent)
   unfolding launchReport
-  unspent b q = false≢true (sym b ∙ spent-begins outcome (run .state .cells) q)
+  unspent b q = false≢true (sym b ∙ spent-begins outcome (run .state .steps) (run .state .cells) q)
 
   passed-report : outcome .verdict ≡ Passed → PassedReport launch (launchReport launch)
   unfolding launchReport
   passed-report p =
       record {
-        steps = outcome .steps;
+        steps = run .state .steps;
         barriers = outcome .barriers;
         final = run .state .cells;
-        stepsLine = steps-read outcome (run .state .cells);
-        barriersLine = barriers-read outcome (run .state .cells);
-        cellLines = cells-read outcome (run .state .cells);
+        stepsLines = steps-read outcome (run .state .steps) (run .state .cells);
+        barriersLine = barriers-read outcome (run .state .steps) (run .state .cells);
+        cellLines = cells-read outcome (run .state .steps) (run .state .cells);
         runs = demand .exactly (not-spent p) .0 p;
         says = demand .passed p;
       }
@@ -77,11 +78,11 @@ module _ (file : List ℕ) (launch : Launch) (e : fileLaunch file ≡ accepted l
 
   counted : numbersAt "barriers" (launchReport launch) ≡ some (length (countedIn launch)) ∷ []
   unfolding launchReport
-  counted = barriers-read outcome (run .state .cells) ∙ ap (λ n. some n ∷ []) (sym (demand .counted))
+  counted = barriers-read outcome (run .state .steps) (run .state .cells) ∙ ap (λ n. some n ∷ []) (sym (demand .counted))
 
   spent : beginsWith "verdict=spent" (launchReport launch) ≡ true → numbersAt "rows" (launchReport launch) ≡ some (launch .limit) ∷ []
   unfolding launchReport
-  spent b = rows-read outcome (run .state .cells) ∙ ap (λ n. some n ∷ []) (demand .spent (begins-spent outcome (run .state .cells) b))
+  spent b = rows-read outcome (run .state .steps) (run .state .cells) ∙ ap (λ n. some n ∷ []) (demand .spent (begins-spent outcome (run .state .steps) (run .state .cells) b))
 
 -- What is printed for an accepted file is its launch's report; what is printed for any other does not begin with `verdict=passed`.
 pub launch-printed : (file : List ℕ) (launch : Launch) → fileLaunch file ≡ accepted launch → checkPrints file ≡ launchReport launch

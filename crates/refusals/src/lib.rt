@@ -22,7 +22,7 @@ pub fn words(why: Refusal) -> [u32; 2]
         Refusal::CellsLength => [20, 0],
         Refusal::LogLength => [21, 0],
         Refusal::ReportTooLong(place) => [22, place],
-        Refusal::ReportCells => [23, 0],
+        Refusal::ReportLines => [23, 0],
         Refusal::OutputLength => [24, 0],
     }
 }

@@ -1,5 +1,5 @@
--- The report of a run as the parts that the writer writes: the head, the cells, the last line. Assumes nothing.
-use mathlib.Core.Path.{_≡_, refl, sym, ap, ap₂, _∙_}
+-- The report of a run as the parts that the writer writes: the head, the steps, the barriers, the cells, the last line. Assumes nothing.
+use mathlib.Core.Path.{_≡_, refl, sym, ap, _∙_}
 use mathlib.Core.List.{List, [], _∷_, _++_, append-assoc}
 use Prim.Native.Nat.{ℕ, _+_}
 use native.Mathlib.Omega.{arith}
@@ -7,17 +7,23 @@ use lib.ListN.{length, length-append}
 use Rattle.spec.specs.declared.Outcome.{Outcome}
 use Rattle.spec.specs.declared.Value.{Value}
 use Rattle.spec.specs.Text.{text}
-use Rattle.spec.specs.Report.{Line, bytesOf, eachLine, headLines, endLine, runLines, runReport, refusalReport, reportOf}
+use Rattle.spec.specs.Report.{Line, bytesOf, eachLine, headLines, barriersLine, endLine, runLines, runReport, refusalReport, reportOf}
 use Rattle.spec.specs.Entries.{over}
 use Rattle.report.specs.Subjects.{refused}
-use Rattle.reporttable.specs.Numbered.{headCount, endNumber, tableLines}
+use Rattle.reporttable.specs.Numbered.{headCount, barriersNumber, refusedNumber, endNumber, tableLines}
 use Rattle.reporttable.proofs.Numbered.{bytes-append}
 use Rattle.reportvalues.specs.Values.{runValues, refusalValues}
-use Rattle.reportvalues.proofs.Lines.{head-listed, end-listed, refusal-listed}
+use Rattle.reportvalues.proofs.Lines.{head-listed, barriers-listed, end-listed, refusal-listed}
 use Rattle.reportlines.proofs.Writing.{Stands, started}
 
 abbrev pub head : List Value → List ℕ
 head values = bytesOf (tableLines values 0 headCount)
+
+abbrev pub stepsPart : List ℕ → List ℕ
+stepsPart steps = bytesOf (eachLine (text "steps") steps)
+
+abbrev pub barriersPart : List Value → List ℕ
+barriersPart values = bytesOf (tableLines values barriersNumber 1)
 
 abbrev pub cellsPart : List ℕ → List ℕ
 cellsPart cells = bytesOf (eachLine (text "cell") cells)
@@ -25,20 +31,47 @@ cellsPart cells = bytesOf (eachLine (text "cell") cells)
 abbrev pub last : List Value → List ℕ
 last values = bytesOf (tableLines values endNumber 1)
 
-module _ (o : Outcome) (cells : List ℕ) (values : List Value) (e : values ≡ runValues o) where
-  pub run-parts : (head values ++ cellsPart cells) ++ last values ≡ runReport o cells
+-- One part more each.
+abbrev pub toSteps : List Value → (steps : List ℕ) → List ℕ
+toSteps values steps = head values ++ stepsPart steps
+
+abbrev pub toBarriers : List Value → (steps : List ℕ) → List ℕ
+toBarriers values steps = toSteps values steps ++ barriersPart values
+
+abbrev pub toCells : List Value → (steps cells : List ℕ) → List ℕ
+toCells values steps cells = toBarriers values steps ++ cellsPart cells
+
+-- Their lengths.
+pub to-steps : (values : List Value) (steps : List ℕ) → length (toSteps values steps) ≡ length (head values) + length (stepsPart steps)
+to-steps values steps = length-append (head values) (stepsPart steps)
+
+pub to-barriers : (values : List Value) (steps : List ℕ)
+    → length (toBarriers values steps) ≡ length (head values) + length (stepsPart steps) + length (barriersPart values)
+to-barriers values steps = omega (arith, to-steps values steps, length-append (toSteps values steps) (barriersPart values))
+
+pub to-cells : (values : List Value) (steps cells : List ℕ)
+    → length (toCells values steps cells) ≡ length (head values) + length (stepsPart steps) + length (barriersPart values) + length (cellsPart cells)
+to-cells values steps cells = omega (arith, to-barriers values steps, length-append (toBarriers values steps) (cellsPart cells))
+
+-- The lines of a report, part by part, as bytes.
+bytes-of-parts : (h s b c l : List Line) → bytesOf (h ++ (s ++ (b ++ (c ++ l)))) ≡ (((bytesOf h ++ bytesOf s) ++ bytesOf b) ++ bytesOf c) ++ bytesOf l
+bytes-of-parts h s b c l =
+    ap bytesOf (sym (append-assoc h s (b ++ (c ++ l))) ∙ sym (append-assoc (h ++ s) b (c ++ l)) ∙ sym (append-assoc ((h ++ s) ++ b) c l))
+    ∙ bytes-append (((h ++ s) ++ b) ++ c) l
+    ∙ ap (λ (x : List ℕ). x ++ bytesOf l) (bytes-append ((h ++ s) ++ b) c
+    ∙ ap (λ (x : List ℕ). x ++ bytesOf c) (bytes-append (h ++ s) b ∙ ap (λ (x : List ℕ). x ++ bytesOf b) (bytes-append h s)))
+
+module _ (o : Outcome) (steps cells : List ℕ) (values : List Value) (e : values ≡ runValues o) where
+  pub run-parts : toCells values steps cells ++ last values ≡ runReport o steps cells
   unfolding runReport runLines
   run-parts =
-      ap₂ (λ (h l : List Line). (bytesOf h ++ cellsPart cells) ++ bytesOf l)
-      (ap (λ (v : List Value). tableLines v 0 headCount) e ∙ head-listed o)
-      (ap (λ (v : List Value). tableLines v endNumber 1) e ∙ end-listed o)
-      ∙ append-assoc (bytesOf (headLines o)) (cellsPart cells) (bytesOf (endLine ∷ []))
-      ∙ ap (λ (l : List ℕ). bytesOf (headLines o) ++ l) (sym (bytes-append (eachLine (text "cell") cells) (endLine ∷ [])))
-      ∙ sym (bytes-append (headLines o) (eachLine (text "cell") cells ++ (endLine ∷ [])))
+      rw (e, head-listed o, barriers-listed o, end-listed o)
+      (sym (bytes-of-parts (headLines o) (eachLine (text "steps") steps) (barriersLine o ∷ []) (eachLine (text "cell") cells) (endLine ∷ [])))
 
-  pub run-size : length (head values) + length (cellsPart cells) + length (last values) ≡ length (runReport o cells)
-  run-size =
-      omega (arith, ap length run-parts, length-append (head values ++ cellsPart cells) (last values), length-append (head values) (cellsPart cells))
+  pub run-size :
+      length (head values) + length (stepsPart steps) + length (barriersPart values) + length (cellsPart cells) + length (last values)
+      ≡ length (runReport o steps cells)
+  run-size = omega (arith, ap length run-parts, to-cells values steps cells, length-append (toCells values steps cells) (last values))
 
 -- Nothing has been written.
 pub nothing : (xs : List ℕ) → Stands xs xs [] 0
@@ -47,6 +80,6 @@ nothing xs = started (omega arith) refl refl
 
 -- A refusal's report is the last lines of the table.
 pub refusal-part : (number place : ℕ) (values : List Value) → values ≡ refusalValues number place
-    → bytesOf (tableLines values headCount 3) ≡ reportOf (refused number place) []
+    → bytesOf (tableLines values refusedNumber 3) ≡ reportOf (refused number place) [] []
 unfolding reportOf refusalReport
-refusal-part number place values e = ap (λ (v : List Value). bytesOf (tableLines v headCount 3)) e ∙ ap bytesOf (refusal-listed number place)
+refusal-part number place values e = ap (λ (v : List Value). bytesOf (tableLines v refusedNumber 3)) e ∙ ap bytesOf (refusal-listed number place)

@@ -9,7 +9,7 @@ use Rattle.spec.specs.declared.Subject.{Subject}
 use Rattle.spec.specs.declared.Subject.the-variants as subject
 use Rattle.spec.specs.Limits.{fileOutput}
 use Rattle.spec.specs.Report.{reportOf}
-use Rattle.spec.specs.Entries.{cellsReported}
+use Rattle.spec.specs.Entries.{linesReported}
 
 abbrev pub ran : Outcome → Subject
 ran = subject.Ran
@@ -18,5 +18,5 @@ abbrev pub refused : ℕ → ℕ → Subject
 refused = subject.Refused
 
 -- A report that is not turned back by 23 fits into the output that the whole-file entry asks for.
-abbrev pub FitsOutput : Subject → List ℕ → Type 0
-FitsOutput what cells = cellsReported what cells ≡ none → length (reportOf what cells) ≤ fileOutput
+abbrev pub FitsOutput : Subject → (steps cells : List ℕ) → Type 0
+FitsOutput what steps cells = linesReported what steps cells ≡ none → length (reportOf what steps cells) ≤ fileOutput

@@ -62,7 +62,6 @@ pub fn run_values(outcome: Outcome) -> [Value; reporttable::COUNT]
     let at = stopped.at;
     let how = Value::Verdict(verdict);
     let rows = Value::Number(outcome.rows);
-    let steps = Value::Number(outcome.steps);
     let barriers = Value::Number(outcome.barriers);
     [
         how,
@@ -72,7 +71,6 @@ pub fn run_values(outcome: Outcome) -> [Value; reporttable::COUNT]
         kind,
         at,
         rows,
-        steps,
         barriers,
         none,
         none,

@@ -1,24 +1,29 @@
 -- The run, one row at a time. Assumes nothing.
-use mathlib.Core.Path.{_≡_, refl, sym, _∙_, ap, subst}
+use mathlib.Core.Path.{_≡_, refl, sym, _∙_, ap, subst, subst₂}
 use mathlib.Core.Logic.{_⊎_, inl, inr, ⊎-elim}
 use mathlib.Core.List.{List, [], _∷_}
 use mathlib.Core.Bool.{true, false}
 use Prim.Native.Nat.{ℕ, zero, suc, _+_, _-_, _*_, _/_, _^_, _<_, _≤_}
 use native.Mathlib.Omega.{arith}
 use native.Mathlib.Decide.{ℕ-discrete}
-use borrow.Author.Tests.{le-leb, lt-leb}
+use borrow.Author.Tests.{le-leb, lt-leb, eq-eqb, ne-eqb}
 use lib.ListN.{length, getD, replicate, length-replicate, getD-replicate}
 use Rattle.spec.specs.Limits.{logPerCell}
 use Rattle.spec.specs.declared.Verdict.{Verdict}
 use Rattle.spec.specs.declared.Verdict.the-variants.{Passed, Spent}
 use Rattle.spec.specs.declared.Outcome.{Outcome}
-use Rattle.spec.specs.Op.{Op, IF, ELSE, ENDIF, WHILE, ENDWHILE, UNKNOWN, opOf}
-use Rattle.spec.specs.Table.{Table, rowsOf, opening, role, rowAt, openBefore, openedBy, innermost, Fits, rowOf}
+use Rattle.spec.specs.Mask.{Mask, maskWord, members}
+use Rattle.spec.specs.Op.{Op, CALC, MEM, IF, ELSE, ENDIF, WHILE, ENDWHILE, BARRIER, UNKNOWN, opOf}
+use Rattle.spec.specs.Table.{Table, Row, rowsOf, opening, role, rowAt, openBefore, openedBy, innermost, Fits, rowOf}
 use Rattle.spec.specs.Shape.{Shape, shapeOf}
 use Rattle.spec.specs.LockStep.{LockState, Step, continues, stops, topOpener, runRow, LockResult, resultOf, runFrom, initialState, lockstep, outcomeOf}
+use Rattle.spec.specs.LockStep.{advance, countSteps, endifRow, pop, topMask}
+use Rattle.spec.specs.Steps.{allStepped}
+use Rattle.spec.specs.Entries.{over}
 use Rattle.spec.specs.Threads.{Group, machine, initialGroup}
 use Rattle.spec.specs.Runs.{after}
-use Rattle.spec.proofs.Laws.{row-bytes, rows-length, role-while, top-cons, byte-if, byte-else, byte-endif, byte-while, byte-endwhile}
+use Rattle.spec.proofs.StepLaws.{all-stepped-size}
+use Rattle.spec.proofs.Laws.{lt-or-le, row-bytes, rows-length, role-while, top-cons, byte-if, byte-else, byte-endif, byte-while, byte-endwhile, byte-barrier}
 use Rattle.structure.proofs.Acceptance.{well-formed, depth-bounded}
 use Rattle.allruns.proofs.Nesting.{isWhile}
 use Rattle.allruns.proofs.Simulation.{Frame}
@@ -34,21 +39,26 @@ use Rattle.layout.proofs.LogBuffer.{empty-is}
 use Rattle.layout.proofs.Reach.{zeros-empty}
 use Rattle.layout.proofs.Saving.{saves-back}
 use Rattle.layout.specs.Represents.{Represents, After, Counted, Counts, RoomForWhile}
-use Rattle.layout.specs.Running.{Ready, Runnable, Steps, RunIs, endedAs}
-use Rattle.step.proofs.Tables.{row-inside}
+use Rattle.layout.specs.Running.{RowAsks, Ready, Runnable, Steps, RunIs, startState, endedAs}
+use Rattle.layout.specs.Counting.{Roomy, Added, stepping, NextCounted, actedBefore, ThreadFits, Tally}
+use Rattle.stepcounts.proofs.RowSteps.{whoSteps, RowSteps, StoppedRow, row-steps}
+use Rattle.stepcounts.proofs.Tallies.{tally-start, tally-room, tally-row, tally-end, tally-fits, tally-stop-room, tally-stop}
+use Rattle.step.proofs.Tables.{row-inside, compute-op, mem-op}
 use Rattle.run.proofs.RowBytes.{row-asks}
 
 -- Between two rows: the code's state stands for some state of the lock-step run, which is simulated by the threads' machine, and from which the rest of the run
 -- is the whole run.
-pub record Going (table : List ℕ) (n limit : ℕ) (cells₀ : List ℕ) (s : State) (regs cells log saved openers : List ℕ) : Type 0 where
+pub record Going (table : List ℕ) (n limit : ℕ) (cells₀ : List ℕ) (s : State) (regs cells log saved openers counts : List ℕ) : Type 0 where
   pub here : LockState
   pub frames : List Frame
   pub group : Group
   pub sim : Sim (rowsOf table) (shapeBy n cells₀) here frames group
   pub rep : Represents n here s regs cells log saved openers
   pub same : runFrom (rowsOf table) (shapeBy n cells₀) (limit - s .rows) here ≡ lockstep (rowsOf table) n cells₀ limit
+  pub tally : Tally here s counts
+  pub every : length (here .steps) ≡ n
   pub rows-most : s .rows ≤ limit
-  pub steps-few : s .steps ≤ 32 * s .rows
+  pub since-few : s .since ≤ s .rows
   pub barriers-few : s .barriers ≤ s .rows
 
 start-regs : (n : ℕ) → n ≤ 32 → Regs n (replicate n (replicate 16 0)) (replicate 512 0)
@@ -61,12 +71,11 @@ start-regs n l =
           ∙ sym (ap (λ x. getD x r 0) (getD-replicate n t (replicate 16 0) [] h) ∙ getD-replicate {A = ℕ} 16 r 0 0 q);
     }
 
-pub go-start : (table ends : List ℕ) (n limit m : ℕ) (cells log : List ℕ) → Runnable table ends → n ≤ 32 → m ≡ 2 ^ n - 1
+go-fresh : (table ends : List ℕ) (n limit m : ℕ) (cells log : List ℕ) → Runnable table ends → n ≤ 32 → m ≡ 2 ^ n - 1
     → length log ≡ logPerCell * length cells → (log′ : List ℕ) → log′ ≡ replicate (length log) 0
-    → Going table n limit cells (record { reach = 0; row = 0; mask = m; depth = 0; rows = 0; steps = 0; barriers = 0 }) (replicate 512 0) cells log′
-    (replicate 8 0) (replicate 8 0)
+    → Going table n limit cells (startState m) (replicate 512 0) cells log′ (replicate 8 0) (replicate 8 0) (replicate 32 0)
 unfolding initialState lockstep shapeOf
-go-start table ends n limit m cells log A l em el log′ ez =
+go-fresh table ends n limit m cells log A l em el log′ ez =
     record {
       here = initialState n cells;
       frames = [];
@@ -87,15 +96,23 @@ go-start table ends n limit m cells log A l em el log′ ez =
         saved-size = refl;
         openers-size = refl;
         rows-is = refl;
-        steps-is = refl;
         barriers-is = refl;
         reach-is = zeros-empty 0 (length cells) (length log) log′ ez;
       };
       same = ap (λ k. runFrom (rowsOf table) (shapeBy n cells) k (initialState n cells)) (let z : limit - 0 ≡ limit = omega arith in z);
+      tally = tally-start (initialState n cells) _ n refl refl;
+      every = length-replicate {A = ℕ} n 0;
       rows-most = omega arith;
-      steps-few = omega arith;
+      since-few = omega arith;
       barriers-few = omega arith;
     }
+
+pub go-start : (table ends : List ℕ) (n limit : ℕ) (cells log : List ℕ) (s : State) → Runnable table ends → n ≤ 32 → s ≡ startState (2 ^ n - 1)
+    → length log ≡ logPerCell * length cells → (log′ : List ℕ) → log′ ≡ replicate (length log) 0
+    → Going table n limit cells s (replicate 512 0) cells log′ (replicate 8 0) (replicate 8 0) (replicate 32 0)
+go-start table ends n limit cells log s A l es el log′ ez =
+    subst (λ x. Going table n limit cells x (replicate 512 0) cells log′ (replicate 8 0) (replicate 8 0) (replicate 32 0)) (sym es)
+    (go-fresh table ends n limit (2 ^ n - 1) cells log A l refl el log′ ez)
 
 -- How deep a row of an accepted table is.
 saved-length : (fs : List Frame) → length (savedOf fs) ≡ length (openersOf fs)
@@ -166,19 +183,80 @@ run-spent : (T : Table) (L : Shape) (z : LockState) → z .row < length T → ru
 unfolding runFrom
 run-spent T L z h = rw (lt-leb (length T) (z .row) h)
 
-ran-is : (n : ℕ) (o : LockResult) (v : Verdict) (z : LockState) (s : State) (r : Outcome) (regs cells log saved openers : List ℕ)
-    → record { verdict = v; state = z } ≡ o → r ≡ endedAs v s → Represents n z s regs cells log saved openers → RunIs o r cells log
+ran-is : (n : ℕ) (o : LockResult) (v : Verdict) (z : LockState) (s : State) (r : Outcome) (regs cells log saved openers counts : List ℕ)
+    → record { verdict = v; state = z } ≡ o → r ≡ endedAs v s → Represents n z s regs cells log saved openers → counts ≡ over (z .steps) (replicate 32 0)
+    → RunIs o r cells log counts
 unfolding outcomeOf
-ran-is n o v z s r regs cells log saved openers eo er R =
-    subst (λ x. RunIs x r cells log) eo
+ran-is n o v z s r regs cells log saved openers counts eo er R ec =
+    subst (λ x. RunIs x r cells log counts) eo
     (record {
-      outcome-is = er ∙ (λ i. record { verdict = v; row = R .row-is i; rows = R .rows-is i; steps = R .steps-is i; barriers = R .barriers-is i });
+      outcome-is = er ∙ (λ i. record { verdict = v; row = R .row-is i; rows = R .rows-is i; barriers = R .barriers-is i });
       cells-are = R .memory .cells-are;
       log-is = R .memory .log-is .words-are;
+      counts-are = ec;
     })
 
+abbrev enabledIn : Step → Mask
+enabledIn (continues z) = z .enabled
+enabledIn (stops v z) = z .enabled
+
+last : (k : ℕ) → 32 ≤ k → k ≤ 37 → (k ≡ 32 → ⊥) → (k ≡ 33 → ⊥) → (k ≡ 34 → ⊥) → (k ≡ 35 → ⊥) → (k ≡ 36 → ⊥) → k ≡ 37
+last k h l a b c d e = omega arith
+
+-- The threads that step in a row, by its byte.
+module _ (n k d a b : ℕ) (asks : RowAsks k d a b) (T : Table) (L : Shape) (x : Row) (z z′ : LockState) (s s′ : State)
+    (em : s .mask ≡ maskWord (z .enabled)) (em′ : s′ .mask ≡ maskWord (z′ .enabled)) (en : length (z .enabled) ≡ n) (en′ : length (z′ .enabled) ≡ n) where
+  abbrev Who : Op → Type 0
+  Who o = runRow T L x z o ≡ continues z′ → (stepping k s s′ ≡ maskWord (whoSteps o z)) × (length (whoSteps o z) ≤ n)
+
+  who-came : (o : Op) → (k ≡ 37 → ⊥) → (k ≡ 34 → ⊥) → whoSteps o z ≡ z .enabled → Who o
+  unfolding stepping
+  who-came o f g e q =
+      (rw (ne-eqb k 37 f, ne-eqb k 34 g) (em ∙ ap maskWord (sym e)), subst (λ m. length m ≤ n) (sym e) (omega arith))
+
+  who-nobody : k ≡ 37 → Who BARRIER
+  unfolding stepping whoSteps maskWord
+  who-nobody e q = (rw (eq-eqb k 37 e) refl, omega arith)
+
+  who-restored : k ≡ 34 → Who ENDIF
+  unfolding stepping whoSteps runRow endifRow advance
+  who-restored e q =
+      let same : topMask (z .saved) ≡ z′ .enabled = by q in
+      (rw (ne-eqb k 37 (λ y. omega arith), eq-eqb k 34 e) (em′ ∙ ap maskWord (sym same)), subst (λ m. length m ≤ n) (sym same) (omega arith))
+    where
+      by : continues (advance (suc (z .row)) (topMask (z .saved)) (pop (z .saved)) (countSteps (topMask (z .saved)) z)) ≡ continues z′ → topMask (z .saved) ≡ z′ .enabled
+      by q = ap (λ o. enabledIn o) q
+
+  pub who-steps : Who (opOf k)
+  unfolding whoSteps
+  who-steps = by (lt-or-le k 16) (lt-or-le k 32)
+    where
+      plain : (o : Op) → opOf k ≡ o → k < 32 → whoSteps o z ≡ z .enabled → Who (opOf k)
+      plain o e h w = subst Who (sym e) (who-came o (λ y. omega arith) (λ y. omega arith) w)
+
+      at : (j : ℕ) (o : Op) → opOf j ≡ o → k ≡ j → (k ≡ 37 → ⊥) → (k ≡ 34 → ⊥) → whoSteps o z ≡ z .enabled → Who (opOf k)
+      at j o p e f g w = subst Who (sym (ap opOf e ∙ p)) (who-came o f g w)
+
+      construct : 32 ≤ k → Who (opOf k)
+      construct h = each (ℕ-discrete k 32) (ℕ-discrete k 33) (ℕ-discrete k 34) (ℕ-discrete k 35) (ℕ-discrete k 36)
+        where
+          each : Dec (k ≡ 32) → Dec (k ≡ 33) → Dec (k ≡ 34) → Dec (k ≡ 35) → Dec (k ≡ 36) → Who (opOf k)
+          each (yes e) q1 q2 q3 q4 = at 32 IF byte-if e (λ y. omega arith) (λ y. omega arith) refl
+          each (no f) (yes e) q2 q3 q4 = at 33 ELSE byte-else e (λ y. omega arith) (λ y. omega arith) refl
+          each (no f) (no g) (yes e) q3 q4 = subst Who (sym (ap opOf e ∙ byte-endif)) (who-restored e)
+          each (no f) (no g) (no i) (yes e) q4 = at 35 WHILE byte-while e (λ y. omega arith) i refl
+          each (no f) (no g) (no i) (no j) (yes e) = at 36 ENDWHILE byte-endwhile e (λ y. omega arith) i refl
+          each (no f) (no g) (no i) (no j) (no l) =
+              let e : k ≡ 37 = last k h (asks .known) f g i j l in
+              subst Who (sym (ap opOf e ∙ byte-barrier)) (who-nobody e)
+
+      by : (k < 16) ⊎ (16 ≤ k) → (k < 32) ⊎ (32 ≤ k) → Who (opOf k)
+      by (inl h) q = let c = compute-op k (asks .computes h .known) (asks .computes h .small) in plain (CALC (c .0)) (c .1) (omega arith) refl
+      by (inr h) (inl l) = let m = mem-op k h (asks .accesses h l .0) in plain (MEM (m .0)) (m .1) l refl
+      by (inr h) (inr l) = construct l
+
 module _ (table ends : List ℕ) (n limit : ℕ) (cells₀ : List ℕ) (s : State) (regs cells log saved openers : List ℕ)
-    (G : Going table n limit cells₀ s regs cells log saved openers) (A : Runnable table ends) where
+    (counts : List ℕ) (G : Going table n limit cells₀ s regs cells log saved openers counts) (A : Runnable table ends) where
   abbrev T : Table
   T = rowsOf table
 
@@ -192,18 +270,28 @@ module _ (table ends : List ℕ) (n limit : ℕ) (cells₀ : List ℕ) (s : Stat
   at-row : s .row < length T → G .here .row < length T
   at-row h = subst (λ r. r < length T) (G .rep .row-is) h
 
-  pub go-passed : (r : Outcome) → length table / 4 ≤ s .row → r ≡ endedAs Passed s → RunIs (lockstep T n cells₀ limit) r cells log
-  go-passed r h e =
-      let l : length T ≤ G .here .row = omega (arith, rows-length table, G .rep .row-is) in
-      ran-is n (lockstep T n cells₀ limit) Passed (G .here) s r regs cells log saved openers
-      (sym (run-end T L (limit - s .rows) (G .here) l) ∙ G .same) e (G .rep)
+  -- and there is room to count what was stepped
+  pub go-room : (k : ℕ) → k ≤ s .since + 1 → limit ≤ 1000000 → Roomy (s .mask) k counts
+  go-room k h l = tally-room (G .here) s counts (G .tally) k h (omega (arith, G .rows-most))
 
-  pub go-spent : (r : Outcome) → s .row < length table / 4 → s .rows ≡ limit → r ≡ endedAs Spent s → RunIs (lockstep T n cells₀ limit) r cells log
-  go-spent r h m e =
+  threads-few : length (G .here .steps) ≤ 32
+  threads-few = omega (arith, G .every, G .rep .memory .few)
+
+  pub go-passed : (r : Outcome) (counts′ : List ℕ) → length table / 4 ≤ s .row → r ≡ endedAs Passed s → Added (s .mask) (s .since) counts counts′
+      → RunIs (lockstep T n cells₀ limit) r cells log counts′
+  go-passed r counts′ h e C =
+      let l : length T ≤ G .here .row = omega (arith, rows-length table, G .rep .row-is) in
+      ran-is n (lockstep T n cells₀ limit) Passed (G .here) s r regs cells log saved openers counts′
+      (sym (run-end T L (limit - s .rows) (G .here) l) ∙ G .same) e (G .rep) (tally-end (G .here) s counts (G .tally) counts′ C threads-few)
+
+  pub go-spent : (r : Outcome) (counts′ : List ℕ) → s .row < length table / 4 → s .rows ≡ limit → r ≡ endedAs Spent s
+      → Added (s .mask) (s .since) counts counts′ → RunIs (lockstep T n cells₀ limit) r cells log counts′
+  go-spent r counts′ h m e C =
       let l : s .row < length T = omega (arith, rows-length table) in
       let k : limit - s .rows ≡ 0 = omega arith in
-      ran-is n (lockstep T n cells₀ limit) Spent (G .here) s r regs cells log saved openers
+      ran-is n (lockstep T n cells₀ limit) Spent (G .here) s r regs cells log saved openers counts′
       (sym (run-spent T L (G .here) (at-row l)) ∙ ap (λ j. runFrom T L j (G .here)) (sym k) ∙ G .same) e (G .rep)
+      (tally-end (G .here) s counts (G .tally) counts′ C threads-few)
 
   module _ (h : s .row < length table / 4) (m : s .rows ≡ limit → ⊥) where
     inside : s .row < length T
@@ -274,7 +362,7 @@ module _ (table ends : List ℕ) (n limit : ℕ) (cells₀ : List ℕ) (s : Stat
           room = record {
             row-few = omega (arith, A .few, inside);
             rows-few = omega (arith, G .rows-most);
-            steps-few = G .steps-few;
+            since-few = G .since-few;
             barriers-few = G .barriers-few;
           };
           asks = row-asks table (A .accepted) (s .row) inside;
@@ -301,51 +389,117 @@ module _ (table ends : List ℕ) (n limit : ℕ) (cells₀ : List ℕ) (s : Stat
     sims : RowDone T L (G .here) (G .group) done
     sims = row-done T (well-formed T (A .accepted)) L (G .here) (G .frames) (G .group) (G .sim) (at-row inside)
 
-    module _ (len : length cells ≡ length cells₀) (r : Next) (regs′ cells′ log′ saved′ openers′ : List ℕ)
-        (S : Steps table n s regs cells log saved openers r regs′ cells′ log′ saved′ openers′) where
+    abbrev byte : ℕ
+    byte = getD table (s .row * 4) 0
+
+    -- the definition's row, by its byte
+    row-byte : rowAt T (G .here .row) .op ≡ opOf byte
+    row-byte = ap (λ r. rowAt T r .op) (sym (G .rep .row-is)) ∙ op-here
+
+    counted : RowSteps (rowAt T (G .here .row) .op) (G .here) done
+    counted = row-steps T L (rowAt T (G .here .row)) (G .here) (rowAt T (G .here .row) .op)
+
+    module _ (len : length cells ≡ length cells₀) (r : Next) (regs′ cells′ log′ saved′ openers′ counts′ : List ℕ)
+        (S : Steps table n s regs cells log saved openers r regs′ cells′ log′ saved′ openers′)
+        (C : NextCounted (getD table (s .row * 4) 0) s r counts counts′) where
       stepped : After n done r regs′ cells′ log′ saved′ openers′
       stepped =
           subst (λ k. After n (runRow T (record { threads = n; cells = k }) (rowAt T (G .here .row)) (G .here) (rowAt T (G .here .row) .op)) r regs′
           cells′ log′ saved′ openers′) len
           (S .done (G .here) (G .rep))
 
-      pub go-next : (s′ : State) → r ≡ next.Go s′ → Going table n limit cells₀ s′ regs′ cells′ log′ saved′ openers′
-      go-next s′ e = by done stepped sims came
-        where
-          counted : Counted s s′
-          counted = subst (Counts s) e (S .counts)
+      -- after a row that goes on, the counts stand for the definition's
+      tally-next : (s′ : State) (z : LockState) → r ≡ next.Go s′ → done ≡ continues z → Represents n z s′ regs′ cells′ log′ saved′ openers′
+          → Tally z s′ counts′ × (length (z .steps) ≡ n)
+      tally-next s′ z e q R =
+          let o = rowAt T (G .here .row) .op in
+          let w = subst (λ p. runRow T L (rowAt T (G .here .row)) (G .here) p ≡ continues z
+          → (stepping byte s s′ ≡ maskWord (whoSteps p (G .here))) × (length (whoSteps p (G .here)) ≤ n)) (sym row-byte)
+          (who-steps n byte _ _ _ (row-asks table (A .accepted) (s .row) inside) T L (rowAt T (G .here .row)) (G .here) z s s′ (G .rep .enabled-is)
+          (R .enabled-is) (G .rep .enabled-size) (R .enabled-size)) q in
+          let more : z .steps ≡ allStepped (G .here .steps) (members (whoSteps o (G .here))) = subst (RowSteps o (G .here)) q counted in
+          let one : Counted s s′ = subst (Counts s) e (S .counts) in (
+            tally-row (G .here) s counts (G .tally) byte z s′ counts′ (whoSteps o (G .here))
+                (subst (λ x. NextCounted byte s x counts counts′) e C) more (w .0) (omega (arith, w .1, G .every)) (one .rows-one),
+            ap length more ∙ all-stepped-size (G .here .steps) _ ∙ G .every,
+          )
 
-          by : (o : Step) → After n o r regs′ cells′ log′ saved′ openers′ → RowDone T L (G .here) (G .group) o
+      pub go-next : (s′ : State) → r ≡ next.Go s′ → Going table n limit cells₀ s′ regs′ cells′ log′ saved′ openers′ counts′
+      go-next s′ e = by done refl stepped sims came
+        where
+          one : Counted s s′
+          one = subst (Counts s) e (S .counts)
+
+          by : (o : Step) → done ≡ o → After n o r regs′ cells′ log′ saved′ openers′ → RowDone T L (G .here) (G .group) o
               → resultOf o (runFrom T L (limit - (s .rows + 1))) ≡ lockstep T n cells₀ limit
-              → Going table n limit cells₀ s′ regs′ cells′ log′ saved′ openers′
-          by (stops v z) (u, f, R) W q = let y : _≡_ {A = ℕ} 0 1 = cc in absurd (omega arith)
-          by (continues z) (u, f, R) W q =
+              → Going table n limit cells₀ s′ regs′ cells′ log′ saved′ openers′ counts′
+          by (stops v z) d (u, f, R) W q = let y : _≡_ {A = ℕ} 0 1 = cc in absurd (omega arith)
+          by (continues z) d (u, f, R) W q =
               let eu : u ≡ s′ = cc in
+              let rep = subst (λ x. Represents n z x regs′ cells′ log′ saved′ openers′) eu R in
+              let tallied = tally-next s′ z e d rep in
               record {
                 here = z;
                 frames = W .frames;
                 group = after (machine T L) (G .group) (W .moves);
                 sim = W .sim;
-                rep = subst (λ x. Represents n z x regs′ cells′ log′ saved′ openers′) eu R;
-                same = ap (λ j. runFrom T L (limit - j) z) (counted .rows-one) ∙ (unfold resultOf in q);
-                rows-most = omega (arith, counted .rows-one, G .rows-most);
-                steps-few = omega (arith, counted .rows-one, counted .steps-some, G .steps-few);
-                barriers-few = omega (arith, counted .rows-one, counted .barriers-one, G .barriers-few);
+                rep = rep;
+                same = ap (λ j. runFrom T L (limit - j) z) (one .rows-one) ∙ (unfold resultOf in q);
+                tally = tallied .0;
+                every = tallied .1;
+                rows-most = omega (arith, one .rows-one, G .rows-most);
+                since-few = omega (arith, one .rows-one, one .since-one, G .since-few);
+                barriers-few = omega (arith, one .rows-one, one .barriers-one, G .barriers-few);
               }
 
-      pub go-stop : (v : Verdict) (s′ : State) (q : Outcome) → r ≡ next.Stop v s′ → q ≡ endedAs v s′ → RunIs (lockstep T n cells₀ limit) q cells′ log′
-      go-stop v s′ q e eq = by done stepped came
-        where
-          by : (o : Step) → After n o r regs′ cells′ log′ saved′ openers′
-              → resultOf o (runFrom T L (limit - (s .rows + 1))) ≡ lockstep T n cells₀ limit → RunIs (lockstep T n cells₀ limit) q cells′ log′
-          by (continues z) (u, f, R) c = let y : _≡_ {A = ℕ} 0 1 = cc in absurd (omega arith)
-          by (stops w z) (u, f, R) c =
-              let eu : u ≡ s′ = cc in
-              let ev : v ≡ w = cc in
-              let c′ : record { verdict = w; state = z } ≡ lockstep T n cells₀ limit = (unfold resultOf in c) in
-              ran-is n (lockstep T n cells₀ limit) w z s′ q regs′ cells′ log′ saved′ openers′ c′ (eq ∙ ap (λ y. endedAs y s′) ev)
-              (subst (λ x. Represents n z x regs′ cells′ log′ saved′ openers′) eu R)
+      -- a row that stops
+      module _ (v : Verdict) (s′ : State) (e : r ≡ next.Stop v s′) where
+        -- its number still fits
+        pub go-stop-row : s′ .row ≤ 256
+        go-stop-row = let q : s′ .row ≡ s .row = subst (Counts s) e (S .counts) in omega (arith, go-row)
 
-      -- where the row stops, its number still fits
-      pub go-stop-row : (v : Verdict) (s′ : State) → r ≡ next.Stop v s′ → s′ .row ≤ 256
-      go-stop-row v s′ e = let q : s′ .row ≡ s .row = subst (Counts s) e (S .counts) in omega (arith, go-row)
+        left-uncounted : (s′ .mask ≡ s .mask) × (s′ .since ≡ s .since) × (counts′ ≡ counts)
+        left-uncounted = subst (λ x. NextCounted byte s x counts counts′) e C
+
+        stopped : (z : LockState) × (done ≡ stops v z) × Represents n z s′ regs′ cells′ log′ saved′ openers′
+        stopped = by done refl stepped
+          where
+            by : (o : Step) → done ≡ o → After n o r regs′ cells′ log′ saved′ openers′
+                → (z : LockState) × (done ≡ stops v z) × Represents n z s′ regs′ cells′ log′ saved′ openers′
+            by (continues z) d (u, f, R) = let y : _≡_ {A = ℕ} 0 1 = cc in absurd (omega arith)
+            by (stops w z) d (u, f, R) =
+                let eu : u ≡ s′ = cc in
+                let ev : w ≡ v = cc in
+                (z, d ∙ ap (λ y. stops y z) ev, subst (λ x. Represents n z x regs′ cells′ log′ saved′ openers′) eu R)
+
+        acted : StoppedRow (G .here) v (stopped .0)
+        acted = subst (RowSteps (rowAt T (G .here .row) .op) (G .here)) (stopped .1) counted
+
+        enabled-few : length (G .here .enabled) ≤ length (G .here .steps)
+        enabled-few = omega (arith, G .rep .enabled-size, G .every)
+
+        pub go-stop-fits : ThreadFits v
+        go-stop-fits = tally-fits (G .here) s counts (G .tally) (G .rep .enabled-is) enabled-few threads-few v (stopped .0) acted
+
+        pub go-stop-room : limit ≤ 1000000 → Roomy (s′ .mask) 1 counts′
+        go-stop-room l = rw (left-uncounted .0, left-uncounted .2) (go-room 1 (omega arith) l)
+
+        module _ (counts₁ : List ℕ) (B : Added (actedBefore v (s′ .mask)) 1 counts′ counts₁) where
+          before : Added (actedBefore v (s .mask)) 1 counts counts₁
+          before = subst₂ (λ m l. Added (actedBefore v m) 1 l counts₁) (left-uncounted .0) (left-uncounted .2) B
+
+          pub go-stop-rest : limit ≤ 1000000 → Roomy (s′ .mask) (s′ .since) counts₁
+          go-stop-rest l =
+              rw (left-uncounted .0, left-uncounted .1)
+              (tally-stop-room (G .here) s counts (G .tally) (G .rep .enabled-is) enabled-few threads-few v (stopped .0) acted counts₁ before
+              (omega (arith, G .rows-most)))
+
+          pub go-stop : (q : Outcome) (counts₂ : List ℕ) → q ≡ endedAs v s′ → Added (s′ .mask) (s′ .since) counts₁ counts₂
+              → RunIs (lockstep T n cells₀ limit) q cells′ log′ counts₂
+          go-stop q counts₂ eq D =
+              let z = stopped .0 in
+              let c : record { verdict = v; state = z } ≡ lockstep T n cells₀ limit =
+              (unfold resultOf in (sym (ap (λ o. resultOf o (runFrom T L (limit - (s .rows + 1)))) (stopped .1)) ∙ came)) in
+              ran-is n (lockstep T n cells₀ limit) v z s′ q regs′ cells′ log′ saved′ openers′ counts₂ c eq (stopped .2)
+              (tally-stop (G .here) s counts (G .tally) (G .rep .enabled-is) enabled-few threads-few v z acted counts₁ counts₂ before
+              (subst₂ (λ m k. Added m k counts₁ counts₂) (left-uncounted .0) (left-uncounted .1) D))

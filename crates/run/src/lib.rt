@@ -1,22 +1,41 @@
 // The lock-step run: one row after the other, until the table's end, the limit, or a stop.
 ghost use mathlib.Core.Path.{_≡_};
-ghost use Prim.Native.Nat.{_*_, _≤_};
+ghost use Prim.Native.Nat.{_-_, _*_, _^_, _≤_};
 ghost use lib.ListN.{length};
 ghost use Rattle.spec.specs.Limits.{logPerCell};
 ghost use Rattle.spec.specs.Table.{rowsOf};
 ghost use Rattle.spec.specs.LockStep.{lockstep};
-ghost use Rattle.layout.specs.Running.{Runnable, RunIs, endedAs};
+ghost use Rattle.layout.specs.Running.{Runnable, RunIs, startState, endedAs};
+ghost use Rattle.layout.specs.Counting.{Roomy, Added};
 
-fn ended(v: spec::Verdict, s: layout::State) -> spec::Outcome
-    requires { ⌜ s .row ≤ 256 ⌝ }
-    ensures { λ r. ⌜ r ≡ endedAs v s ⌝ }
+// The run is over: what was stepped since the mask last changed is counted.
+fn ended(counts: &mut [u32; 32], v: spec::Verdict, s: layout::State) -> spec::Outcome
+    requires { ⌜ (s .row ≤ 256) × Roomy (s .mask) (s .since) (now counts) ⌝ }
+    ensures outcome { λ r. ⌜ r ≡ endedAs v s ⌝ }
+    ensures counts { λ _. ⌜ Added (s .mask) (s .since) (now (counts .entry)) (now (counts .exit)) ⌝ }
 {
+    stepcounts::add(counts, s.mask, s.since);
     spec::Outcome {
         verdict: v,
         row: s.row as u32,
         rows: s.rows,
-        steps: s.steps,
         barriers: s.barriers,
+    }
+}
+
+// All n threads at row 0.
+fn start(n: u32) -> layout::State
+    requires { ⌜ n ≤ 32 ⌝ }
+    ensures { λ r. ⌜ r ≡ startState (2 ^ n - 1) ⌝ }
+{
+    layout::State {
+        reach: 0,
+        row: 0,
+        mask: masks::all(n),
+        depth: 0,
+        rows: 0,
+        since: 0,
+        barriers: 0,
     }
 }
 
@@ -28,28 +47,23 @@ pub fn run(
     limit: u32,
     cells: &mut [u32],
     log: &mut [u32],
+    counts: &mut [u32; 32],
 ) -> spec::Outcome
     requires { ⌜ Runnable (now table) (now ends) × (1 ≤ n) × (n ≤ 32) × (limit ≤ 1000000)
         × (length (now log) ≡ logPerCell * length (now cells)) × (length (now cells) ≤ 1024) ⌝ }
-    ensures { λ r. ⌜ RunIs (lockstep (rowsOf (now (table .entry))) n (now (cells .entry)) limit) r (now (cells .exit)) (now (log .exit)) ⌝ }
+    ensures { λ r. ⌜ RunIs (lockstep (rowsOf (now (table .entry))) n (now (cells .entry)) limit) r (now (cells .exit)) (now (log .exit))
+        (now (counts .exit)) ⌝ }
 {
     let count = table.len() / 4;
     let mut regs: [u32; 512] = [0; 512];
     let mut saved: [u32; 8] = [0; 8];
     let mut openers: [usize; 8] = [0; 8];
     accesslog::clear(log, cells.len());
-    let mut s = layout::State {
-        reach: 0,
-        row: 0,
-        mask: masks::all(n),
-        depth: 0,
-        rows: 0,
-        steps: 0,
-        barriers: 0,
-    };
+    *counts = [0; 32];
+    let mut s = start(n);
     while s.row < count {
         if s.rows == limit {
-            return ended(spec::Verdict::Spent, s);
+            return ended(counts, spec::Verdict::Spent, s);
         }
         match step::step(
             table,
@@ -60,15 +74,17 @@ pub fn run(
             log,
             &mut saved,
             &mut openers,
+            counts,
             s,
         ) {
             layout::Next::Go(z) => {
                 s = z;
             }
             layout::Next::Stop(v, z) => {
-                return ended(v, z);
+                stepcounts::stop(counts, v, z.mask);
+                return ended(counts, v, z);
             }
         }
     }
-    ended(spec::Verdict::Passed, s)
+    ended(counts, spec::Verdict::Passed, s)
 }

@@ -3,6 +3,7 @@ use mathlib.Core.Path.{_≡_, sym, ap, subst, _∙_}
 use mathlib.Core.List.{List, [], _∷_}
 use mathlib.Core.Bool.{true, false, false≢true}
 use Prim.Native.Nat.{ℕ}
+use lib.ListN.{take}
 use Rattle.spec.specs.declared.Outcome.{Outcome}
 use Rattle.spec.specs.declared.Refusal.{Refusal}
 use Rattle.spec.specs.declared.Answer.{Answer}
@@ -14,17 +15,17 @@ use Rattle.answerwords.specs.Codes.{outcomeWords, ranIn, outcomeIn, whyIn, RanD
 use Rattle.answerwords.proofs.Back.{words-demand}
 
 -- Demand 3 of the answer, of the words: there is none to say of a refusal.
-pub refusal-runs : (table : List ℕ) (threads limit : ℕ) (cells outcome left : List ℕ) → RanDemand3 table threads limit cells false outcome left
-refusal-runs table threads limit cells outcome left e = absurd (false≢true e)
+pub refusal-runs : (table : List ℕ) (threads limit : ℕ) (cells outcome left counts : List ℕ) → RanDemand3 table threads limit cells false outcome left counts
+refusal-runs table threads limit cells outcome left counts e = absurd (false≢true e)
 
-pub run-runs : (table : List ℕ) (threads limit : ℕ) (cells left : List ℕ) (told : Answer) (o : Outcome) (ws : List ℕ) → told ≡ Ran o → ws ≡ outcomeWords o
-    → BareDemand3 table threads limit cells told left → RanDemand3 table threads limit cells true ws left
-run-runs table threads limit cells left told o ws q w d e =
-    rw w (words-demand (rowsOf table) threads cells limit o left (subst (λ a. BareDemand3 table threads limit cells a left) q d))
+pub run-runs : (table : List ℕ) (threads limit : ℕ) (cells left counts : List ℕ) (told : Answer) (o : Outcome) (ws : List ℕ) → told ≡ Ran o
+    → ws ≡ outcomeWords o → BareDemand3 table threads limit cells told left counts → RanDemand3 table threads limit cells true ws left counts
+run-runs table threads limit cells left counts told o ws q w d e =
+    rw w (words-demand (rowsOf table) threads cells limit o (take threads counts) left (subst (λ a. BareDemand3 table threads limit cells a left counts) q d))
 
 module _ (answer told : Answer) (e : told ≡ answer) where
   pub refusal-told : (why : Refusal) (ws : List ℕ) → told ≡ Refused why → ws ≡ refusalWords why
-      → (false ≡ ranIn answer) × ((0 ∷ 0 ∷ 0 ∷ 0 ∷ 0 ∷ 0 ∷ 0 ∷ 0 ∷ 0 ∷ [] ≡ outcomeIn answer) × (ws ≡ whyIn answer))
+      → (false ≡ ranIn answer) × ((0 ∷ 0 ∷ 0 ∷ 0 ∷ 0 ∷ 0 ∷ 0 ∷ 0 ∷ [] ≡ outcomeIn answer) × (ws ≡ whyIn answer))
   unfolding ranIn outcomeIn whyIn
   refusal-told why ws q w = let same : Refused why ≡ answer = sym q ∙ e in (ap ranIn same, (ap outcomeIn same, w ∙ ap whyIn same))
 

@@ -4,7 +4,7 @@ use spec::Subject;
 ghost use mathlib.Core.Path.{_≡_};
 ghost use mathlib.Core.List.{[]};
 ghost use Rattle.spec.specs.declared.Subject.the-variants.{Ran, Refused};
-ghost use Rattle.spec.specs.Entries.{bareAnswer, bareCells, bareLog, writerAnswer, writerBuffer, fileAnswer, fileCellsAfter, fileLogAfter, fileOutputAfter};
+ghost use Rattle.spec.specs.Entries.{bareAnswer, bareCells, bareLog, bareSteps, writerAnswer, writerBuffer, fileAnswer, fileCellsAfter, fileLogAfter, fileOutputAfter};
 ghost use Rattle.spec.specs.Reading.{Readable};
 ghost use Rattle.spec.specs.Demands.{ReportDemand3, FileReadable, OfLength};
 ghost use Rattle.answerwords.specs.Codes.{lengthIn, refusalIn, ranIn, outcomeIn, whyIn, outcomeFrom, RanDemand3};
@@ -37,7 +37,8 @@ pub extern "C" fn sekufoyi_bare_launch(
     limit: u32,
     cells: &mut [u32],
     log: &mut [u32],
-    outcome: &mut [u32; 9],
+    steps: &mut [u32; 32],
+    outcome: &mut [u32; 8],
     refusal: &mut [u32; 2],
 ) -> bool
     ensures ran { λ r. ⌜ r ≡ ranIn (bareAnswer (now (table .entry)) threads count limit (now (cells .entry)) (now (log .entry))) ⌝ }
@@ -45,11 +46,12 @@ pub extern "C" fn sekufoyi_bare_launch(
     ensures refusal { λ _. ⌜ now (refusal .exit) ≡ whyIn (bareAnswer (now (table .entry)) threads count limit (now (cells .entry)) (now (log .entry))) ⌝ }
     ensures cells { λ _. ⌜ now (cells .exit) ≡ bareCells (now (table .entry)) threads count limit (now (cells .entry)) (now (log .entry)) ⌝ }
     ensures log { λ _. ⌜ now (log .exit) ≡ bareLog (now (table .entry)) threads count limit (now (cells .entry)) (now (log .entry)) ⌝ }
-    ensures runs { λ r. ⌜ RanDemand3 (now (table .entry)) threads limit (now (cells .entry)) r (now (outcome .exit)) (now (cells .exit)) ⌝ }
+    ensures steps { λ _. ⌜ now (steps .exit) ≡ bareSteps (now (table .entry)) threads count limit (now (cells .entry)) (now (log .entry)) (now (steps .entry)) ⌝ }
+    ensures runs { λ r. ⌜ RanDemand3 (now (table .entry)) threads limit (now (cells .entry)) r (now (outcome .exit)) (now (cells .exit)) (now (steps .exit)) ⌝ }
 {
-    match launch::bare_launch(table, threads, count, limit, cells, log) {
+    match launch::bare_launch(table, threads, count, limit, cells, log, steps) {
         Answer::Refused(why) => {
-            *outcome = [0, 0, 0, 0, 0, 0, 0, 0, 0];
+            *outcome = [0, 0, 0, 0, 0, 0, 0, 0];
             *refusal = refusals::words(why);
             false
         }
@@ -63,18 +65,20 @@ pub extern "C" fn sekufoyi_bare_launch(
 
 #[no_mangle]
 pub extern "C" fn sekufoyi_write_report(
-    outcome: &[u32; 9],
+    outcome: &[u32; 8],
+    steps: &[u32],
     cells: &[u32],
     output: &mut [u8],
     refusal: &mut [u32; 2],
 ) -> usize
-    ensures answer { λ r. ⌜ r ≡ lengthIn (writerAnswer (Ran (outcomeFrom (now (outcome .entry)))) (now (cells .entry)) (now (output .entry))) ⌝ }
-    ensures refusal { λ _. ⌜ now (refusal .exit) ≡ refusalIn (writerAnswer (Ran (outcomeFrom (now (outcome .entry)))) (now (cells .entry)) (now (output .entry))) ⌝ }
-    ensures output { λ _. ⌜ now (output .exit) ≡ writerBuffer (Ran (outcomeFrom (now (outcome .entry)))) (now (cells .entry)) (now (output .entry)) ⌝ }
+    ensures answer { λ r. ⌜ r ≡ lengthIn (writerAnswer (Ran (outcomeFrom (now (outcome .entry)))) (now (steps .entry)) (now (cells .entry)) (now (output .entry))) ⌝ }
+    ensures refusal { λ _. ⌜ now (refusal .exit) ≡ refusalIn (writerAnswer (Ran (outcomeFrom (now (outcome .entry)))) (now (steps .entry)) (now (cells .entry)) (now (output .entry))) ⌝ }
+    ensures output { λ _. ⌜ now (output .exit) ≡ writerBuffer (Ran (outcomeFrom (now (outcome .entry)))) (now (steps .entry)) (now (cells .entry)) (now (output .entry)) ⌝ }
     ensures reads { λ r. ⌜ OfLength (Readable (Ran (outcomeFrom (now (outcome .entry))))) r (now (output .exit)) ⌝ }
 {
     let answer = report::write_report(
         Subject::Ran(answerwords::outcome_from(outcome)),
+        steps,
         cells,
         output,
     );
@@ -88,12 +92,12 @@ pub extern "C" fn sekufoyi_write_refusal(
     output: &mut [u8],
     refusal: &mut [u32; 2],
 ) -> usize
-    ensures answer { λ r. ⌜ r ≡ lengthIn (writerAnswer (Refused number place) [] (now (output .entry))) ⌝ }
-    ensures refusal { λ _. ⌜ now (refusal .exit) ≡ refusalIn (writerAnswer (Refused number place) [] (now (output .entry))) ⌝ }
-    ensures output { λ _. ⌜ now (output .exit) ≡ writerBuffer (Refused number place) [] (now (output .entry)) ⌝ }
+    ensures answer { λ r. ⌜ r ≡ lengthIn (writerAnswer (Refused number place) [] [] (now (output .entry))) ⌝ }
+    ensures refusal { λ _. ⌜ now (refusal .exit) ≡ refusalIn (writerAnswer (Refused number place) [] [] (now (output .entry))) ⌝ }
+    ensures output { λ _. ⌜ now (output .exit) ≡ writerBuffer (Refused number place) [] [] (now (output .entry)) ⌝ }
     ensures reads { λ r. ⌜ OfLength (Readable (Refused number place)) r (now (output .exit)) ⌝ }
 {
     let none: [u32; 0] = [];
-    let answer = report::write_report(Subject::Refused(number, place), &none, output);
+    let answer = report::write_report(Subject::Refused(number, place), &none, &none, output);
     answerwords::tell_written(answer, refusal)
 }

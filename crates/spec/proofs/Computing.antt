@@ -12,6 +12,7 @@ use Rattle.spec.specs.Mask.{maskWord, has, membersFrom, members, any, fu
 use Rattle.spec.specs.Shape.{shapeOf, total, bound, address}
 use Rattle.spec.specs.Log.{masksOf, logWords, emptyLog, nobody, cleared, clearedWhere, cellCleared, cellsCleared}
 use Rattle.spec.specs.Log.{withThread, logged, conflicting, testedMask, conflictMask, raceKind}
+use Rattle.spec.specs.Steps.{stepped, allStepped, sum}
 use Rattle.spec.specs.LockStep as lockStep
 use Rattle.spec.specs.LockStep.{initialState, andThen, inTurn, advance, update, setReg, computeTurn, madeAccess, tryAccess, accessTurn}
 use Rattle.spec.specs.LockStep.{forEnabled, countSteps, topMask, topOpener, pop, ifRow, elseRow, endifRow, savedAtWhile, leaveOrStay, whileRow}
@@ -20,21 +21,22 @@ use Rattle.spec.specs.LockStep.{countedFrom, countedBarriers}
 use Rattle.spec.specs.Threads.{reg, goto, put, reach, onIf, onWhile, effectOf, effect, emptyRecord, recorded, anyBelow, races, initialGroup}
 use Rattle.spec.specs.Threads.{noThread, threadCount, effectAt, accessesOf, isOutside, endsBadly, markBad, threadAfter, cellsAfter, performed}
 use Rattle.spec.specs.Threads.{pastBarrier, released, next, isBarrier, atOneBarrier, isWaiting, possible, atEnd, shown}
-use Rattle.spec.specs.AllRuns.{isRelease}
+use Rattle.spec.specs.AllRuns.{isMoveOf, isRelease}
 use Rattle.spec.specs.Text.{text, digitsWithin, decimal, isDigit, isNumber, digitsValue, numberBelow, startingWith, splitAt}
 use Rattle.spec.specs.LaunchFile.{continue, _>>=_, _>>_, gives, inOrder, times, given, lineValue, isDue, due, require, fileEnds, exactly}
 use Rattle.spec.specs.LaunchFile.{number, byte, rowValue, numberLines, dueNumber, numbers, contentLines, launchLines, unlessRefused, checkedTable, fileLaunch}
-use Rattle.spec.specs.Report.{verdictText, kindText, valueText, keyLine, lineBytes, _is_, bytesOf, details, detailsOf, headWith, headLines}
+use Rattle.spec.specs.Report.{verdictText, kindText, valueText, keyLine, lineBytes, _is_, bytesOf, details, detailsOf, headWith, headLines, barriersLine}
 use Rattle.spec.specs.Report.{eachLine, endLine, runLines, runReport, refusalLines, refusalReport, reportOf}
 use Rattle.spec.specs.Reading.{onFirst, linesIn, isLine, hasLine, isFirst, beginsWith, numberIn, underKey, numbersOn, numbersAt, isPassed, hasPassed, installs}
-use Rattle.spec.specs.Entries.{over, bareNumbers, bareLent, bareRefusal, bareRun, answerOf, keptIf, bareAnswer, bareCells, bareLog}
-use Rattle.spec.specs.Entries.{cellsReported, writerRefusal, writtenOf, writerAnswer, writerBuffer, fileLent, andState, fileChecked, launchRun}
+use Rattle.spec.specs.Entries.{over, bareNumbers, bareLent, bareRefusal, bareRun, answerOf, keptIf, bareAnswer, bareCells, bareLog, bareSteps}
+use Rattle.spec.specs.Entries.{linesReported, writerRefusal, writtenOf, writerAnswer, writerBuffer, fileLent, andState, fileChecked, launchRun}
 use Rattle.spec.specs.Entries.{launchReport, reportLength, fileAnswer, ifAccepted, fileCellsAfter, fileLogAfter, fileOutputAfter, printed}
 use Rattle.spec.specs.Entries.{checkedRefusal, checkPrints, subjectOf}
 use Rattle.spec.specs.Examples.{withNewlines, lines, examples}
 use Rattle.spec.specs.RunExamples.{runExamples}
 use Rattle.spec.specs.AddExamples.{addExamples}
 use Rattle.spec.specs.ShiftExamples.{shiftExamples}
+use Rattle.spec.specs.StepExamples.{stepExamples, stepSums}
 
 -- Whoever unfolds this unfolds them all.
 unfoldable pub computing : Unit {0}
@@ -48,21 +50,22 @@ unfolding refusalNumber refusalPlace named told toldBy toldIn unless orElse firs
     maskWord has membersFrom members any full minus union lowest nonzero holding
     shapeOf total bound address
     masksOf logWords emptyLog nobody cleared clearedWhere cellCleared cellsCleared withThread logged conflicting testedMask conflictMask raceKind
+    stepped allStepped sum
     lockStep.reg initialState andThen inTurn advance update setReg computeTurn madeAccess tryAccess accessTurn forEnabled countSteps
     topMask topOpener pop ifRow elseRow endifRow savedAtWhile leaveOrStay whileRow endwhileRow passBarrier barrierRow runRow resultOf
     runFrom lockstep outcomeOf countedAt countedAfter countedFrom countedBarriers
     reg goto put reach onIf onWhile effectOf effect emptyRecord recorded anyBelow races initialGroup noThread threadCount effectAt
     accessesOf isOutside endsBadly markBad threadAfter cellsAfter performed pastBarrier released next isBarrier atOneBarrier isWaiting
     possible atEnd shown
-    isRelease
+    isMoveOf isRelease
     text digitsWithin decimal isDigit isNumber digitsValue numberBelow startingWith splitAt
     continue _>>=_ _>>_ gives inOrder times given lineValue isDue due require fileEnds exactly number byte rowValue numberLines dueNumber
     numbers contentLines launchLines unlessRefused checkedTable fileLaunch
-    verdictText kindText valueText keyLine lineBytes _is_ bytesOf details detailsOf headWith headLines eachLine endLine runLines runReport
+    verdictText kindText valueText keyLine lineBytes _is_ bytesOf details detailsOf headWith headLines barriersLine eachLine endLine runLines runReport
     refusalLines refusalReport reportOf
     onFirst linesIn isLine hasLine isFirst beginsWith numberIn underKey numbersOn numbersAt isPassed hasPassed installs
-    over bareNumbers bareLent bareRefusal bareRun answerOf keptIf bareAnswer bareCells bareLog cellsReported writerRefusal writtenOf
-    writerAnswer writerBuffer fileLent andState fileChecked launchRun launchReport reportLength fileAnswer ifAccepted fileCellsAfter
+    over bareNumbers bareLent bareRefusal bareRun answerOf keptIf bareAnswer bareCells bareLog bareSteps linesReported writerRefusal
+    writtenOf writerAnswer writerBuffer fileLent andState fileChecked launchRun launchReport reportLength fileAnswer ifAccepted fileCellsAfter
     fileLogAfter fileOutputAfter printed checkPrints checkedRefusal subjectOf
-    withNewlines lines examples runExamples addExamples shiftExamples
+    withNewlines lines examples runExamples addExamples shiftExamples stepExamples stepSums
 computing = tt

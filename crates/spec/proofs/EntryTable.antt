@@ -5,11 +5,11 @@ use mathlib.Core.Option.{none, some}
 use Prim.Native.Nat.{ℕ, _-_}
 use lib.ListN.{replicate}
 use Rattle.spec.specs.Answers.{Answer, Passed, Race, WriteWrite, Subject, Written, LineNotDue}
-use Rattle.spec.specs.Answers.{CellsLength, LogLength, ReportCells, ReportTooLong, ThreadsOutOfRange, TooManyRows, toldBy, toldIn}
+use Rattle.spec.specs.Answers.{CellsLength, LogLength, ReportLines, ReportTooLong, ThreadsOutOfRange, TooManyRows, toldBy, toldIn}
 use Rattle.spec.specs.declared.Answer.the-variants as answer
 use Rattle.spec.specs.declared.Subject.the-variants as subject
 use Rattle.spec.specs.declared.Written.the-variants as written
-use Rattle.spec.specs.Entries.{over, bareNumbers, bareLent, bareRefusal, bareAnswer, bareCells, bareLog, writerAnswer, writerBuffer}
+use Rattle.spec.specs.Entries.{over, bareNumbers, bareLent, bareRefusal, bareAnswer, bareCells, bareLog, bareSteps, writerAnswer, writerBuffer}
 use Rattle.spec.specs.Entries.{fileLent, fileAnswer, fileCellsAfter, fileLogAfter, fileOutputAfter, checkPrints, subjectOf}
 use Rattle.spec.specs.LaunchFile.{fileLaunch}
 use Rattle.spec.specs.Text.{text}
@@ -64,37 +64,45 @@ pub bare-stages : map toldAs
 unfolding computing orZero toldAs
 bare-stages = refl
 
--- A bare launch's answer, cells and log.
-unfoldable pub bareLaunch : (table : List ℕ) → (threads cells limit : ℕ) → (lentCells lentLog : List ℕ) → Answer × (List ℕ × List ℕ)
-bareLaunch table threads cells limit lentCells lentLog = (
+-- A bare launch's answer, cells, log and step counts.
+unfoldable pub bareLaunch : (table : List ℕ) → (threads cells limit : ℕ) → (lentCells lentLog lentSteps : List ℕ)
+    → Answer × (List ℕ × (List ℕ × List ℕ))
+bareLaunch table threads cells limit lentCells lentLog lentSteps = (
   bareAnswer table threads cells limit lentCells lentLog,
-  (bareCells table threads cells limit lentCells lentLog, bareLog table threads cells limit lentCells lentLog),
+  (
+    bareCells table threads cells limit lentCells lentLog,
+    (bareLog table threads cells limit lentCells lentLog, bareSteps table threads cells limit lentCells lentLog lentSteps),
+  ),
 )
 
--- Three threads, TID, STORE of each thread's number: what was in the log is not read, and what was in the cells is the launch's.
-pub bare-passed : bareLaunch (2 ∷ 0 ∷ 0 ∷ 0 ∷ 17 ∷ 0 ∷ 0 ∷ 0 ∷ []) 3 4 2 (5 ∷ 6 ∷ 7 ∷ 8 ∷ []) (replicate 12 9) ≡ (
-  answer.Ran (record { verdict = Passed; row = 2; rows = 2; steps = 6; barriers = 0 }),
-  (0 ∷ 1 ∷ 2 ∷ 8 ∷ [], 0 ∷ 0 ∷ 0 ∷ 0 ∷ 1 ∷ 2 ∷ 4 ∷ 0 ∷ 0 ∷ 0 ∷ 0 ∷ 0 ∷ []),
+-- Three threads, TID, STORE of each thread's number: what was in the log and in the step counts is not read, and what was in the cells is the
+-- launch's. Step counts behind the last thread are 0.
+pub bare-passed : bareLaunch (2 ∷ 0 ∷ 0 ∷ 0 ∷ 17 ∷ 0 ∷ 0 ∷ 0 ∷ []) 3 4 2 (5 ∷ 6 ∷ 7 ∷ 8 ∷ []) (replicate 12 9) (replicate 32 9) ≡ (
+  answer.Ran (record { verdict = Passed; row = 2; rows = 2; barriers = 0 }),
+  (0 ∷ 1 ∷ 2 ∷ 8 ∷ [], (0 ∷ 0 ∷ 0 ∷ 0 ∷ 1 ∷ 2 ∷ 4 ∷ 0 ∷ 0 ∷ 0 ∷ 0 ∷ 0 ∷ [], 2 ∷ 2 ∷ 2 ∷ replicate 29 0)),
 )
 unfolding computing bareLaunch
 bare-passed = refl
 
--- Thread 1 stops at its STORE; thread 0's has been made.
-pub bare-race : bareLaunch (2 ∷ 1 ∷ 0 ∷ 0 ∷ 37 ∷ 0 ∷ 0 ∷ 0 ∷ 17 ∷ 0 ∷ 1 ∷ 0 ∷ []) 3 2 10 (5 ∷ 6 ∷ []) (replicate 6 9) ≡
-    (answer.Ran (record { verdict = Race 1 0 WriteWrite 0; row = 2; rows = 2; steps = 4; barriers = 1 }), (0 ∷ 6 ∷ [], 0 ∷ 0 ∷ 1 ∷ 0 ∷ 0 ∷ 0 ∷ []))
+-- Thread 1 stops at its STORE; thread 0's has been made, and is its second step.
+pub bare-race : bareLaunch (2 ∷ 1 ∷ 0 ∷ 0 ∷ 37 ∷ 0 ∷ 0 ∷ 0 ∷ 17 ∷ 0 ∷ 1 ∷ 0 ∷ []) 3 2 10 (5 ∷ 6 ∷ []) (replicate 6 9) (replicate 32 7) ≡ (
+  answer.Ran (record { verdict = Race 1 0 WriteWrite 0; row = 2; rows = 2; barriers = 1 }),
+  (0 ∷ 6 ∷ [], (0 ∷ 0 ∷ 1 ∷ 0 ∷ 0 ∷ 0 ∷ [], 2 ∷ 1 ∷ 1 ∷ replicate 29 0)),
+)
 unfolding computing bareLaunch
 bare-race = refl
 
 -- All three add their numbers plus 1 to cell 1: the adders stand in the last third of the log.
 pub bare-added : bareLaunch
     (2 ∷ 0 ∷ 0 ∷ 0 ∷ 1 ∷ 1 ∷ 1 ∷ 0 ∷ 4 ∷ 2 ∷ 0 ∷ 1 ∷ 18 ∷ 1 ∷ 2 ∷ 0 ∷ []) 3 2 10 (5 ∷ 6 ∷ []) (replicate 6 9)
-    ≡ (answer.Ran (record { verdict = Passed; row = 4; rows = 4; steps = 12; barriers = 0 }), (5 ∷ 12 ∷ [], 0 ∷ 0 ∷ 0 ∷ 0 ∷ 0 ∷ 7 ∷ []))
+    (replicate 32 7)
+    ≡ (answer.Ran (record { verdict = Passed; row = 4; rows = 4; barriers = 0 }), (5 ∷ 12 ∷ [], (0 ∷ 0 ∷ 0 ∷ 0 ∷ 0 ∷ 7 ∷ [], 4 ∷ 4 ∷ 4 ∷ replicate 29 0)))
 unfolding computing bareLaunch
 bare-added = refl
 
--- A refusal leaves both buffers.
-pub bare-refused : bareLaunch (2 ∷ 0 ∷ 0 ∷ 0 ∷ 17 ∷ 0 ∷ 0 ∷ 0 ∷ []) 0 2 10 (5 ∷ 6 ∷ []) (replicate 6 9) ≡
-    (answer.Refused (ThreadsOutOfRange 0), (5 ∷ 6 ∷ [], replicate 6 9))
+-- A refusal leaves every buffer.
+pub bare-refused : bareLaunch (2 ∷ 0 ∷ 0 ∷ 0 ∷ 17 ∷ 0 ∷ 0 ∷ 0 ∷ []) 0 2 10 (5 ∷ 6 ∷ []) (replicate 6 9) (replicate 32 9) ≡
+    (answer.Refused (ThreadsOutOfRange 0), (5 ∷ 6 ∷ [], (replicate 6 9, replicate 32 9)))
 unfolding computing bareLaunch
 bare-refused = refl
 
@@ -117,40 +125,56 @@ bare-most = refl
 
 -- The report writer.
 unfoldable pub anOutcome : Subject
-anOutcome = subject.Ran (record { verdict = Passed; row = 3; rows = 3; steps = 6; barriers = 0 })
+anOutcome = subject.Ran (record { verdict = Passed; row = 3; rows = 3; barriers = 0 })
 
 unfoldable pub itsReport : List ℕ
-itsReport = lines "verdict=passed/row=-/thread=-/other=-/kind=-/at=-/rows=3/steps=6/barriers=0/cell=5/cell=17/end=report"
+itsReport = lines "verdict=passed/row=-/thread=-/other=-/kind=-/at=-/rows=3/steps=4/steps=2/barriers=0/cell=5/cell=17/end=report"
 
--- Its answer and the buffer after it. That report needs 102 bytes: 101 are too short and left as they were, 102 are filled, of 104 the last two are kept.
-unfoldable pub wrote : Subject → (cells buffer : List ℕ) → Written × List ℕ
-wrote what cells buffer = (writerAnswer what cells buffer, writerBuffer what cells buffer)
+-- Its answer and the buffer after it. That report needs 110 bytes: 109 are too short and left as they were, 110 are filled, of 112 the last two are kept.
+unfoldable pub wrote : Subject → (steps cells buffer : List ℕ) → Written × List ℕ
+wrote what steps cells buffer = (writerAnswer what steps cells buffer, writerBuffer what steps cells buffer)
 
-pub writer-lengths : map (λ n. wrote anOutcome (5 ∷ 17 ∷ []) (replicate n 7)) (0 ∷ 101 ∷ 102 ∷ 104 ∷ []) ≡
-    (written.Refused (ReportTooLong 102), [])
-    ∷ (written.Refused (ReportTooLong 102), replicate 101 7)
-    ∷ (written.Wrote 102, itsReport)
-    ∷ (written.Wrote 102, itsReport ++ (7 ∷ 7 ∷ []))
+pub writer-lengths : map (λ n. wrote anOutcome (4 ∷ 2 ∷ []) (5 ∷ 17 ∷ []) (replicate n 7)) (0 ∷ 109 ∷ 110 ∷ 112 ∷ []) ≡
+    (written.Refused (ReportTooLong 110), [])
+    ∷ (written.Refused (ReportTooLong 110), replicate 109 7)
+    ∷ (written.Wrote 110, itsReport)
+    ∷ (written.Wrote 110, itsReport ++ (7 ∷ 7 ∷ []))
     ∷ []
 unfolding computing anOutcome itsReport wrote
 writer-lengths = refl
 
--- 23 goes before 22, and for a run only: 0 cells and 1,025 cells. With 1,024 cells of one digit the report has 87 + 1,024 * 7 bytes.
-pub writer-cells : map (λ n. writerAnswer anOutcome (replicate n 5) (replicate 5 7)) (0 ∷ 1 ∷ 1024 ∷ 1025 ∷ []) ≡
-    written.Refused ReportCells ∷ written.Refused (ReportTooLong 94) ∷ written.Refused (ReportTooLong 7255) ∷ written.Refused ReportCells ∷ []
+-- 23 goes before 22, and for a run only: 0 cells and 1,025 cells. With one step count and 1,024 cells of one digit the report has 87 + 1,024 * 7 bytes.
+pub writer-cells : map (λ n. writerAnswer anOutcome (3 ∷ []) (replicate n 5) (replicate 5 7)) (0 ∷ 1 ∷ 1024 ∷ 1025 ∷ []) ≡
+    written.Refused ReportLines ∷ written.Refused (ReportTooLong 94) ∷ written.Refused (ReportTooLong 7255) ∷ written.Refused ReportLines ∷ []
 unfolding computing anOutcome
 writer-cells = refl
 
-pub writer-no-cells : wrote anOutcome [] (replicate 3 7) ∷ wrote anOutcome [] (replicate 200 7) ∷ [] ≡
-    (written.Refused ReportCells, replicate 3 7) ∷ (written.Refused ReportCells, replicate 200 7) ∷ []
+-- Likewise 0 and 33 step counts; with 32 of one digit and one cell the report has 86 + 32 * 8 bytes. Both faults at once are 23 as well.
+pub writer-steps : map (λ n. writerAnswer anOutcome (replicate n 5) (5 ∷ []) (replicate 5 7)) (0 ∷ 1 ∷ 32 ∷ 33 ∷ 64 ∷ []) ≡
+    written.Refused ReportLines
+    ∷ written.Refused (ReportTooLong 94)
+    ∷ written.Refused (ReportTooLong 342)
+    ∷ written.Refused ReportLines
+    ∷ written.Refused ReportLines
+    ∷ []
+unfolding computing anOutcome
+writer-steps = refl
+
+pub writer-both : map (λ n. writerAnswer anOutcome (replicate n 5) (replicate (1025 - n) 5) (replicate 20000 7)) (0 ∷ 1 ∷ 32 ∷ 33 ∷ []) ≡
+    written.Refused ReportLines ∷ written.Wrote 7255 ∷ written.Wrote 7286 ∷ written.Refused ReportLines ∷ []
+unfolding computing anOutcome
+writer-both = refl
+
+pub writer-no-cells : wrote anOutcome (3 ∷ []) [] (replicate 3 7) ∷ wrote anOutcome (3 ∷ []) [] (replicate 200 7) ∷ [] ≡
+    (written.Refused ReportLines, replicate 3 7) ∷ (written.Refused ReportLines, replicate 200 7) ∷ []
 unfolding computing anOutcome wrote
 writer-no-cells = refl
 
--- A refusal's report: `refused=22`, `place=98`, `end=report` need 31 bytes. Its cells, none or too many, do not matter.
+-- A refusal's report: `refused=22`, `place=98`, `end=report` need 31 bytes. Its steps and cells, none or too many, do not matter.
 pub writer-refusal :
-    wrote (subject.Refused 22 98) [] (replicate 30 7)
-    ∷ wrote (subject.Refused 22 98) [] (replicate 32 7)
-    ∷ wrote (subject.Refused 22 98) (replicate 1025 1) (replicate 31 7)
+    wrote (subject.Refused 22 98) [] [] (replicate 30 7)
+    ∷ wrote (subject.Refused 22 98) [] [] (replicate 32 7)
+    ∷ wrote (subject.Refused 22 98) (replicate 33 1) (replicate 1025 1) (replicate 31 7)
     ∷ []
     ≡ (written.Refused (ReportTooLong 31), replicate 30 7)
     ∷ (written.Wrote 31, lines "refused=22/place=98/end=report" ++ (7 ∷ []))
@@ -179,10 +203,10 @@ unfoldable pub aFile : List ℕ
 aFile = lines "kernel=1/threads=2/cells=3/limit=9/rows=5/row=2,0,0,0/row=1,1,1,0/row=4,2,0,1/row=17,0,2,0/row=16,3,0,0/cell=256/cell=0/cell=4294967295/end=kernel"
 
 unfoldable pub printedFor : List ℕ
-printedFor = lines "verdict=passed/row=-/thread=-/other=-/kind=-/at=-/rows=5/steps=10/barriers=0/cell=1/cell=2/cell=4294967295/end=report"
+printedFor = lines "verdict=passed/row=-/thread=-/other=-/kind=-/at=-/rows=5/steps=5/steps=5/barriers=0/cell=1/cell=2/cell=4294967295/end=report"
 
--- The report is written, 118 bytes; behind it, behind the three cells and behind the nine words of the log all is kept.
-pub file-answer : map (λ n. fileAnswer aFile (replicate 1024 9) (replicate 3072 8) (replicate n 7)) (17408 ∷ 20000 ∷ []) ≡ written.Wrote 118 ∷ written.Wrote 118 ∷ []
+-- The report is written, 125 bytes; behind it, behind the three cells and behind the nine words of the log all is kept.
+pub file-answer : map (λ n. fileAnswer aFile (replicate 1024 9) (replicate 3072 8) (replicate n 7)) (17408 ∷ 20000 ∷ []) ≡ written.Wrote 125 ∷ written.Wrote 125 ∷ []
 unfolding computing aFile
 file-answer = refl
 
@@ -194,7 +218,7 @@ pub file-log : fileLogAfter aFile (replicate 1024 9) (replicate 3072 8) (replica
 unfolding computing aFile
 file-log = refl
 
-pub file-output : fileOutputAfter aFile (replicate 1024 9) (replicate 3072 8) (replicate 17408 7) ≡ printedFor ++ replicate (17408 - 118) 7
+pub file-output : fileOutputAfter aFile (replicate 1024 9) (replicate 3072 8) (replicate 17408 7) ≡ printedFor ++ replicate (17408 - 125) 7
 unfolding computing aFile printedFor
 file-output = refl
 
@@ -228,7 +252,7 @@ unfolding computing
 written-over = refl
 
 -- What answers tell of a refusal, by number and place; a run and a report tell of none.
-pub answers-tell : toldBy (answer.Refused (TooManyRows 5)) ∷ toldBy (answer.Ran (record { verdict = Passed; row = 1; rows = 2; steps = 3; barriers = 4 }))
+pub answers-tell : toldBy (answer.Refused (TooManyRows 5)) ∷ toldBy (answer.Ran (record { verdict = Passed; row = 1; rows = 2; barriers = 4 }))
     ∷ toldIn (written.Refused (ReportTooLong 31)) ∷ toldIn (written.Wrote 31) ∷ []
     ≡ some (2, 5) ∷ none ∷ some (22, 31) ∷ none ∷ []
 unfolding computing
@@ -236,6 +260,6 @@ answers-tell = refl
 
 -- What a file's report is made of.
 pub subjects : map (λ f. subjectOf (fileLaunch f)) (aFile ∷ lines "kernel=1/threads=33" ∷ []) ≡
-    subject.Ran (record { verdict = Passed; row = 5; rows = 5; steps = 10; barriers = 0 }) ∷ subject.Refused 8 2 ∷ []
+    subject.Ran (record { verdict = Passed; row = 5; rows = 5; barriers = 0 }) ∷ subject.Refused 8 2 ∷ []
 unfolding computing aFile
 subjects = refl

@@ -8,7 +8,7 @@ use native.Mathlib.Nat.{eq-or-lt-of-le, le-of-suc-le-suc}
 use native.Mathlib.Omega.{arith}
 use lib.ListN.{length, getD, replicate, take, drop}
 use lib.Seq.{take-at}
-use Rattle.spec.specs.Op.{Op, IF, ELSE, ENDIF, WHILE, ENDWHILE, opOf, opTable}
+use Rattle.spec.specs.Op.{Op, IF, ELSE, ENDIF, WHILE, ENDWHILE, BARRIER, opOf, opTable}
 use Rattle.spec.specs.Table.{rowOf, rowsOf, rowAt, role, opening}
 use Rattle.spec.specs.Mask.{Mask, minus, union, holding}
 use Rattle.spec.specs.LockStep.{Saved, topOpener}
@@ -82,6 +82,10 @@ byte-while = refl
 pub byte-endwhile : opOf 36 ≡ ENDWHILE
 unfolding opOf opTable
 byte-endwhile = refl
+
+pub byte-barrier : opOf 37 ≡ BARRIER
+unfolding opOf opTable
+byte-barrier = refl
 
 pub role-while : (o : Op) → o ≡ WHILE → role o ≡ opening
 unfolding role

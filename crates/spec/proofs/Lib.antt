@@ -1,4 +1,5 @@
 pub mod Laws
+pub mod StepLaws
 pub mod LogLaws
 pub mod ClearingLaws
 pub mod Computing
@@ -14,6 +15,7 @@ pub mod Worked
 pub mod LockStepTable
 pub mod MachineRuns
 pub mod ThreadMoves
+pub mod DemandTable
 pub mod TextTable
 pub mod FileTable
 pub mod ReportTable

@@ -1,13 +1,36 @@
--- Lock-step runs row by row, and the cells at their counted barriers. Assumes nothing.
+-- Counts of steps, lock-step runs row by row, and the cells at their counted barriers. Assumes nothing.
 use mathlib.Core.Path.{_≡_, refl}
-use mathlib.Core.List.{List, [], _∷_, map}
+use mathlib.Core.List.{List, [], _∷_, _++_, map}
 use Prim.Native.Nat.{ℕ}
 use lib.ListN.{take}
 use Rattle.spec.specs.Table.{Table, rowOf}
 use Rattle.spec.specs.Mask.{maskWord}
+use Rattle.spec.specs.Steps.{stepped, allStepped, sum}
 use Rattle.spec.specs.LockStep.{Saved, LockState, lockstep, countedBarriers}
 use Rattle.spec.proofs.OpTable.{bytesFrom}
 use Rattle.spec.proofs.Computing.{computing}
+
+-- A step of thread 0, 1 and 2, and of a thread that is not there, which counts for nobody.
+pub one-steps : map (stepped (40 ∷ 50 ∷ 60 ∷ [])) (0 ∷ 1 ∷ 2 ∷ 3 ∷ []) ≡
+    (41 ∷ 50 ∷ 60 ∷ []) ∷ (40 ∷ 51 ∷ 60 ∷ []) ∷ (40 ∷ 50 ∷ 61 ∷ []) ∷ (40 ∷ 50 ∷ 60 ∷ []) ∷ []
+unfolding computing
+one-steps = refl
+
+-- Likewise with one count and with none.
+pub steps-of-few : stepped (9 ∷ []) 0 ∷ stepped (9 ∷ []) 1 ∷ stepped [] 0 ∷ [] ≡ (10 ∷ []) ∷ (9 ∷ []) ∷ [] ∷ []
+unfolding computing
+steps-of-few = refl
+
+-- Steps of nobody, of two threads in both orders, of one thread twice, of one that is not there before one that is.
+pub several-step : map (allStepped (40 ∷ 50 ∷ 60 ∷ [])) ([] ∷ (0 ∷ 2 ∷ []) ∷ (2 ∷ 0 ∷ []) ∷ (1 ∷ 1 ∷ []) ∷ (7 ∷ 1 ∷ []) ∷ []) ≡
+    (40 ∷ 50 ∷ 60 ∷ []) ∷ (41 ∷ 50 ∷ 61 ∷ []) ∷ (41 ∷ 50 ∷ 61 ∷ []) ∷ (40 ∷ 52 ∷ 60 ∷ []) ∷ (40 ∷ 51 ∷ 60 ∷ []) ∷ []
+unfolding computing
+several-step = refl
+
+-- The sum of no counts, of one, and of several with a 0 and two that are equal.
+pub sums : map sum ([] ∷ (9 ∷ []) ∷ (7 ∷ 0 ∷ 5 ∷ 5 ∷ []) ∷ []) ≡ 0 ∷ 9 ∷ 17 ∷ []
+unfolding computing
+sums = refl
 
 -- TID R0, SET R1 = 1. IF R0: thread t goes t times round a loop (3 to 5). ELSE, in it IF R1, which thread 0 is alone for, with an ELSE for nobody.
 -- A loop (13 to 15) that only thread 0 stays in, twice. TID R3, BARRIER, STORE of R1 at R3.
@@ -34,45 +57,45 @@ winding =
     ∷ rowOf 17 3 1 0
     ∷ []
 
--- What a state shows: row, enabled mask, rows, steps, barriers, and for each saved mask, innermost first, its construct's row and the mask.
+-- What a state shows: row, enabled mask, rows, each thread's steps, barriers, and for each saved mask, innermost first, its construct's row and the mask.
 unfoldable pub savedNumbers : List Saved → List ℕ
 savedNumbers [] = []
 savedNumbers (x ∷ xs) = x .opener ∷ maskWord (x .mask) ∷ savedNumbers xs
 
 unfoldable pub numbersOf : LockState → List ℕ
-numbersOf s = s .row ∷ maskWord (s .enabled) ∷ s .rows ∷ s .steps ∷ s .barriers ∷ savedNumbers (s .saved)
+numbersOf s = s .row ∷ maskWord (s .enabled) ∷ s .rows ∷ (s .steps ++ (s .barriers ∷ savedNumbers (s .saved)))
 
 -- Three threads. The state after no row, one row, two rows and so on to the end.
 pub row-by-row : map (λ k. numbersOf (lockstep winding 3 (7 ∷ 7 ∷ 7 ∷ []) k .state)) (bytesFrom 0 29) ≡
-    (0 ∷ 7 ∷ 0 ∷ 0 ∷ 0 ∷ [])
-    ∷ (1 ∷ 7 ∷ 1 ∷ 3 ∷ 0 ∷ [])
-    ∷ (2 ∷ 7 ∷ 2 ∷ 6 ∷ 0 ∷ [])
-    ∷ (3 ∷ 6 ∷ 3 ∷ 9 ∷ 0 ∷ 2 ∷ 7 ∷ [])
-    ∷ (4 ∷ 6 ∷ 4 ∷ 11 ∷ 0 ∷ 3 ∷ 6 ∷ 2 ∷ 7 ∷ [])
-    ∷ (5 ∷ 6 ∷ 5 ∷ 13 ∷ 0 ∷ 3 ∷ 6 ∷ 2 ∷ 7 ∷ [])
-    ∷ (3 ∷ 6 ∷ 6 ∷ 15 ∷ 0 ∷ 3 ∷ 6 ∷ 2 ∷ 7 ∷ [])
-    ∷ (4 ∷ 4 ∷ 7 ∷ 17 ∷ 0 ∷ 3 ∷ 6 ∷ 2 ∷ 7 ∷ [])
-    ∷ (5 ∷ 4 ∷ 8 ∷ 18 ∷ 0 ∷ 3 ∷ 6 ∷ 2 ∷ 7 ∷ [])
-    ∷ (3 ∷ 4 ∷ 9 ∷ 19 ∷ 0 ∷ 3 ∷ 6 ∷ 2 ∷ 7 ∷ [])
-    ∷ (6 ∷ 6 ∷ 10 ∷ 20 ∷ 0 ∷ 2 ∷ 7 ∷ [])
-    ∷ (7 ∷ 1 ∷ 11 ∷ 22 ∷ 0 ∷ 6 ∷ 7 ∷ [])
-    ∷ (8 ∷ 1 ∷ 12 ∷ 23 ∷ 0 ∷ 7 ∷ 1 ∷ 6 ∷ 7 ∷ [])
-    ∷ (9 ∷ 1 ∷ 13 ∷ 24 ∷ 0 ∷ 7 ∷ 1 ∷ 6 ∷ 7 ∷ [])
-    ∷ (10 ∷ 0 ∷ 14 ∷ 25 ∷ 0 ∷ 9 ∷ 1 ∷ 6 ∷ 7 ∷ [])
-    ∷ (11 ∷ 0 ∷ 15 ∷ 25 ∷ 0 ∷ 9 ∷ 1 ∷ 6 ∷ 7 ∷ [])
-    ∷ (12 ∷ 1 ∷ 16 ∷ 26 ∷ 0 ∷ 6 ∷ 7 ∷ [])
-    ∷ (13 ∷ 7 ∷ 17 ∷ 29 ∷ 0 ∷ [])
-    ∷ (14 ∷ 1 ∷ 18 ∷ 32 ∷ 0 ∷ 13 ∷ 7 ∷ [])
-    ∷ (15 ∷ 1 ∷ 19 ∷ 33 ∷ 0 ∷ 13 ∷ 7 ∷ [])
-    ∷ (13 ∷ 1 ∷ 20 ∷ 34 ∷ 0 ∷ 13 ∷ 7 ∷ [])
-    ∷ (14 ∷ 1 ∷ 21 ∷ 35 ∷ 0 ∷ 13 ∷ 7 ∷ [])
-    ∷ (15 ∷ 1 ∷ 22 ∷ 36 ∷ 0 ∷ 13 ∷ 7 ∷ [])
-    ∷ (13 ∷ 1 ∷ 23 ∷ 37 ∷ 0 ∷ 13 ∷ 7 ∷ [])
-    ∷ (16 ∷ 7 ∷ 24 ∷ 38 ∷ 0 ∷ [])
-    ∷ (17 ∷ 7 ∷ 25 ∷ 41 ∷ 0 ∷ [])
-    ∷ (18 ∷ 7 ∷ 26 ∷ 41 ∷ 1 ∷ [])
-    ∷ (19 ∷ 7 ∷ 27 ∷ 44 ∷ 1 ∷ [])
-    ∷ (19 ∷ 7 ∷ 27 ∷ 44 ∷ 1 ∷ [])
+    (0 ∷ 7 ∷ 0 ∷ 0 ∷ 0 ∷ 0 ∷ 0 ∷ [])
+    ∷ (1 ∷ 7 ∷ 1 ∷ 1 ∷ 1 ∷ 1 ∷ 0 ∷ [])
+    ∷ (2 ∷ 7 ∷ 2 ∷ 2 ∷ 2 ∷ 2 ∷ 0 ∷ [])
+    ∷ (3 ∷ 6 ∷ 3 ∷ 3 ∷ 3 ∷ 3 ∷ 0 ∷ 2 ∷ 7 ∷ [])
+    ∷ (4 ∷ 6 ∷ 4 ∷ 3 ∷ 4 ∷ 4 ∷ 0 ∷ 3 ∷ 6 ∷ 2 ∷ 7 ∷ [])
+    ∷ (5 ∷ 6 ∷ 5 ∷ 3 ∷ 5 ∷ 5 ∷ 0 ∷ 3 ∷ 6 ∷ 2 ∷ 7 ∷ [])
+    ∷ (3 ∷ 6 ∷ 6 ∷ 3 ∷ 6 ∷ 6 ∷ 0 ∷ 3 ∷ 6 ∷ 2 ∷ 7 ∷ [])
+    ∷ (4 ∷ 4 ∷ 7 ∷ 3 ∷ 7 ∷ 7 ∷ 0 ∷ 3 ∷ 6 ∷ 2 ∷ 7 ∷ [])
+    ∷ (5 ∷ 4 ∷ 8 ∷ 3 ∷ 7 ∷ 8 ∷ 0 ∷ 3 ∷ 6 ∷ 2 ∷ 7 ∷ [])
+    ∷ (3 ∷ 4 ∷ 9 ∷ 3 ∷ 7 ∷ 9 ∷ 0 ∷ 3 ∷ 6 ∷ 2 ∷ 7 ∷ [])
+    ∷ (6 ∷ 6 ∷ 10 ∷ 3 ∷ 7 ∷ 10 ∷ 0 ∷ 2 ∷ 7 ∷ [])
+    ∷ (7 ∷ 1 ∷ 11 ∷ 3 ∷ 8 ∷ 11 ∷ 0 ∷ 6 ∷ 7 ∷ [])
+    ∷ (8 ∷ 1 ∷ 12 ∷ 4 ∷ 8 ∷ 11 ∷ 0 ∷ 7 ∷ 1 ∷ 6 ∷ 7 ∷ [])
+    ∷ (9 ∷ 1 ∷ 13 ∷ 5 ∷ 8 ∷ 11 ∷ 0 ∷ 7 ∷ 1 ∷ 6 ∷ 7 ∷ [])
+    ∷ (10 ∷ 0 ∷ 14 ∷ 6 ∷ 8 ∷ 11 ∷ 0 ∷ 9 ∷ 1 ∷ 6 ∷ 7 ∷ [])
+    ∷ (11 ∷ 0 ∷ 15 ∷ 6 ∷ 8 ∷ 11 ∷ 0 ∷ 9 ∷ 1 ∷ 6 ∷ 7 ∷ [])
+    ∷ (12 ∷ 1 ∷ 16 ∷ 7 ∷ 8 ∷ 11 ∷ 0 ∷ 6 ∷ 7 ∷ [])
+    ∷ (13 ∷ 7 ∷ 17 ∷ 8 ∷ 9 ∷ 12 ∷ 0 ∷ [])
+    ∷ (14 ∷ 1 ∷ 18 ∷ 9 ∷ 10 ∷ 13 ∷ 0 ∷ 13 ∷ 7 ∷ [])
+    ∷ (15 ∷ 1 ∷ 19 ∷ 10 ∷ 10 ∷ 13 ∷ 0 ∷ 13 ∷ 7 ∷ [])
+    ∷ (13 ∷ 1 ∷ 20 ∷ 11 ∷ 10 ∷ 13 ∷ 0 ∷ 13 ∷ 7 ∷ [])
+    ∷ (14 ∷ 1 ∷ 21 ∷ 12 ∷ 10 ∷ 13 ∷ 0 ∷ 13 ∷ 7 ∷ [])
+    ∷ (15 ∷ 1 ∷ 22 ∷ 13 ∷ 10 ∷ 13 ∷ 0 ∷ 13 ∷ 7 ∷ [])
+    ∷ (13 ∷ 1 ∷ 23 ∷ 14 ∷ 10 ∷ 13 ∷ 0 ∷ 13 ∷ 7 ∷ [])
+    ∷ (16 ∷ 7 ∷ 24 ∷ 15 ∷ 10 ∷ 13 ∷ 0 ∷ [])
+    ∷ (17 ∷ 7 ∷ 25 ∷ 16 ∷ 11 ∷ 14 ∷ 0 ∷ [])
+    ∷ (18 ∷ 7 ∷ 26 ∷ 16 ∷ 11 ∷ 14 ∷ 1 ∷ [])
+    ∷ (19 ∷ 7 ∷ 27 ∷ 17 ∷ 12 ∷ 15 ∷ 1 ∷ [])
+    ∷ (19 ∷ 7 ∷ 27 ∷ 17 ∷ 12 ∷ 15 ∷ 1 ∷ [])
     ∷ []
 unfolding computing bytesFrom winding savedNumbers numbersOf
 row-by-row = refl

@@ -5,7 +5,7 @@ use mathlib.Core.Bool.{true, false}
 use mathlib.Core.Option.{Option, none, some}
 use Prim.Native.Nat.{ℕ}
 use Rattle.spec.specs.Answers.{Refusal, TableLength, TooManyRows, UnknownOp, BadOperand, Misplaced, TooDeep, LeftOpen, ThreadsOutOfRange}
-use Rattle.spec.specs.Answers.{CellsOutOfRange, LimitOutOfRange, LineNotDue, FileTooLong, CellsLength, LogLength, ReportTooLong, ReportCells}
+use Rattle.spec.specs.Answers.{CellsOutOfRange, LimitOutOfRange, LineNotDue, FileTooLong, CellsLength, LogLength, ReportTooLong, ReportLines}
 use Rattle.spec.specs.Answers.{OutputLength, told, unless, first}
 use Rattle.spec.proofs.Computing.{computing}
 
@@ -20,7 +20,7 @@ toldAs x = orZero (told x)
 -- 1, 12, 20, 21, 23 and 24 have place 0; the others have the place that they are told with.
 pub all-refusals : map (λ r. toldAs (some r))
     (TableLength ∷ TooManyRows 31 ∷ UnknownOp 32 ∷ BadOperand 33 ∷ Misplaced 34 ∷ TooDeep 35 ∷ LeftOpen 36 ∷ ThreadsOutOfRange 37 ∷ CellsOutOfRange 38
-    ∷ LimitOutOfRange 39 ∷ LineNotDue 40 ∷ FileTooLong ∷ CellsLength ∷ LogLength ∷ ReportTooLong 41 ∷ ReportCells ∷ OutputLength ∷ [])
+    ∷ LimitOutOfRange 39 ∷ LineNotDue 40 ∷ FileTooLong ∷ CellsLength ∷ LogLength ∷ ReportTooLong 41 ∷ ReportLines ∷ OutputLength ∷ [])
     ≡ (1, 0) ∷ (2, 31) ∷ (3, 32) ∷ (4, 33) ∷ (5, 34) ∷ (6, 35) ∷ (7, 36) ∷ (8, 37) ∷ (9, 38)
     ∷ (10, 39) ∷ (11, 40) ∷ (12, 0) ∷ (20, 0) ∷ (21, 0) ∷ (22, 41) ∷ (23, 0) ∷ (24, 0) ∷ []
 unfolding computing orZero toldAs

@@ -2,8 +2,8 @@
 use mathlib.Core.Path.{_≡_, refl}
 use mathlib.Core.List.{List, [], _∷_, _++_, map}
 use mathlib.Core.Bool.{Bool, true, false}
-use Prim.Native.Nat.{ℕ, _+_}
-use lib.ListN.{getD, take, replicate}
+use Prim.Native.Nat.{ℕ, zero, suc, _+_}
+use lib.ListN.{length, getD, take, replicate}
 use Rattle.spec.specs.Access.{load, store, atomicAdd}
 use Rattle.spec.specs.Op.{CALC, SET, MEM, LOAD, IF, ELSE, ENDIF, WHILE, ENDWHILE, BARRIER, UNKNOWN}
 use Rattle.spec.specs.Table.{Table, rowOf}
@@ -11,7 +11,9 @@ use Rattle.spec.specs.Shape.{Shape, shapeOf}
 use Rattle.spec.specs.Threads.{Thread, Group, Move, row, release, next, possible, atEnd, atOneBarrier, isBarrier, noThread, emptyRecord}
 use Rattle.spec.specs.Threads.{initialGroup, machine}
 use Rattle.spec.specs.Runs.{Machine, Run, many, after, shownTo}
-use Rattle.spec.specs.AllRuns.{startOfRuns, leaves, isRelease}
+use Rattle.spec.specs.Steps.{sum}
+use Rattle.spec.specs.LockStep.{lockstep}
+use Rattle.spec.specs.AllRuns.{startOfRuns, leaves, isMoveOf, isRelease}
 use Rattle.spec.proofs.LockStepTable.{winding, circling}
 use Rattle.spec.proofs.MachineRuns.{isRun, played, of, racing, meeting, straying}
 use Rattle.spec.proofs.Computing.{computing}
@@ -357,6 +359,54 @@ edge-of-cells = refl
 pub releases-counted : many isRelease (row 0 ∷ release ∷ row 1 ∷ release ∷ row 2 ∷ []) ≡ 2
 unfolding computing
 releases-counted = refl
+
+-- Of the moves of threads 0, 1, 2 and a release, each thread has its own alone, and thread 3 has none.
+pub own-moves : map (λ t. map (isMoveOf t) (row 0 ∷ row 1 ∷ row 2 ∷ release ∷ [])) (0 ∷ 1 ∷ 2 ∷ 3 ∷ []) ≡
+    (true ∷ false ∷ false ∷ false ∷ [])
+    ∷ (false ∷ true ∷ false ∷ false ∷ [])
+    ∷ (false ∷ false ∷ true ∷ false ∷ [])
+    ∷ (false ∷ false ∷ false ∷ false ∷ [])
+    ∷ []
+unfolding computing
+own-moves = refl
+
+-- Two runs of `winding`: one thread after the other, thread 2 first; and by turns, for as long as each has rows before its BARRIER.
+unfoldable pub byTurns : (rounds : ℕ) → (threads : List ℕ) → List Move
+byTurns zero ts = []
+byTurns (suc k) ts = map row ts ++ byTurns k ts
+
+unfoldable pub oneByOne : List Move
+oneByOne = of 14 2 ++ (of 11 1 ++ (of 16 0 ++ (release ∷ row 1 ∷ row 0 ∷ row 2 ∷ [])))
+
+unfoldable pub turnAbout : List Move
+turnAbout = byTurns 11 (0 ∷ 1 ∷ 2 ∷ []) ++ (byTurns 3 (2 ∷ 0 ∷ []) ++ (of 2 0 ++ (release ∷ row 2 ∷ row 1 ∷ row 0 ∷ [])))
+
+-- Both come to their end, with the same cells.
+pub winding-runs : map (played winding 3 (7 ∷ 7 ∷ 7 ∷ [])) (oneByOne ∷ turnAbout ∷ []) ≡ replicate 2 (record {
+  allPossible = true;
+  ended = true;
+  bad = false;
+  mayMove = false;
+  mayRelease = false;
+  cells = 1 ∷ 1 ∷ 1 ∷ [];
+  atReleases = (7 ∷ 7 ∷ 7 ∷ []) ∷ [];
+})
+unfolding computing of played isRun winding byTurns oneByOne turnAbout
+winding-runs = refl
+
+-- In both each thread makes as many moves as it has steps in lock step: 17, 12 and 15.
+unfoldable pub movesOfEach : List Move → List ℕ
+movesOfEach ms = map (λ t. many (isMoveOf t) ms) (0 ∷ 1 ∷ 2 ∷ [])
+
+pub moves-are-steps : movesOfEach oneByOne ∷ movesOfEach turnAbout ∷ lockstep winding 3 (7 ∷ 7 ∷ 7 ∷ []) 100 .state .steps ∷ [] ≡
+    replicate 3 (17 ∷ 12 ∷ 15 ∷ [])
+unfolding computing of winding byTurns oneByOne turnAbout movesOfEach
+moves-are-steps = refl
+
+-- All moves are the sum of these and one release.
+pub all-moves : length oneByOne ∷ length turnAbout ∷ (sum (movesOfEach turnAbout) + many isRelease turnAbout) ∷ [] ≡ 45 ∷ 45 ∷ 45 ∷ []
+unfolding computing of byTurns oneByOne turnAbout movesOfEach
+all-moves = refl
 
 -- The machine as a whole. One thread, TID and BARRIER: its row and a release are a run, which has come to its end. A LOAD outside ends one badly.
 unfoldable pub short : Table

@@ -3,12 +3,14 @@ use mathlib.Core.Path.{_≡_, refl}
 use mathlib.Core.List.{List, [], map}
 use Prim.Native.Nat.{ℕ}
 use Rattle.spec.specs.Log.{logWords}
+use Rattle.spec.specs.Steps.{sum}
 use Rattle.spec.specs.LaunchFile.{Launch, Checked, refused, accepted, fileLaunch}
 use Rattle.spec.specs.Entries.{launchRun, printed}
 use Rattle.spec.specs.Examples.{Worked, examples}
 use Rattle.spec.specs.RunExamples.{runExamples}
 use Rattle.spec.specs.AddExamples.{addExamples}
 use Rattle.spec.specs.ShiftExamples.{shiftExamples}
+use Rattle.spec.specs.StepExamples.{stepExamples, stepSums}
 use Rattle.spec.proofs.Computing.{computing}
 
 unfoldable pub finalLog : Checked Launch → List ℕ
@@ -36,3 +38,16 @@ worked-adds = refl
 pub worked-shifts : map computed shiftExamples ≡ map expected shiftExamples
 unfolding computing computed expected finalLog
 worked-shifts = refl
+
+pub worked-steps : map computed stepExamples ≡ map expected stepExamples
+unfolding computing computed expected finalLog
+worked-steps = refl
+
+-- The sum of the counts.
+unfoldable pub allSteps : Checked Launch → ℕ
+allSteps (refused r) = 0
+allSteps (accepted launch) = sum (launchRun launch .state .steps)
+
+pub worked-sums : map (λ x. allSteps (fileLaunch (x .file))) stepExamples ≡ stepSums
+unfolding computing allSteps
+worked-sums = refl

@@ -3,13 +3,15 @@ use mathlib.Core.Path.{_≡_}
 use mathlib.Core.Logic.{_↔_}
 use mathlib.Core.List.{List, _++_}
 use mathlib.Core.Bool.{Bool, true, false}
-use Prim.Native.Nat.{ℕ, _+_}
-use lib.ListN.{length}
+use Prim.Native.Nat.{ℕ, _+_, _<_}
+use lib.Dec.{eqb}
+use lib.ListN.{length, getD}
 use Rattle.spec.specs.Answers.{Passed, Spent, Outcome}
 use Rattle.spec.specs.Table.{Table}
 use Rattle.spec.specs.Shape.{shapeOf}
 use Rattle.spec.specs.Runs.{Machine, many, Run, after, shownTo, Stuck, RunsAlwaysEnd}
 use Rattle.spec.specs.Threads.{Group, Move, row, release, machine, initialGroup}
+use Rattle.spec.specs.Steps.{sum}
 use Rattle.spec.specs.LockStep.{countedBarriers}
 
 -- The machine of a launch of n threads over these cells, and its start.
@@ -32,7 +34,11 @@ CompleteRun T n cells ms = RunOf T n cells ms × machineOf T n cells .Ended (lea
 abbrev pub cellsAtReleases : Table → (n : ℕ) → (cells : List ℕ) → List Move → List (List ℕ)
 cellsAtReleases T n cells ms = shownTo (machineOf T n cells) tt (startOfRuns T n cells) ms
 
--- The class of the releases.
+-- The class of thread t's moves, and that of the releases.
+unfoldable pub isMoveOf : (t : ℕ) → Move → Bool
+isMoveOf t (row u) = eqb u t
+isMoveOf t release = false
+
 unfoldable pub isRelease : Move → Bool
 isRelease (row t) = false
 isRelease release = true
@@ -49,9 +55,12 @@ abbrev pub Prefix : {A : Type 0} → List A → List A → Type 0
 Prefix {A} xs ys = (rest : List A) × (xs ++ rest ≡ ys)
 
 -- What 'passed' says, where these steps and barriers and the cells `final` were reported, and bs are the cells at the counted barriers.
-pub record PassedSays (T : Table) (n : ℕ) (cells : List ℕ) (steps barriers : ℕ) (final : List ℕ) (bs : List (List ℕ)) : Type 0 where
-  -- every run, carried to its end, makes exactly steps + barriers moves
-  pub moves : (ms : List Move) → CompleteRun T n cells ms → length ms ≡ steps + barriers
+pub record PassedSays (T : Table) (n : ℕ) (cells steps : List ℕ) (barriers : ℕ) (final : List ℕ) (bs : List (List ℕ)) : Type 0 where
+  -- every thread has its count, and in every run, carried to its end, makes exactly so many moves
+  pub every : length steps ≡ n
+  pub each : (t : ℕ) → t < n → (ms : List Move) → CompleteRun T n cells ms → many (isMoveOf t) ms ≡ getD steps t 0
+  -- all moves of such a run are the sum of the counts plus barriers
+  pub moves : (ms : List Move) → CompleteRun T n cells ms → length ms ≡ sum steps + barriers
   -- exactly barriers of them are releases
   pub releases : (ms : List Move) → CompleteRun T n cells ms → many isRelease ms ≡ barriers
   -- of every class of moves all complete runs make the same number
@@ -67,11 +76,11 @@ pub record PassedSays (T : Table) (n : ℕ) (cells : List ℕ) (steps barriers :
   -- some run comes to its end, so that none of this is empty
   pub some-run : (ms : List Move) × CompleteRun T n cells ms
 
--- Demand 3 of a launch for which this outcome was answered and these cells were left.
-pub record Demand3 (T : Table) (n : ℕ) (cells : List ℕ) (limit : ℕ) (o : Outcome) (final : List ℕ) : Type 0 where
+-- Demand 3 of a launch for which this outcome was answered, these steps were counted and these cells were left.
+pub record Demand3 (T : Table) (n : ℕ) (cells : List ℕ) (limit : ℕ) (o : Outcome) (steps final : List ℕ) : Type 0 where
   -- a launch whose verdict is not spent is passed exactly when every run ends well
   pub exactly : ¬ (o .verdict ≡ Spent) → o .verdict ≡ Passed ↔ EveryRunEndsWell T n cells
-  pub passed : o .verdict ≡ Passed → PassedSays T n cells (o .steps) (o .barriers) final (countedBarriers T n cells limit)
+  pub passed : o .verdict ≡ Passed → PassedSays T n cells steps (o .barriers) final (countedBarriers T n cells limit)
   -- there are as many counted barriers as `barriers` says, and spent is said only at the limit
   pub counted : length (countedBarriers T n cells limit) ≡ o .barriers
   pub spent : o .verdict ≡ Spent → o .rows ≡ limit

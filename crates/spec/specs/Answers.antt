@@ -11,7 +11,7 @@ pub use Rattle.spec.specs.declared.Outcome.{Outcome}
 pub use Rattle.spec.specs.declared.Refusal.{Refusal}
 pub use Rattle.spec.specs.declared.Refusal.the-variants.{TableLength, TooManyRows, UnknownOp, BadOperand, Misplaced, TooDeep, LeftOpen}
 pub use Rattle.spec.specs.declared.Refusal.the-variants.{ThreadsOutOfRange, CellsOutOfRange, LimitOutOfRange, LineNotDue, FileTooLong}
-pub use Rattle.spec.specs.declared.Refusal.the-variants.{CellsLength, LogLength, ReportTooLong, ReportCells, OutputLength}
+pub use Rattle.spec.specs.declared.Refusal.the-variants.{CellsLength, LogLength, ReportTooLong, ReportLines, OutputLength}
 pub use Rattle.spec.specs.declared.Answer.{Answer}
 pub use Rattle.spec.specs.declared.Written.{Written}
 use Rattle.spec.specs.declared.Answer.the-variants as answer
@@ -37,7 +37,7 @@ refusalNumber FileTooLong = 12
 refusalNumber CellsLength = 20
 refusalNumber LogLength = 21
 refusalNumber (ReportTooLong p) = 22
-refusalNumber ReportCells = 23
+refusalNumber ReportLines = 23
 refusalNumber OutputLength = 24
 
 -- "Turned back": its place. A line counts from 1, a row from 0; 0 stands where there is no place.
@@ -57,7 +57,7 @@ refusalPlace FileTooLong = 0
 refusalPlace CellsLength = 0
 refusalPlace LogLength = 0
 refusalPlace (ReportTooLong p) = p
-refusalPlace ReportCells = 0
+refusalPlace ReportLines = 0
 refusalPlace OutputLength = 0
 
 -- A refusal as document 01 names it, by its number and place; and what an answer tells of one.

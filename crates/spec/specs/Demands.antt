@@ -16,10 +16,10 @@ use Rattle.spec.specs.LaunchFile.{Launch, accepted, fileLaunch}
 use Rattle.spec.specs.Reading.{beginsWith, numbersAt, Readable}
 use Rattle.spec.specs.Entries.{subjectOf}
 
--- Of a bare launch: of the outcome that it answers, and of the cells as the call leaves them. A refusal speaks of no run.
-abbrev pub BareDemand3 : (table : List ℕ) → (threads limit : ℕ) → (lentCells : List ℕ) → Answer → (left : List ℕ) → Type 0
-BareDemand3 table threads limit lentCells (answer.Refused why) left = Unit {0}
-BareDemand3 table threads limit lentCells (answer.Ran o) left = Demand3 (rowsOf table) threads lentCells limit o left
+-- Of a bare launch: of the outcome that it answers, and of the cells and the step counts as the call leaves them. A refusal speaks of no run.
+abbrev pub BareDemand3 : (table : List ℕ) → (threads limit : ℕ) → (lentCells : List ℕ) → Answer → (left counts : List ℕ) → Type 0
+BareDemand3 table threads limit lentCells (answer.Refused why) left counts = Unit {0}
+BareDemand3 table threads limit lentCells (answer.Ran o) left counts = Demand3 (rowsOf table) threads lentCells limit o (take threads counts) left
 
 -- Every run of a launch ends well; the cells at its counted barriers.
 abbrev pub RunsEndWell : Launch → Type 0
@@ -30,10 +30,10 @@ countedIn launch = countedBarriers (launch .table) (launch .threads) (launch .ce
 
 -- What a report that begins with `verdict=passed` says of its launch: every run ends well, and what its own lines say is what every run comes to.
 pub record PassedReport (launch : Launch) (report : List ℕ) : Type 0 where
-  pub steps : ℕ
+  pub steps : List ℕ
   pub barriers : ℕ
   pub final : List ℕ
-  pub stepsLine : numbersAt "steps" report ≡ some steps ∷ []
+  pub stepsLines : numbersAt "steps" report ≡ map some steps
   pub barriersLine : numbersAt "barriers" report ≡ some barriers ∷ []
   pub cellLines : numbersAt "cell" report ≡ map some final
   pub runs : RunsEndWell launch

@@ -4,10 +4,10 @@ use mathlib.Core.Bool.{_&&_}
 use mathlib.Core.Option.{Option, none, some}
 use Prim.Native.Nat.{ℕ, _*_, _/_, _%_}
 use lib.Dec.{eqb, leb}
-use lib.ListN.{length, drop}
+use lib.ListN.{length, drop, replicate}
 use Rattle.spec.specs.Limits.{maxThreads, maxCells, maxRows, maxLimit, logPerCell, fileCells, fileLog, fileOutput}
 use Rattle.spec.specs.Answers.{Outcome, Refusal, TableLength, TooManyRows, ThreadsOutOfRange, CellsOutOfRange, LimitOutOfRange, CellsLength}
-use Rattle.spec.specs.Answers.{LogLength, OutputLength, ReportCells, ReportTooLong}
+use Rattle.spec.specs.Answers.{LogLength, OutputLength, ReportLines, ReportTooLong}
 use Rattle.spec.specs.Answers.{Answer, Written, Subject, refusalNumber, refusalPlace, unless, first}
 use Rattle.spec.specs.declared.Answer.the-variants as answer
 use Rattle.spec.specs.declared.Written.the-variants as written
@@ -23,7 +23,7 @@ use Rattle.spec.specs.Report.{runReport, refusalReport, reportOf}
 unfoldable pub over : List ℕ → List ℕ → List ℕ
 over w buffer = w ++ drop (length w) buffer
 
--- The bare launch: table bytes, the numbers of threads and cells, the limit, lent cells and lent log.
+-- The bare launch: table bytes, the numbers of threads and cells, the limit, lent cells, lent log and lent step counts.
 
 -- From the input, 1, 2, 8, 9, 10 by the table's length and the launch's numbers. None of them stands on a line.
 unfoldable pub bareNumbers : (bytes threads cells limit : ℕ) → Option Refusal
@@ -70,27 +70,36 @@ unfoldable pub bareLog : (table : List ℕ) → (threads cells limit : ℕ) → 
 bareLog table threads cells limit lentCells lentLog =
     keptIf (bareRefusal table threads cells limit lentCells lentLog) lentLog (logWords (bareRun table threads limit lentCells .state .log))
 
--- The report writer: what to report, a cell slice (not for a refusal), a buffer.
+-- The lent counts get the steps of each thread, and 0 for the threads that the launch does not have.
+unfoldable pub bareSteps : (table : List ℕ) → (threads cells limit : ℕ) → (lentCells lentLog lentSteps : List ℕ) → List ℕ
+bareSteps table threads cells limit lentCells lentLog lentSteps =
+    keptIf (bareRefusal table threads cells limit lentCells lentLog) lentSteps (over (bareRun table threads limit lentCells .state .steps) (replicate maxThreads 0))
 
--- 23 first, then 22 with the length that is needed.
-unfoldable pub cellsReported : Subject → List ℕ → Option Refusal
-cellsReported (subject.Ran o) cells = unless (leb 1 (length cells) && leb (length cells) maxCells) ReportCells
-cellsReported (subject.Refused number place) cells = none
+-- The report writer: what to report, a slice of step counts and one of cells (not for a refusal), a buffer.
 
-unfoldable pub writerRefusal : Subject → (cells buffer : List ℕ) → Option Refusal
-writerRefusal what cells buffer =
-    let needed = length (reportOf what cells) in
-    first (cellsReported what cells ∷ unless (leb needed (length buffer)) (ReportTooLong needed) ∷ [])
+-- 23 first, where either slice has too few or too many; then 22 with the length that is needed.
+unfoldable pub linesReported : Subject → (steps cells : List ℕ) → Option Refusal
+linesReported (subject.Ran o) steps cells =
+    first
+    (unless (leb 1 (length steps) && leb (length steps) maxThreads) ReportLines
+    ∷ unless (leb 1 (length cells) && leb (length cells) maxCells) ReportLines
+    ∷ [])
+linesReported (subject.Refused number place) steps cells = none
+
+unfoldable pub writerRefusal : Subject → (steps cells buffer : List ℕ) → Option Refusal
+writerRefusal what steps cells buffer =
+    let needed = length (reportOf what steps cells) in
+    first (linesReported what steps cells ∷ unless (leb needed (length buffer)) (ReportTooLong needed) ∷ [])
 
 unfoldable pub writtenOf : Option Refusal → ℕ → Written
 writtenOf none n = written.Wrote n
 writtenOf (some r) n = written.Refused r
 
-unfoldable pub writerAnswer : Subject → (cells buffer : List ℕ) → Written
-writerAnswer what cells buffer = writtenOf (writerRefusal what cells buffer) (length (reportOf what cells))
+unfoldable pub writerAnswer : Subject → (steps cells buffer : List ℕ) → Written
+writerAnswer what steps cells buffer = writtenOf (writerRefusal what steps cells buffer) (length (reportOf what steps cells))
 
-unfoldable pub writerBuffer : Subject → (cells buffer : List ℕ) → List ℕ
-writerBuffer what cells buffer = keptIf (writerRefusal what cells buffer) buffer (over (reportOf what cells) buffer)
+unfoldable pub writerBuffer : Subject → (steps cells buffer : List ℕ) → List ℕ
+writerBuffer what steps cells buffer = keptIf (writerRefusal what steps cells buffer) buffer (over (reportOf what steps cells) buffer)
 
 -- The whole-file entry: file bytes, lent cells, lent log, output.
 
@@ -120,7 +129,7 @@ unfoldable pub launchRun : Launch → LockResult
 launchRun launch = lockstep (launch .table) (launch .threads) (launch .cells) (launch .limit)
 
 unfoldable pub launchReport : Launch → List ℕ
-launchReport launch = runReport (outcomeOf (launchRun launch)) (launchRun launch .state .cells)
+launchReport launch = runReport (outcomeOf (launchRun launch)) (launchRun launch .state .steps) (launchRun launch .state .cells)
 
 -- The answer: the refusal, or the report's length.
 unfoldable pub reportLength : Checked Launch → Written

@@ -10,6 +10,7 @@ pub mod TableCheck
 pub mod Mask
 pub mod Shape
 pub mod Log
+pub mod Steps
 pub mod LockStep
 pub mod Runs
 pub mod Threads
@@ -23,4 +24,5 @@ pub mod Examples
 pub mod RunExamples
 pub mod AddExamples
 pub mod ShiftExamples
+pub mod StepExamples
 pub mod Demands

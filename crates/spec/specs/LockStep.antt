@@ -1,7 +1,7 @@
 -- The lock-step run: predicated execution of all threads at one row. "The lock-step run". Assumes nothing.
 use mathlib.Core.List.{List, [], _∷_, _++_, map}
 use mathlib.Core.Bool.{true, false, cond, not}
-use Prim.Native.Nat.{ℕ, zero, suc, _+_}
+use Prim.Native.Nat.{ℕ, zero, suc}
 use lib.Dec.{eqb, leb, ltb}
 use lib.ListN.{length, getD, set, replicate}
 use Rattle.spec.specs.Limits.{registers}
@@ -12,13 +12,14 @@ use Rattle.spec.specs.Table.{Table, Row, rowAt, cellByte, kindOf, endOf}
 use Rattle.spec.specs.Shape.{Shape, shapeOf, bound, address}
 use Rattle.spec.specs.Mask.{Mask, members, any, full, minus, lowest, holding}
 use Rattle.spec.specs.Log.{Log, emptyLog, cleared, logged, conflictMask, raceKind}
+use Rattle.spec.specs.Steps.{stepped, allStepped}
 
 -- The mask saved for an open construct, with the construct's row: that of its IF or WHILE, or of its ELSE once that is behind.
 pub record Saved : Type 0 where
   pub opener : ℕ
   pub mask : Mask
 
--- The state: `saved` has the innermost construct first, `regs` has each thread's registers.
+-- The state: `saved` has the innermost construct first, `regs` has each thread's registers, `steps` each thread's count of steps.
 pub record LockState : Type 0 where
   pub row : ℕ
   pub enabled : Mask
@@ -27,7 +28,7 @@ pub record LockState : Type 0 where
   pub cells : List ℕ
   pub log : Log
   pub rows : ℕ
-  pub steps : ℕ
+  pub steps : List ℕ
   pub barriers : ℕ
 
 -- Start: row 0, all threads enabled, registers and log zero, counts 0.
@@ -41,7 +42,7 @@ initialState n cells =
       cells = cells;
       log = emptyLog n (length cells);
       rows = 0;
-      steps = 0;
+      steps = replicate n 0;
       barriers = 0;
     }
 
@@ -75,7 +76,7 @@ advance r m saved s =
     }
 
 -- Within a row only these change.
-unfoldable pub update : LockState → (regs : List (List ℕ)) → (cells : List ℕ) → Log → (steps : ℕ) → LockState
+unfoldable pub update : LockState → (regs : List (List ℕ)) → (cells : List ℕ) → Log → (steps : List ℕ) → LockState
 update s regs cells log steps =
     record {
       row = s .row;
@@ -95,7 +96,7 @@ reg s t a = getD (getD (s .regs) t []) a 0
 -- A computing row for thread t: one step.
 unfoldable pub setReg : LockState → (t d v : ℕ) → LockState
 unfolding update
-setReg s t d v = update s (set (s .regs) t (set (getD (s .regs) t []) d v)) (s .cells) (s .log) (suc (s .steps))
+setReg s t d v = update s (set (s .regs) t (set (getD (s .regs) t []) d v)) (s .cells) (s .log) (stepped (s .steps) t)
 
 unfoldable pub computeTurn : Row → (ℕ → ℕ → ℕ → ℕ) → LockState → ℕ → Step
 computeTurn x f s t = continues (setReg s t (x .d) (f t (reg s t (x .a)) (reg s t (x .b))))
@@ -105,7 +106,8 @@ unfoldable pub madeAccess : LockState → (t d c : ℕ) → Kind → LockState
 unfolding update
 madeAccess s t d c k =
     let old = getD (s .cells) c 0 in
-    update s (set (s .regs) t (registersAfter k d old (getD (s .regs) t []))) (set (s .cells) c (cellAfter k old)) (logged (s .log) c t k) (suc (s .steps))
+    update s (set (s .regs) t (registersAfter k d old (getD (s .regs) t []))) (set (s .cells) c (cellAfter k old)) (logged (s .log) c t k)
+    (stepped (s .steps) t)
 
 -- It races where the conflict mask has a thread, and is then neither made nor logged; the lowest thread of the mask is named.
 unfoldable pub tryAccess : LockState → (t d c : ℕ) → Kind → Step
@@ -126,7 +128,7 @@ forEnabled f s = andThen (inTurn f (members (s .enabled)) s) (λ z. continues (a
 -- The threads of m step, and nothing of their own changes.
 unfoldable pub countSteps : Mask → LockState → LockState
 unfolding update
-countSteps m s = update s (s .regs) (s .cells) (s .log) (length (members m) + s .steps)
+countSteps m s = update s (s .regs) (s .cells) (s .log) (allStepped (s .steps) (members m))
 
 unfoldable pub topMask : List Saved → Mask
 topMask [] = []
@@ -227,10 +229,9 @@ runFrom T L (suc left) s =
 unfoldable pub lockstep : Table → (n : ℕ) → (cells : List ℕ) → (limit : ℕ) → LockResult
 lockstep T n cells limit = runFrom T (shapeOf n cells) limit (initialState n cells)
 
--- What a report says of it beside the cells. The row is where it stopped; for spent, the row due.
+-- What a report says of it beside the steps and the cells. The row is where it stopped; for spent, the row due.
 unfoldable pub outcomeOf : LockResult → Outcome
-outcomeOf o =
-    record { verdict = o .verdict; row = o .state .row; rows = o .state .rows; steps = o .state .steps; barriers = o .state .barriers }
+outcomeOf o = record { verdict = o .verdict; row = o .state .row; rows = o .state .rows; barriers = o .state .barriers }
 
 -- The counted barriers, BARRIER rows at which barriers grows: the cells just before each, in their order.
 unfoldable pub countedAt : (before after : LockState) → List (List ℕ)

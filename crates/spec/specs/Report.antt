@@ -65,7 +65,7 @@ detailsOf (Outside thread at) row = details (value.Number row) (value.Number thr
 detailsOf (Diverged thread other) row = details (value.Number row) (value.Number thread) (value.Number other) value.Hyphen value.Hyphen
 detailsOf Spent row = details (value.Number row) value.Hyphen value.Hyphen value.Hyphen value.Hyphen
 
--- The lines of a run's report before its cells, the head.
+-- The lines of a run's report before its steps, the head; and the one behind them.
 unfoldable pub headWith : Outcome → Details → List Line
 headWith o d =
     "verdict" is value.Verdict (o .verdict)
@@ -75,26 +75,28 @@ headWith o d =
     ∷ "kind" is d .kind
     ∷ "at" is d .at
     ∷ "rows" is value.Number (o .rows)
-    ∷ "steps" is value.Number (o .steps)
-    ∷ "barriers" is value.Number (o .barriers)
     ∷ []
 
 unfoldable pub headLines : Outcome → List Line
 headLines o = headWith o (detailsOf (o .verdict) (o .row))
 
+unfoldable pub barriersLine : Outcome → Line
+barriersLine o = "barriers" is value.Number (o .barriers)
+
 -- One line with the same key for each number.
 unfoldable pub eachLine : (key : List ℕ) → (numbers : List ℕ) → List Line
 eachLine key numbers = map (λ n. record { key = key; value = value.Number n }) numbers
 
--- The report of a run: the head, one `cell=` line per cell, and the last line.
+-- The report of a run: the head, one `steps=` line per thread, the barriers, one `cell=` line per cell, and the last line.
 unfoldable pub endLine : Line
 endLine = "end" is value.Report
 
-unfoldable pub runLines : Outcome → (cells : List ℕ) → List Line
-runLines o cells = headLines o ++ (eachLine (text "cell") cells ++ (endLine ∷ []))
+unfoldable pub runLines : Outcome → (steps cells : List ℕ) → List Line
+runLines o steps cells =
+    headLines o ++ (eachLine (text "steps") steps ++ (barriersLine o ∷ (eachLine (text "cell") cells ++ (endLine ∷ []))))
 
-unfoldable pub runReport : Outcome → (cells : List ℕ) → List ℕ
-runReport o cells = bytesOf (runLines o cells)
+unfoldable pub runReport : Outcome → (steps cells : List ℕ) → List ℕ
+runReport o steps cells = bytesOf (runLines o steps cells)
 
 -- The report of a refusal, from its number and place.
 unfoldable pub refusalLines : (number place : ℕ) → List Line
@@ -103,7 +105,7 @@ refusalLines number place = "refused" is value.Number number ∷ "place" is valu
 unfoldable pub refusalReport : (number place : ℕ) → List ℕ
 refusalReport number place = bytesOf (refusalLines number place)
 
--- The report of either; a refusal's has no cells.
-unfoldable pub reportOf : Subject → (cells : List ℕ) → List ℕ
-reportOf (subject.Ran o) cells = runReport o cells
-reportOf (subject.Refused number place) cells = refusalReport number place
+-- The report of either; a refusal's has no steps and no cells.
+unfoldable pub reportOf : Subject → (steps cells : List ℕ) → List ℕ
+reportOf (subject.Ran o) steps cells = runReport o steps cells
+reportOf (subject.Refused number place) steps cells = refusalReport number place

@@ -23,12 +23,11 @@ pub enum Verdict {
     Spent,
 }
 
-// What a report says beside the cells: the verdict, the row where the run stopped, and the counts.
+// What a report says beside the steps of each thread and the cells: the verdict, the row where the run stopped, and the counts.
 pub struct Outcome {
     pub verdict: Verdict,
     pub row: u32,
     pub rows: u32,
-    pub steps: u32,
     pub barriers: u32,
 }
 
@@ -50,7 +49,7 @@ pub enum Refusal {
     CellsLength,
     LogLength,
     ReportTooLong(u32),
-    ReportCells,
+    ReportLines,
     OutputLength,
 }
 

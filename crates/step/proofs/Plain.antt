@@ -2,7 +2,6 @@
 use mathlib.Core.Path.{_≡_, sym, _∙_, ap, subst}
 use mathlib.Core.List.{List}
 use Prim.Native.Nat.{ℕ}
-use lib.Count.{ones}
 use lib.ListN.{length}
 use Rattle.spec.specs.Op.{Calc, CALC, Mem, MEM, value}
 use Rattle.spec.specs.Table.{Table, Row}
@@ -21,22 +20,22 @@ use Rattle.layout.proofs.PlainRows.{plain-after}
 
 module _ (n : ℕ) (z : LockState) (s : State) (regs cells log saved openers : List ℕ) (R : Represents n z s regs cells log saved openers) (T : Table)
     (x : Row) where
-  row-after : (L : Shape) (f : LockState → ℕ → Step) (k : ℕ) (a : Access) (r : Next) (regs′ cells′ log′ : List ℕ)
-      → runRow T L x z (x .op) ≡ forEnabled f z → Did n k z (inTurn f (members (z .enabled)) z) a regs′ cells′ log′
-      → EmptyAbove (s .reach) (length cells′) log′ → r ≡ accessed s a k → After n (runRow T L x z (x .op)) r regs′ cells′ log′ saved openers
-  row-after L f k a r regs′ cells′ log′ q D E e =
-      subst (λ o. After n o r regs′ cells′ log′ saved openers) (sym q) (plain-after n z s regs cells log saved openers R f k a r regs′ cells′ log′ D E e)
+  row-after : (L : Shape) (f : LockState → ℕ → Step) (a : Access) (r : Next) (regs′ cells′ log′ : List ℕ)
+      → runRow T L x z (x .op) ≡ forEnabled f z → Did n z (inTurn f (members (z .enabled)) z) a regs′ cells′ log′
+      → EmptyAbove (s .reach) (length cells′) log′ → r ≡ accessed s a → After n (runRow T L x z (x .op)) r regs′ cells′ log′ saved openers
+  row-after L f a r regs′ cells′ log′ q D E e =
+      subst (λ o. After n o r regs′ cells′ log′ saved openers) (sym q) (plain-after n z s regs cells log saved openers R f a r regs′ cells′ log′ D E e)
 
-  pub compute-after : (k : ℕ) (c : Calc) (w j : ℕ) (r : State) (regs′ : List ℕ) → x .op ≡ CALC c → j ≡ ones w
-      → Did n (ones w) z (inTurn (computeTurn x (λ t p q. value c n t (x .a) (x .b) p q)) (members (z .enabled)) z) Done regs′ cells log → r ≡ movedOn s j
+  pub compute-after : (k : ℕ) (c : Calc) (r : State) (regs′ : List ℕ) → x .op ≡ CALC c
+      → Did n z (inTurn (computeTurn x (λ t p q. value c n t (x .a) (x .b) p q)) (members (z .enabled)) z) Done regs′ cells log → r ≡ movedOn s
       → After n (runRow T (record { threads = n; cells = k }) x z (x .op)) (next.Go r) regs′ cells log saved openers
   unfolding runRow
-  compute-after k c w j r regs′ q ej D e =
-      row-after (record { threads = n; cells = k }) (computeTurn x (λ t p q. value c n t (x .a) (x .b) p q)) (ones w) Done (next.Go r) regs′ cells log
-      (ap (runRow T (record { threads = n; cells = k }) x z) q) D (R .reach-is) (ap next.Go (e ∙ ap (movedOn s) ej))
+  compute-after k c r regs′ q D e =
+      row-after (record { threads = n; cells = k }) (computeTurn x (λ t p q. value c n t (x .a) (x .b) p q)) Done (next.Go r) regs′ cells log
+      (ap (runRow T (record { threads = n; cells = k }) x z) q) D (R .reach-is) (ap next.Go e)
 
-  pub access-after : (L : Shape) (m : Mem) (k : ℕ) (a : Access) (r : Next) (regs′ cells′ log′ : List ℕ) → x .op ≡ MEM m
-      → Did n k z (inTurn (accessTurn L m x) (members (z .enabled)) z) a regs′ cells′ log′ → EmptyAbove (s .reach) (length cells′) log′ → r ≡ accessed s a k
+  pub access-after : (L : Shape) (m : Mem) (a : Access) (r : Next) (regs′ cells′ log′ : List ℕ) → x .op ≡ MEM m
+      → Did n z (inTurn (accessTurn L m x) (members (z .enabled)) z) a regs′ cells′ log′ → EmptyAbove (s .reach) (length cells′) log′ → r ≡ accessed s a
       → After n (runRow T L x z (x .op)) r regs′ cells′ log′ saved openers
   unfolding runRow
-  access-after L m k a r regs′ cells′ log′ q D E e = row-after L (accessTurn L m x) k a r regs′ cells′ log′ (ap (runRow T L x z) q) D E e
+  access-after L m a r regs′ cells′ log′ q D E e = row-after L (accessTurn L m x) a r regs′ cells′ log′ (ap (runRow T L x z) q) D E e

@@ -1,9 +1,11 @@
 // One row of the run: the op is told apart, and the row's own function does it.
 ghost use mathlib.Core.Path.{_≡_};
-ghost use Prim.Native.Nat.{_^_, _<_, _≤_};
+ghost use Prim.Native.Nat.{_+_, _*_, _^_, _<_};
+ghost use lib.ListN.{getD};
 ghost use Rattle.layout.specs.Memory.{AccessAsks, InMemory, KeptBut};
-ghost use Rattle.layout.specs.Represents.{Room, heldBack, reached, accessed};
+ghost use Rattle.layout.specs.Represents.{Room, reached, accessed};
 ghost use Rattle.layout.specs.Running.{AccessDone, Ready, Steps};
+ghost use Rattle.layout.specs.Counting.{Roomy, StepsOn, NextCounted};
 
 fn index(x: u8) -> usize
     ensures { λ r. ⌜ (r ≡ x) × (r < 256) ⌝ }
@@ -22,38 +24,21 @@ fn reached(s: layout::State, h: u32) -> layout::State
         mask: s.mask,
         depth: s.depth,
         rows: s.rows,
-        steps: s.steps,
-        barriers: s.barriers,
-    }
-}
-
-// The state of a row that has stopped after k steps.
-fn held(s: layout::State, k: u32) -> layout::State
-    requires { ⌜ Room s × (k ≤ 32) ⌝ }
-    ensures { λ r. ⌜ r ≡ heldBack s k ⌝ }
-{
-    layout::State {
-        reach: s.reach,
-        row: s.row,
-        mask: s.mask,
-        depth: s.depth,
-        rows: s.rows,
-        steps: s.steps + k,
+        since: s.since,
         barriers: s.barriers,
     }
 }
 
 // The state after a row's accesses: on to the next row, or stopped at this one.
 fn after_access(r: layout::Turns, s: layout::State) -> layout::Next
-    requires { ⌜ Room s × (r .steps ≤ 32) ⌝ }
-    ensures { λ q. ⌜ q ≡ accessed (reached s (r .reach)) (r .access) (r .steps) ⌝ }
+    requires { ⌜ Room s ⌝ }
+    ensures { λ q. ⌜ q ≡ accessed (reached s (r .reach)) (r .access) ⌝ }
 {
-    let k = r.steps;
     let c = r.access;
     let z = reached(s, r.reach);
     match c {
-        layout::Access::Done => layout::Next::Go(constructs::moved(z, k)),
-        layout::Access::Stop(v) => layout::Next::Stop(v, held(z, k)),
+        layout::Access::Done => layout::Next::Go(constructs::moved(z)),
+        layout::Access::Stop(v) => layout::Next::Stop(v, z),
     }
 }
 
@@ -69,7 +54,7 @@ fn access_row(
 ) -> layout::Next
     requires { ⌜ Room s × (s .mask < 2 ^ n) × AccessAsks op d a (now cells) (now log) × InMemory n (now regs) (now cells) (now log) ⌝ }
     ensures { λ r. ⌜ AccessDone op n d a s (now (regs .entry)) (now (cells .entry)) (now (log .entry)) r
-        (now (regs .exit)) (now (cells .exit)) (now (log .exit)) × KeptBut d n (now (regs .entry)) (now (regs .exit)) ⌝ }
+        (now (regs .exit)) (now (cells .exit)) (now (log .exit)) × KeptBut d n (now (regs .entry)) (now (regs .exit)) × StepsOn s r ⌝ }
 {
     after_access(memory::access_row(regs, cells, log, n, s.mask, op, d, a), s)
 }
@@ -84,12 +69,15 @@ pub fn step(
     log: &mut [u32],
     saved: &mut [u32; 8],
     openers: &mut [usize; 8],
+    counts: &mut [u32; 32],
     s: layout::State,
 ) -> layout::Next
-    requires { ⌜ Ready (now table) (now ends) n s (now regs) (now cells) (now log) (now saved) (now openers) ⌝ }
+    requires { ⌜ Ready (now table) (now ends) n s (now regs) (now cells) (now log) (now saved) (now openers)
+        × Roomy (s .mask) (s .since + 1) (now counts) ⌝ }
     ensures { λ r. ⌜ Steps (now (table .entry)) n s
         (now (regs .entry)) (now (cells .entry)) (now (log .entry)) (now (saved .entry)) (now (openers .entry)) r
-        (now (regs .exit)) (now (cells .exit)) (now (log .exit)) (now (saved .exit)) (now (openers .exit)) ⌝ }
+        (now (regs .exit)) (now (cells .exit)) (now (log .exit)) (now (saved .exit)) (now (openers .exit))
+        × NextCounted (getD (now (table .entry)) (s .row * 4) 0) s r (now (counts .entry)) (now (counts .exit)) ⌝ }
 {
     let row = s.row;
     let op = table[row * 4];
@@ -97,22 +85,16 @@ pub fn step(
     let a = index(table[row * 4 + 2]);
     let b = index(table[row * 4 + 3]);
     if op < 16 {
-        let k = compute::compute_row(regs, n, s.mask, op, d, a, b);
-        return layout::Next::Go(constructs::moved(s, k));
+        compute::compute_row(regs, n, s.mask, op, d, a, b);
+        return layout::Next::Go(constructs::moved(s));
     }
     if op < 32 {
         return access_row(regs, cells, log, n, op, d, a, s);
     }
     if op < 37 {
-        return layout::Next::Go(constructs::construct_row(
-            regs,
-            saved,
-            openers,
-            op,
-            a,
-            index(ends[row]),
-            s,
-        ));
+        let end = index(ends[row]);
+        let z = constructs::construct_row(regs, saved, openers, op, a, end, s);
+        return layout::Next::Go(stepcounts::settle(counts, op, s.mask, z));
     }
     constructs::barrier_row(log, cells.len(), n, s)
 }

@@ -11,6 +11,8 @@ const ME: u8 = 0;
 const ONE: u8 = 1;
 /// 1 for every other thread.
 const ODD: u8 = 2;
+/// Rounds of a loop that a thread has before it.
+const LEFT: u8 = 13;
 /// Always 0.
 const ZERO: u8 = 15;
 /// The number of a cell.
@@ -87,6 +89,24 @@ pub(crate) fn mixed() -> Vec<Row> {
         &COMPUTE, &ACCESS, &begin_if, first, &ACCESS, &otherwise, last, &ACCESS, &end_if,
     ];
     endless(&parts.concat())
+}
+
+/// Arms of three rows and of two, for every other thread in turn, so that the mask changes every few rows; a loop's two rows among 34.
+pub(crate) fn arms() -> Vec<Row> {
+    let begin_if = [[op::IF, 0, ODD, 0]];
+    let (otherwise, end_if) = ([[op::ELSE, 0, 0, 0]], [[op::ENDIF, 0, 0, 0]]);
+    let (first, last) = (&COMPUTE[..3], &COMPUTE[3..5]);
+    let parts: [&[Row]; 5] = [&begin_if, first, &otherwise, last, &end_if];
+    endless(&parts.concat().repeat(4))
+}
+
+/// A loop of as many rounds as the thread's number says, so that threads leave it one by one, over and over.
+pub(crate) fn trips() -> Vec<Row> {
+    let count = [op::OR, LEFT, ME, ME];
+    let (begin, end) = ([op::WHILE, 0, LEFT, 0], [op::ENDWHILE, 0, 0, 0]);
+    let [first, second, ..] = COMPUTE;
+    let next = [op::SUB, LEFT, LEFT, ONE];
+    endless(&[count, begin, first, second, next, end])
 }
 
 /// A BARRIER once in `every` rows, of which two are the loop's.

@@ -34,6 +34,8 @@ fn loops() {
     );
     speed("add, one cell", &measure::bare(&kernels::add_one(), 32, 32));
     speed("mixed", &measure::bare(&kernels::mixed(), 32, 32));
+    speed("arms", &measure::bare(&kernels::arms(), 32, 32));
+    speed("trips", &measure::bare(&kernels::trips(), 32, 32));
     let barrier = kernels::barrier(ROUND);
     speed("barrier, 32 cells", &measure::bare(&barrier, 32, 32));
     speed("barrier, 1,024 cells", &measure::bare(&barrier, 32, 1_024));

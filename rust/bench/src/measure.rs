@@ -46,19 +46,24 @@ pub(crate) fn bare(rows: &[Row], threads: u32, cells: u32) -> Best {
     let mut lent_cells = vec![0; cells as usize];
     let mut lent_log = vec![0; checker::log_words(cells as usize)];
     let (mut our_cells, mut our_log) = (lent_cells.clone(), lent_log.clone());
-    best(
+    let (mut our_steps, mut steps) = ([0; sekufoyi::LENT_STEPS], [0; sekufoyi::LENT_STEPS]);
+    let measured = best(
         1,
         || {
-            let (table, cells_lent, log) = (black_box(&table), &mut our_cells, &mut our_log);
-            let outcome = sekufoyi::bare_launch(table, threads, cells, LIMIT, cells_lent, log);
+            let (table, lent, log) = (black_box(&table), &mut our_cells, &mut our_log);
+            let steps = &mut our_steps;
+            let outcome = sekufoyi::bare_launch(table, threads, cells, LIMIT, lent, log, steps);
             outcome.expect("a sound launch").rows
         },
         || {
-            let (table, cells_lent, log) = (black_box(&table), &mut lent_cells, &mut lent_log);
-            let outcome = checker::bare_launch(table, threads, cells, LIMIT, cells_lent, log);
+            let (table, lent, log) = (black_box(&table), &mut lent_cells, &mut lent_log);
+            let steps = &mut steps;
+            let outcome = checker::bare_launch(table, threads, cells, LIMIT, lent, log, steps);
             outcome.expect("a sound launch").rows
         },
-    )
+    );
+    assert_eq!(our_steps, steps, "the same steps");
+    measured
 }
 
 /// A launch file of the largest size, with words of ten digits, through the whole-file entry.

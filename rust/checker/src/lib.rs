@@ -1,5 +1,5 @@
 //! A checker of barrier kernels in lock step, written from document 01, items 1
-//! to 3 of document 02 and their readings alone. Every entry answers every
+//! to 4 of document 02 and their readings alone. Every entry answers every
 //! input: none of them panics.
 
 mod file;
@@ -8,6 +8,7 @@ mod lock_step;
 mod memory;
 mod registers;
 mod report;
+mod steps;
 mod table;
 mod verdict;
 
@@ -18,8 +19,9 @@ pub use table::op;
 pub use verdict::{AccessKind, Outcome, Verdict};
 
 /// A bare launch: refusals 1, 2, 8, 9, 10, rows, then 20, 21. The lent cells
-/// hold the launch's cells and keep what the run leaves; a refusal changes no
-/// buffer.
+/// hold the launch's cells and keep what the run leaves. The first words of
+/// `steps`, one for each thread, are each thread's steps after the run, and the
+/// words behind them are kept. A refusal changes no buffer.
 pub fn bare_launch(
     table: &[u8],
     threads: u32,
@@ -27,12 +29,23 @@ pub fn bare_launch(
     limit: u32,
     lent_cells: &mut [u32],
     lent_log: &mut [u32],
+    steps: &mut [u32; MAX_THREADS as usize],
 ) -> Result<Outcome, Refusal> {
-    observed_launch(table, threads, cells, limit, lent_cells, lent_log, |_| {})
+    observed_launch(
+        table,
+        threads,
+        cells,
+        limit,
+        lent_cells,
+        lent_log,
+        steps,
+        |_| {},
+    )
 }
 
 /// As [`bare_launch`]; `at_barrier` sees the cells just before each counted
 /// barrier.
+#[allow(clippy::too_many_arguments)] // They are those of the specification, and the hook.
 pub fn observed_launch(
     table: &[u8],
     threads: u32,
@@ -40,6 +53,7 @@ pub fn observed_launch(
     limit: u32,
     lent_cells: &mut [u32],
     lent_log: &mut [u32],
+    steps: &mut [u32; MAX_THREADS as usize],
     at_barrier: impl FnMut(&[u32]),
 ) -> Result<Outcome, Refusal> {
     Refusal::unless(table.len().is_multiple_of(4), number::TABLE_LENGTH, 0)?;
@@ -52,7 +66,7 @@ pub fn observed_launch(
     Refusal::unless(lent_cells.len() == cells, number::LENT_CELLS, 0)?;
     Refusal::unless(lent_log.len() == log_words(cells), number::LENT_LOG, 0)?;
     Ok(lock_step::run(
-        &program, threads, limit, lent_cells, lent_log, at_barrier,
+        &program, threads, limit, lent_cells, lent_log, steps, at_barrier,
     ))
 }
 
@@ -72,6 +86,16 @@ pub fn check_file(
     let cells = &mut lent_cells[..launch.cells.len()];
     cells.copy_from_slice(&launch.cells);
     let (threads, limit) = (launch.threads, launch.limit);
-    let outcome = lock_step::run(&program, threads, limit, cells, lent_log, |_| {});
-    write_report(Subject::Ran(outcome), cells, out)
+    let mut steps = [0; MAX_THREADS as usize];
+    let outcome = lock_step::run(
+        &program,
+        threads,
+        limit,
+        cells,
+        lent_log,
+        &mut steps,
+        |_| {},
+    );
+    let counts = &steps[..threads as usize];
+    write_report(Subject::Ran(outcome), counts, cells, out)
 }

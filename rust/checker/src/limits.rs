@@ -56,8 +56,8 @@ pub mod number {
     pub const LENT_LOG: u32 = 21;
     /// Report buffer too short.
     pub const REPORT_BUFFER: u32 = 22;
-    /// Cell slice of a report empty or over 1,024.
-    pub const REPORT_CELLS: u32 = 23;
+    /// Step counts of a report none or over 32, or its cells none or over 1,024.
+    pub const REPORT_LINES: u32 = 23;
     /// Whole-file output too short.
     pub const FILE_OUTPUT: u32 = 24;
 }
@@ -103,4 +103,11 @@ pub(crate) fn check_limit(limit: u32, place: u32) -> Result<(), Refusal> {
 
 pub(crate) fn check_rows(rows: usize, place: u32) -> Result<(), Refusal> {
     Refusal::unless(rows <= MAX_ROWS, number::ROWS, place)
+}
+
+/// Refuses a report with too few or too many lines of one kind.
+pub(crate) fn check_report_lines(steps: usize, cells: usize) -> Result<(), Refusal> {
+    let fine =
+        (1..=MAX_THREADS as usize).contains(&steps) && (1..=MAX_CELLS as usize).contains(&cells);
+    Refusal::unless(fine, number::REPORT_LINES, 0)
 }

@@ -1,29 +1,35 @@
 //! "The lock-step run": predicated execution of one row at a time.
 
-use crate::limits::MAX_NESTING;
+use crate::limits::{MAX_NESTING, MAX_THREADS};
 use crate::memory::{Memory, Stop};
 use crate::registers::{Enabled, Registers};
+use crate::steps::Steps;
 use crate::table::{Instr, Program};
 use crate::verdict::{Outcome, Verdict};
 
 /// Runs a checked program for 1 to 32 threads over the lent cells and a log at
-/// least three times as long. `at_barrier` sees the cells just before each
-/// counted barrier.
+/// least three times as long, and writes each thread's steps to the first words
+/// of `steps`. `at_barrier` sees the cells just before each counted barrier.
 pub(crate) fn run(
     program: &Program,
     threads: u32,
     limit: u32,
     cells: &mut [u32],
     log: &mut [u32],
+    steps: &mut [u32; MAX_THREADS as usize],
     at_barrier: impl FnMut(&[u32]),
 ) -> Outcome {
-    if program.adds() {
+    let mut counting = Steps::new(threads, program.code().len());
+    let counted = &mut counting;
+    let outcome = if program.adds() {
         let mut memory = Memory::<true>::new(cells, log);
-        run_rows(program, threads, limit, &mut memory, at_barrier)
+        run_rows(program, threads, limit, &mut memory, counted, at_barrier)
     } else {
         let mut memory = Memory::<false>::new(cells, log);
-        run_rows(program, threads, limit, &mut memory, at_barrier)
-    }
+        run_rows(program, threads, limit, &mut memory, counted, at_barrier)
+    };
+    counting.write(&mut steps[..threads as usize]);
+    outcome
 }
 
 #[inline(never)] // Its loop needs the machine's registers for itself.
@@ -32,6 +38,7 @@ fn run_rows<const ADDS: bool>(
     threads: u32,
     limit: u32,
     memory: &mut Memory<ADDS>,
+    steps: &mut Steps,
     mut at_barrier: impl FnMut(&[u32]),
 ) -> Outcome {
     let code = program.code();
@@ -39,7 +46,7 @@ fn run_rows<const ADDS: bool>(
     let mut enabled = Enabled::all(threads);
     let mut saved = [0; MAX_NESTING];
     let mut from_end = false;
-    let (mut row, mut rows, mut steps, mut barriers) = (0, 0, 0, 0);
+    let (mut row, mut rows, mut barriers) = (0, 0, 0);
 
     let verdict = loop {
         // The table's end is looked at before the limit.
@@ -49,7 +56,6 @@ fn run_rows<const ADDS: bool>(
         if rows == limit {
             break Verdict::Spent { row: row as u32 };
         }
-        let mut stepping = enabled.count();
         match instr {
             Instr::Set { d, value } => registers.fill(&enabled, d, |_| u32::from(value)),
             Instr::Tid { d } => registers.fill(&enabled, d, |thread| thread),
@@ -67,32 +73,33 @@ fn run_rows<const ADDS: bool>(
             Instr::Slt(r) => registers.binary(&enabled, r, slt),
             Instr::Load { d, a } => {
                 if let Err(stop) = memory.load(&mut registers, &enabled, d, a) {
-                    steps += steps_below(stop.thread, &enabled);
                     break stopped(row, stop);
                 }
             }
             Instr::Store { d, a } => {
                 if let Err(stop) = memory.store(&registers, &enabled, d, a) {
-                    steps += steps_below(stop.thread, &enabled);
                     break stopped(row, stop);
                 }
             }
             Instr::AtomicAdd { d, a } => {
                 if let Err(stop) = memory.atomic_add(&registers, &enabled, d, a) {
-                    steps += steps_below(stop.thread, &enabled);
                     break stopped(row, stop);
                 }
             }
             Instr::If { a, level } => {
                 saved[slot(level)] = enabled.mask();
-                enabled.set(registers.truth(&enabled, a));
+                let truth = registers.truth(&enabled, a);
+                enable(truth, rows + 1, row, &mut enabled, steps);
             }
             // Inner constructs have restored their masks, so the enabled
             // threads are those that the IF enabled.
-            Instr::Else { level } => enabled.set(saved[slot(level)] & !enabled.mask()),
+            Instr::Else { level } => {
+                let others = saved[slot(level)] & !enabled.mask();
+                enable(others, rows + 1, row, &mut enabled, steps);
+            }
+            // Its own row is stepped by those that it restores.
             Instr::EndIf { level } => {
-                enabled.set(saved[slot(level)]);
-                stepping = enabled.count();
+                enable(saved[slot(level)], rows, row, &mut enabled, steps);
             }
             Instr::While { a, level, exit } => {
                 if !std::mem::take(&mut from_end) {
@@ -100,9 +107,9 @@ fn run_rows<const ADDS: bool>(
                 }
                 let remaining = registers.truth(&enabled, a);
                 if remaining != 0 {
-                    enabled.set(remaining);
+                    enable(remaining, rows + 1, row, &mut enabled, steps);
                 } else {
-                    enabled.set(saved[slot(level)]);
+                    enable(saved[slot(level)], rows + 1, row, &mut enabled, steps);
                     row = before(exit);
                 }
             }
@@ -111,7 +118,6 @@ fn run_rows<const ADDS: bool>(
                 row = before(head);
             }
             Instr::Barrier => {
-                stepping = 0;
                 if enabled.is_all() {
                     at_barrier(memory.cells());
                     memory.clear_log();
@@ -119,17 +125,44 @@ fn run_rows<const ADDS: bool>(
                 } else if enabled.mask() != 0 {
                     break diverged(row, &enabled);
                 }
+                steps.leave_out_row();
             }
         }
-        steps += stepping;
         rows += 1;
         row = row.wrapping_add(1);
     };
-    Outcome {
+    steps.share_out(rows, enabled.mask(), row);
+    let outcome = Outcome {
         verdict,
         rows,
-        steps,
         barriers,
+    };
+    step_stopped_row(&outcome, &enabled, steps);
+    outcome
+}
+
+/// The steps of the threads that acted in a row before it stopped.
+#[inline(never)] // What the end needs is kept out of the loop's registers.
+fn step_stopped_row(outcome: &Outcome, enabled: &Enabled, steps: &mut Steps) {
+    steps.add_one(enabled.mask() & acted_below(outcome.verdict));
+}
+
+/// Enables other threads. Those enabled before have stepped the rows up to
+/// number `rows`; `row` is the row that makes the change.
+#[inline(always)]
+fn enable(mask: u32, rows: u32, row: usize, enabled: &mut Enabled, steps: &mut Steps) {
+    if mask != enabled.mask() {
+        steps.share_out(rows, enabled.mask(), row);
+        enabled.set(mask);
+    }
+}
+
+/// The threads below the one whose access stopped the run: those that were
+/// enabled had acted. Nobody acts where no access stops it.
+fn acted_below(verdict: Verdict) -> u32 {
+    match verdict {
+        Verdict::Race { thread, .. } | Verdict::Outside { thread, .. } => (1 << thread) - 1,
+        _ => 0,
     }
 }
 
@@ -162,13 +195,8 @@ fn slt(x: u32, y: u32) -> u32 {
     u32::from(x.cast_signed() < y.cast_signed())
 }
 
-/// Steps of a stopped row: its enabled threads below the stopping one.
 #[cold]
-fn steps_below(thread: u32, enabled: &Enabled) -> u32 {
-    (enabled.mask() & ((1 << thread) - 1)).count_ones()
-}
-
-#[cold]
+#[inline(never)]
 fn stopped(row: usize, stop: Stop) -> Verdict {
     let row = row as u32;
     let Stop { thread, at, .. } = stop;

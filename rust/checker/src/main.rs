@@ -29,7 +29,7 @@ fn report(file: &[u8]) -> Vec<u8> {
     let (mut cells, mut log) = (vec![0; LENT_CELLS], vec![0; LENT_LOG]);
     let mut out = vec![0; REPORT_ROOM];
     let written = check_file(file, &mut cells, &mut log, &mut out)
-        .or_else(|refusal| write_report(Subject::Refused(refusal), &[], &mut out));
+        .or_else(|refusal| write_report(Subject::Refused(refusal), &[], &[], &mut out));
     // Neither can fail with these buffers; an empty report would say so.
     out.truncate(written.unwrap_or(0));
     out

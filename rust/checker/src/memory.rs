@@ -2,7 +2,7 @@
 //! since the last counted barrier ("The lock-step run", and item 1).
 
 use crate::limits::log_words;
-use crate::registers::{Enabled, Registers, Threads};
+use crate::registers::{Bits, Enabled, Registers};
 use crate::table::Reg;
 use crate::verdict::AccessKind;
 
@@ -66,15 +66,14 @@ impl<'a, const ADDS: bool> Memory<'a, ADDS> {
         let readers = &mut self.readers[..count];
         let writers = &self.writers[..count];
         let adders = if ADDS { &self.adders[..count] } else { &[] };
-        for thread in Threads(enabled.mask()) {
+        for (thread, me) in Bits(enabled.mask()) {
             let at = registers.get(a, thread);
             let cell = at as usize;
             if cell >= count {
                 return Err(outside(thread, at));
             }
-            let me = 1 << thread;
             let added = if ADDS { adders[cell] } else { 0 };
-            if (writers[cell] | added) & !me != 0 {
+            if writers[cell] | added | me != me {
                 return Err(self.load_race(thread, at));
             }
             readers[cell] |= me;
@@ -97,15 +96,14 @@ impl<'a, const ADDS: bool> Memory<'a, ADDS> {
         let readers = &self.readers[..count];
         let writers = &mut self.writers[..count];
         let adders = if ADDS { &self.adders[..count] } else { &[] };
-        for thread in Threads(enabled.mask()) {
+        for (thread, me) in Bits(enabled.mask()) {
             let at = registers.get(d, thread);
             let cell = at as usize;
             if cell >= count {
                 return Err(outside(thread, at));
             }
-            let me = 1 << thread;
             let added = if ADDS { adders[cell] } else { 0 };
-            if (readers[cell] | writers[cell] | added) & !me != 0 {
+            if readers[cell] | writers[cell] | added | me != me {
                 return Err(self.store_race(thread, at));
             }
             writers[cell] |= me;
@@ -131,14 +129,13 @@ impl<'a, const ADDS: bool> Memory<'a, ADDS> {
         let readers = &self.readers[..count];
         let writers = &self.writers[..count];
         let adders = &mut self.adders[..count];
-        for thread in Threads(enabled.mask()) {
+        for (thread, me) in Bits(enabled.mask()) {
             let at = registers.get(d, thread);
             let cell = at as usize;
             if cell >= count {
                 return Err(outside(thread, at));
             }
-            let me = 1 << thread;
-            if (readers[cell] | writers[cell]) & !me != 0 {
+            if readers[cell] | writers[cell] | me != me {
                 return Err(self.add_race(thread, at));
             }
             adders[cell] |= me;

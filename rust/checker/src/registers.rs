@@ -26,40 +26,45 @@ impl Iterator for Threads {
     }
 }
 
+/// The threads of a mask, lowest first, each with its bit.
+pub(crate) struct Bits(pub u32);
+
+impl Iterator for Bits {
+    type Item = (u32, u32);
+
+    #[inline(always)]
+    fn next(&mut self) -> Option<(u32, u32)> {
+        if self.0 == 0 {
+            return None;
+        }
+        let thread = self.0.trailing_zeros();
+        let bit = self.0 & self.0.wrapping_neg();
+        self.0 ^= bit;
+        Some((thread, bit))
+    }
+}
+
 /// Which threads there are, and which of them are enabled.
 pub(crate) struct Enabled {
     all: u32,
     mask: u32,
-    count: u32,
 }
 
 impl Enabled {
     /// All of 1 to 32 threads enabled.
     pub(crate) fn all(threads: u32) -> Self {
         let all = u32::MAX.checked_shr(32 - threads).unwrap_or(0);
-        let count = threads;
-        Self {
-            all,
-            mask: all,
-            count,
-        }
+        Self { all, mask: all }
     }
 
     #[inline(always)]
     pub(crate) fn set(&mut self, mask: u32) {
         self.mask = mask;
-        self.count = mask.count_ones();
     }
 
     #[inline(always)]
     pub(crate) fn mask(&self) -> u32 {
         self.mask
-    }
-
-    /// The steps of a row that all enabled threads do.
-    #[inline(always)]
-    pub(crate) fn count(&self) -> u32 {
-        self.count
     }
 
     #[inline(always)]

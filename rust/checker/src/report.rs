@@ -1,6 +1,6 @@
 //! "The report": lines written one behind the other into the caller's buffer.
 
-use crate::limits::{number, Refusal, MAX_CELLS};
+use crate::limits::{check_report_lines, number, Refusal};
 use crate::verdict::{AccessKind, Outcome, Verdict};
 
 /// What a report is about.
@@ -13,17 +13,24 @@ pub enum Subject {
 }
 
 /// Writes the report of `subject` to the start of `out` and gives its length.
-/// The cells belong to a launch that ran and are not looked at otherwise.
-pub fn write_report(subject: Subject, cells: &[u32], out: &mut [u8]) -> Result<usize, Refusal> {
+/// Steps, one count for each thread, and cells belong to a launch that ran and
+/// are not looked at otherwise.
+pub fn write_report(
+    subject: Subject,
+    steps: &[u32],
+    cells: &[u32],
+    out: &mut [u8],
+) -> Result<usize, Refusal> {
     if let Subject::Ran(_) = subject {
-        let fine = (1..=MAX_CELLS as usize).contains(&cells.len());
-        Refusal::unless(fine, number::REPORT_CELLS, 0)?;
+        check_report_lines(steps.len(), cells.len())?;
     }
     let mut needed = 0;
-    each_line(subject, cells, |key, value| needed += line_len(key, value));
+    each_line(subject, steps, cells, |key, value| {
+        needed += line_len(key, value);
+    });
     let short = Refusal::new(number::REPORT_BUFFER, needed as u32);
     let mut rest = out.get_mut(..needed).ok_or(short)?;
-    each_line(subject, cells, |key, value| {
+    each_line(subject, steps, cells, |key, value| {
         rest = write_line(std::mem::take(&mut rest), key, value);
     });
     Ok(needed)
@@ -111,7 +118,12 @@ const fn kind_word(kind: AccessKind) -> &'static str {
 }
 
 /// Gives every line of a report in order, for measuring and for writing.
-fn each_line(subject: Subject, cells: &[u32], mut line: impl FnMut(&'static str, Value)) {
+fn each_line(
+    subject: Subject,
+    steps: &[u32],
+    cells: &[u32],
+    mut line: impl FnMut(&'static str, Value),
+) {
     match subject {
         Subject::Ran(outcome) => {
             let head = Head::of(outcome.verdict);
@@ -122,7 +134,9 @@ fn each_line(subject: Subject, cells: &[u32], mut line: impl FnMut(&'static str,
             line("kind", head.kind);
             line("at", head.at);
             line("rows", Value::Number(outcome.rows));
-            line("steps", Value::Number(outcome.steps));
+            for &count in steps {
+                line("steps", Value::Number(count));
+            }
             line("barriers", Value::Number(outcome.barriers));
             for &cell in cells {
                 line("cell", Value::Number(cell));

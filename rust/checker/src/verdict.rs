@@ -64,15 +64,13 @@ pub enum Verdict {
     },
 }
 
-/// A verdict with the counts of its run.
+/// A verdict with the counts of its run, but for the steps of each thread.
 #[derive(Clone, Copy, Debug, PartialEq, Eq, Hash)]
 pub struct Outcome {
     /// How the run ended.
     pub verdict: Verdict,
     /// Rows finished.
     pub rows: u32,
-    /// Threads' steps made.
-    pub steps: u32,
     /// Barriers that all threads passed.
     pub barriers: u32,
 }

@@ -42,7 +42,7 @@ fn adds_of_all_threads_to_one_cell_pass() {
     // Cell 1 grows by 0 + 1 + .. + 31 = 496.
     let rows = [tid(0), set(1, 1), atomic_add(1, 0)];
     let (found, cells, log) = run_logged(&rows, 32, &[5, 6, 7], 9);
-    assert_eq!(found, outcome(Verdict::Passed, 3, 96, 0));
+    assert_eq!(found, outcome(Verdict::Passed, 3, &[3; 32], 0));
     assert_eq!(cells, [5, 502, 7]);
     assert_eq!(log, [0, 0, 0, 0, 0, 0, 0, u32::MAX, 0]);
 }
@@ -52,7 +52,7 @@ fn adds_to_own_cells_pass() {
     // Cell[thread] grows by thread + 1.
     let rows = [tid(0), set(1, 1), add(2, 0, 1), atomic_add(0, 2)];
     let (found, cells, log) = run_logged(&rows, 3, &[10, 20, 30, 40], 9);
-    assert_eq!(found, outcome(Verdict::Passed, 4, 12, 0));
+    assert_eq!(found, outcome(Verdict::Passed, 4, &[4; 3], 0));
     assert_eq!(cells, [11, 22, 33, 40]);
     assert_eq!(log, [0, 0, 0, 0, 0, 0, 0, 0, 1, 2, 4, 0]);
 }
@@ -95,7 +95,7 @@ fn an_add_changes_no_register() {
         store(3, 2),
     ];
     let (found, cells) = run(&rows, 1, &[0, 0, 100], 9);
-    assert_eq!(found, outcome(Verdict::Passed, 6, 6, 0));
+    assert_eq!(found, outcome(Verdict::Passed, 6, &[6], 0));
     assert_eq!(cells, [2, 5, 105]);
 }
 
@@ -254,14 +254,14 @@ fn outside_is_told_by_rd() {
         at: 999,
     };
     let (found, cells, log) = run_logged(&rows, 1, &[1, 2], 9);
-    assert_eq!((found, cells), (outcome(outside, 2, 2, 0), vec![1, 2]));
+    assert_eq!((found, cells), (outcome(outside, 2, &[2], 0), vec![1, 2]));
     assert_eq!(log, [0; 6]);
 }
 
 #[test]
 fn the_first_number_behind_the_cells_is_outside() {
     let rows = [tid(0), set(1, 1), atomic_add(0, 1)];
-    let passed = outcome(Verdict::Passed, 3, 9, 0);
+    let passed = outcome(Verdict::Passed, 3, &[3; 3], 0);
     assert_eq!(run(&rows, 3, &[0; 3], 9), (passed, vec![1; 3]));
     let outside = Verdict::Outside {
         row: 2,
@@ -270,7 +270,10 @@ fn the_first_number_behind_the_cells_is_outside() {
     };
     // The lower threads have added, stepped and entered their masks.
     let (found, cells, log) = run_logged(&rows, 3, &[0; 2], 9);
-    assert_eq!((found, cells), (outcome(outside, 2, 8, 0), vec![1, 1]));
+    assert_eq!(
+        (found, cells),
+        (outcome(outside, 2, &[3, 3, 2], 0), vec![1, 1])
+    );
     assert_eq!(log, [0, 0, 0, 0, 1, 2]);
 }
 
@@ -307,7 +310,7 @@ fn a_racing_add_is_neither_made_nor_logged() {
     };
     let (found, cells, log) = run_logged(&rows, 3, &[10], 99);
     // TID, SET, EQ, IF and ENDIF and SET by all three, LOAD by one.
-    assert_eq!(found, outcome(race, 7, 19, 0));
+    assert_eq!(found, outcome(race, 7, &[6, 7, 6], 0));
     assert_eq!((cells, log), (vec![10], vec![2, 0, 0]));
     // If thread 0 has loaded it, its own add is made, thread 1's is not.
     let rows = [only(0, &[LOAD]), vec![set(2, 5), atomic_add(15, 2)]].concat();
@@ -319,7 +322,7 @@ fn a_racing_add_is_neither_made_nor_logged() {
         at: 0,
     };
     let (found, cells, log) = run_logged(&rows, 3, &[10], 99);
-    assert_eq!(found, outcome(race, 7, 20, 0));
+    assert_eq!(found, outcome(race, 7, &[8, 6, 6], 0));
     assert_eq!((cells, log), (vec![15], vec![1, 0, 1]));
 }
 
@@ -336,7 +339,7 @@ fn some_threads_add_and_the_others_do_not() {
         ENDIF,
     ];
     let (found, cells, log) = run_logged(&rows, 4, &[1; 3], 9);
-    assert_eq!(found, outcome(Verdict::Passed, 7, 26, 0));
+    assert_eq!(found, outcome(Verdict::Passed, 7, &[6, 7, 6, 7], 0));
     assert_eq!((cells, &log[6..]), (vec![1, 1, 5], &[0, 0, 0b1010][..]));
 }
 
@@ -344,7 +347,7 @@ fn some_threads_add_and_the_others_do_not() {
 fn an_add_with_nobody_enabled_is_a_row_only() {
     let rows = [if_(15), ADD, ENDIF];
     let (found, cells, log) = run_logged(&rows, 2, &[7], 9);
-    assert_eq!(found, outcome(Verdict::Passed, 3, 4, 0));
+    assert_eq!(found, outcome(Verdict::Passed, 3, &[2, 2], 0));
     assert_eq!((cells, log), (vec![7], vec![0, 0, 0]));
 }
 
@@ -363,7 +366,7 @@ fn reported(rows: &[Row]) -> (String, Vec<u32>, Vec<u32>) {
 fn files_print_the_sum_and_pack_the_log() {
     let (report, cells, log) = reported(&[set(1, 3), atomic_add(15, 1)]);
     let expected = "verdict=passed\nrow=-\nthread=-\nother=-\nkind=-\nat=-\n\
-        rows=2\nsteps=4\nbarriers=0\ncell=6\nend=report\n";
+        rows=2\nsteps=2\nsteps=2\nbarriers=0\ncell=6\nend=report\n";
     assert_eq!(report, expected);
     // One reader mask, one writer mask, one adder mask, and the rest is kept.
     assert_eq!((cells, log), (vec![6, 5], vec![0, 0, 3, 6]));
@@ -376,7 +379,7 @@ fn files_print_the_kind() {
         let (report, cells, log) = reported(&[tid(0), ADD, row]);
         let expected = format!(
             "verdict=race\nrow=2\nthread=0\nother=1\nkind={kind}\nat=0\n\
-             rows=2\nsteps=4\nbarriers=0\ncell=1\nend=report\n"
+             rows=2\nsteps=2\nsteps=2\nbarriers=0\ncell=1\nend=report\n"
         );
         assert_eq!(report, expected);
         assert_eq!((cells, log), (vec![1, 5], vec![0, 0, 3, 6]));

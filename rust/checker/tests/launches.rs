@@ -27,7 +27,7 @@ fn p1_races() {
         at: 1,
     };
     let (found, cells) = run(&p1_rows(), 2, &[1, 1, 1], 100);
-    assert_eq!(found, outcome(race, 6, 13, 0));
+    assert_eq!(found, outcome(race, 6, &[7, 6], 0));
     assert_eq!(cells, [2, 1, 1]);
 }
 
@@ -36,22 +36,22 @@ fn p2_a_barrier_between_the_loads_parts_them() {
     let mut rows = p1_rows();
     rows.insert(4, BARRIER);
     let (found, cells) = run(&rows, 2, &[1, 1, 1], 100);
-    assert_eq!(found, outcome(Verdict::Passed, 8, 14, 1));
+    assert_eq!(found, outcome(Verdict::Passed, 8, &[7, 7], 1));
     assert_eq!(cells, [2, 2, 1]);
 }
 
 #[test]
 fn p3_an_empty_table_passes_under_limit_0() {
     let (found, cells) = run(&[], 3, &[9], 0);
-    assert_eq!(found, outcome(Verdict::Passed, 0, 0, 0));
+    assert_eq!(found, outcome(Verdict::Passed, 0, &[0, 0, 0], 0));
     assert_eq!(cells, [9]);
 }
 
 #[test]
 fn p4_one_tid_under_limits_0_and_1() {
     let spent = Verdict::Spent { row: 0 };
-    assert_eq!(run(&[tid(0)], 2, &[0], 0).0, outcome(spent, 0, 0, 0));
-    let passed = outcome(Verdict::Passed, 1, 2, 0);
+    assert_eq!(run(&[tid(0)], 2, &[0], 0).0, outcome(spent, 0, &[0, 0], 0));
+    let passed = outcome(Verdict::Passed, 1, &[1, 1], 0);
     assert_eq!(run(&[tid(0)], 2, &[0], 1).0, passed);
 }
 
@@ -63,13 +63,13 @@ fn p5_barriers_in_both_arms_diverge() {
         thread: 1,
         other: 0,
     };
-    assert_eq!(run(&rows, 2, &[0], 100).0, outcome(diverged, 2, 4, 0));
+    assert_eq!(run(&rows, 2, &[0], 100).0, outcome(diverged, 2, &[2, 2], 0));
 }
 
 #[test]
 fn p6_a_skipped_barrier_counts_as_a_row_only() {
     let rows = [if_(0), BARRIER, ENDIF];
-    let passed = outcome(Verdict::Passed, 3, 2, 0);
+    let passed = outcome(Verdict::Passed, 3, &[2], 0);
     assert_eq!(run(&rows, 1, &[0], 100).0, passed);
 }
 
@@ -77,7 +77,7 @@ fn p6_a_skipped_barrier_counts_as_a_row_only() {
 fn p7_an_endless_loop_is_spent() {
     let rows = [set(0, 1), while_(0), ENDWHILE];
     let spent = Verdict::Spent { row: 2 };
-    assert_eq!(run(&rows, 1, &[0], 10).0, outcome(spent, 10, 10, 0));
+    assert_eq!(run(&rows, 1, &[0], 10).0, outcome(spent, 10, &[10], 0));
 }
 
 #[test]
@@ -111,20 +111,26 @@ fn nesting_8_passes() {
 fn addresses_reach_the_last_cell_and_no_further() {
     let rows = [tid(0), load(1, 0)];
     let passed = run(&rows, 3, &[0; 3], 9).0;
-    assert_eq!(passed, outcome(Verdict::Passed, 2, 6, 0));
+    assert_eq!(passed, outcome(Verdict::Passed, 2, &[2, 2, 2], 0));
     let outside = Verdict::Outside {
         row: 1,
         thread: 2,
         at: 2,
     };
-    assert_eq!(run(&rows, 3, &[0; 2], 9).0, outcome(outside, 1, 5, 0));
+    assert_eq!(
+        run(&rows, 3, &[0; 2], 9).0,
+        outcome(outside, 1, &[2, 2, 1], 0)
+    );
     let far = [sub(0, 1, 2), set(1, 1), sub(0, 0, 1), store(0, 1)];
     let outside = Verdict::Outside {
         row: 3,
         thread: 0,
         at: u32::MAX,
     };
-    assert_eq!(run(&far, 3, &[0; 2], 9).0, outcome(outside, 3, 9, 0));
+    assert_eq!(
+        run(&far, 3, &[0; 2], 9).0,
+        outcome(outside, 3, &[3, 3, 3], 0)
+    );
 }
 
 /// Thread 0 goes 4 by 1 times to the barrier, thread 1 goes 1 by 4 times:
@@ -177,7 +183,7 @@ fn every_reader_of_a_cell_is_kept() {
         kind: AccessKind::Rw,
         at: 0,
     };
-    assert_eq!(run(&rows, 3, &[0], 99).0, outcome(race, 4, 12, 0));
+    assert_eq!(run(&rows, 3, &[0], 99).0, outcome(race, 4, &[4, 4, 4], 0));
 }
 
 #[test]
@@ -189,7 +195,10 @@ fn equal_stores_race() {
         kind: AccessKind::Ww,
         at: 0,
     };
-    assert_eq!(run(&[store(0, 0)], 2, &[0], 9).0, outcome(race, 0, 1, 0));
+    assert_eq!(
+        run(&[store(0, 0)], 2, &[0], 9).0,
+        outcome(race, 0, &[1, 0], 0)
+    );
 }
 
 #[test]
@@ -204,7 +213,7 @@ fn a_load_of_anothers_store_races() {
         at: 0,
     };
     let (found, cells) = run(&rows, 2, &[5], 9);
-    assert_eq!(found, outcome(race, 4, 6, 0));
+    assert_eq!(found, outcome(race, 4, &[2, 4], 0));
     assert_eq!(cells, [1]);
 }
 
@@ -228,7 +237,7 @@ fn a_skipped_barrier_clears_no_log() {
         kind: AccessKind::Wr,
         at: 0,
     };
-    assert_eq!(found, outcome(race, 7, 11, 0));
+    assert_eq!(found, outcome(race, 7, &[5, 6], 0));
 }
 
 #[test]
@@ -244,7 +253,7 @@ fn else_takes_the_others_even_where_the_register_has_changed() {
         ENDIF,
     ];
     let (found, cells) = run(&rows, 2, &[5], 99);
-    assert_eq!(found, outcome(Verdict::Passed, 7, 11, 0));
+    assert_eq!(found, outcome(Verdict::Passed, 7, &[6, 5], 0));
     assert_eq!(cells, [1]);
 }
 
@@ -262,15 +271,17 @@ fn loops_end_thread_by_thread() {
         store(3, 2),
     ];
     let (found, cells) = run(&rows, 4, &[9; 4], 99);
-    // WHILE is stepped 4 + 3 + 2 + 1 times, each other row of it 3 + 2 + 1.
-    assert_eq!(found, outcome(Verdict::Passed, 17, 12 + 10 + 18 + 4, 0));
+    // Each trip is WHILE and three rows; WHILE is stepped once more.
+    let steps = [0, 1, 2, 3].map(|trips| 3 + 4 * trips + 1 + 1);
+    assert_eq!(found, outcome(Verdict::Passed, 17, &steps, 0));
     assert_eq!(cells, [0, 1, 2, 3]);
 }
 
 #[test]
 fn a_while_with_nobody_enabled_is_one_row() {
     let rows = [set(1, 1), if_(0), while_(1), BARRIER, ENDWHILE, ENDIF];
-    assert_eq!(run(&rows, 2, &[0], 99).0, outcome(Verdict::Passed, 4, 6, 0));
+    let passed = outcome(Verdict::Passed, 4, &[3, 3], 0);
+    assert_eq!(run(&rows, 2, &[0], 99).0, passed);
 }
 
 #[test]
@@ -300,10 +311,13 @@ fn barriers_are_observed_before_the_row_is_counted() {
     let rows = [tid(0), store(0, 0), BARRIER, BARRIER, store(0, 1)];
     let (mut cells, mut log) = ([7, 7], [0; 6]);
     let mut seen = Vec::new();
-    let found = observed_launch(&rows.concat(), 2, 2, 9, &mut cells, &mut log, |cells| {
+    let (table, mut steps) = (rows.concat(), [JUNK; 32]);
+    let (lent, log_lent) = (&mut cells, &mut log);
+    let ran = observed_launch(&table, 2, 2, 9, lent, log_lent, &mut steps, |cells| {
         seen.push(cells.to_vec());
     });
-    assert_eq!(found, Ok(outcome(Verdict::Passed, 5, 6, 2)));
+    let passed = outcome(Verdict::Passed, 5, &[3, 3], 2);
+    assert_eq!(found(ran.unwrap(), 2, &steps), passed);
     assert_eq!(seen, [[0, 1], [0, 1]]);
     assert_eq!((cells, log), ([0, 0], [0, 0, 1, 2, 0, 0]));
 }

@@ -17,7 +17,10 @@ fn p1_with(line: usize, text: &str) -> String {
 }
 
 fn bare(table: &[u8], threads: u32, cells: u32, limit: u32) -> Refusal {
-    bare_launch(table, threads, cells, limit, &mut [], &mut []).unwrap_err()
+    let mut steps = [JUNK; 32];
+    let refused = bare_launch(table, threads, cells, limit, &mut [], &mut [], &mut steps);
+    assert_eq!(steps, [JUNK; 32]);
+    refused.unwrap_err()
 }
 
 #[test]
@@ -45,11 +48,12 @@ fn lent_buffers_fit_exactly() {
         (2, 0, refusal(21, 0)),
     ] {
         let (mut lent_cells, mut lent_log) = (vec![5; cells], vec![6; log]);
-        let found = bare_launch(&[], 1, 2, 0, &mut lent_cells, &mut lent_log);
-        assert_eq!(found, Err(expected));
+        let mut steps = [JUNK; 32];
+        let found = bare_launch(&[], 1, 2, 0, &mut lent_cells, &mut lent_log, &mut steps);
+        assert_eq!((found, steps), (Err(expected), [JUNK; 32]));
         assert_eq!((lent_cells, lent_log), (vec![5; cells], vec![6; log]));
     }
-    let fitting = bare_launch(&[], 1, 2, 0, &mut [5; 2], &mut [6; 6]);
+    let fitting = bare_launch(&[], 1, 2, 0, &mut [5; 2], &mut [6; 6], &mut [0; 32]);
     assert!(fitting.is_ok());
 }
 

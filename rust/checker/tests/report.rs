@@ -6,20 +6,19 @@ use checker::{check_file, write_report, AccessKind, Outcome, Refusal, Subject, V
 use common::*;
 
 const P1_REPORT: &str = "verdict=race\nrow=6\nthread=1\nother=0\nkind=rw\nat=1\n\
-    rows=6\nsteps=13\nbarriers=0\ncell=2\ncell=1\ncell=1\nend=report\n";
+    rows=6\nsteps=7\nsteps=6\nbarriers=0\ncell=2\ncell=1\ncell=1\nend=report\n";
 
 fn ran(verdict: Verdict) -> Subject {
     Subject::Ran(Outcome {
         verdict,
         rows: 1,
-        steps: 2,
         barriers: 3,
     })
 }
 
-fn written(subject: Subject, cells: &[u32]) -> String {
-    let mut out = [b'?'; 512];
-    let len = write_report(subject, cells, &mut out).unwrap();
+fn written(subject: Subject, steps: &[u32], cells: &[u32]) -> String {
+    let mut out = [b'?'; 1_024];
+    let len = write_report(subject, steps, cells, &mut out).unwrap();
     assert!(out[len..].iter().all(|&byte| byte == b'?'));
     String::from_utf8(out[..len].to_vec()).unwrap()
 }
@@ -35,14 +34,14 @@ fn p2_prints_its_report() {
         .replace("rows=7", "rows=8")
         .replace("row=16,4,0,0", "row=37,0,0,0\nrow=16,4,0,0");
     let report = "verdict=passed\nrow=-\nthread=-\nother=-\nkind=-\nat=-\n\
-        rows=8\nsteps=14\nbarriers=1\ncell=2\ncell=2\ncell=1\nend=report\n";
+        rows=8\nsteps=7\nsteps=7\nbarriers=1\ncell=2\ncell=2\ncell=1\nend=report\n";
     assert_eq!(check(file.as_bytes()).unwrap(), report);
 }
 
 #[test]
 fn hyphens_stand_for_lines_without_meaning() {
     let (row, thread, other, at) = (4, 5, 6, 7);
-    let tail = "rows=1\nsteps=2\nbarriers=3\ncell=4294967295\nend=report\n";
+    let tail = "rows=1\nsteps=2\nsteps=0\nbarriers=3\ncell=4294967295\nend=report\n";
     let kinds = [
         (AccessKind::Rw, "rw"),
         (AccessKind::Wr, "wr"),
@@ -61,7 +60,7 @@ fn hyphens_stand_for_lines_without_meaning() {
             at,
         };
         let head = format!("verdict=race\nrow=4\nthread=5\nother=6\nkind={word}\nat=7\n");
-        assert_eq!(written(ran(race), &[u32::MAX]), head + tail);
+        assert_eq!(written(ran(race), &[2, 0], &[u32::MAX]), head + tail);
     }
     let outside = Verdict::Outside { row, thread, at };
     let diverged = Verdict::Diverged { row, thread, other };
@@ -83,7 +82,8 @@ fn hyphens_stand_for_lines_without_meaning() {
             "verdict=spent\nrow=4\nthread=-\nother=-\nkind=-\nat=-\n",
         ),
     ] {
-        assert_eq!(written(ran(verdict), &[u32::MAX]), head.to_string() + tail);
+        let report = written(ran(verdict), &[2, 0], &[u32::MAX]);
+        assert_eq!(report, head.to_string() + tail);
     }
 }
 
@@ -94,34 +94,69 @@ fn refusals_have_a_report_without_cells() {
         place: 1,
     });
     let report = "refused=11\nplace=1\nend=report\n";
-    assert_eq!(written(subject, &[]), report);
-    assert_eq!(written(subject, &[0; 1_025]), report);
-    let short = write_report(subject, &[], &mut [0; 29]).unwrap_err();
-    assert_eq!((short.number, short.place), (22, report.len() as u32));
+    for steps in [0, 1, 32, 33, 1_025] {
+        let steps = vec![7; steps];
+        assert_eq!(written(subject, &steps, &[]), report);
+        assert_eq!(written(subject, &steps, &[0; 1_025]), report);
+        let short = write_report(subject, &steps, &[], &mut [0; 29]).unwrap_err();
+        assert_eq!((short.number, short.place), (22, report.len() as u32));
+    }
+}
+
+/// The refusal of a launch that ran, with so many counts and cells; the buffer
+/// must be kept.
+fn refused(steps: usize, cells: usize, room: usize) -> (u32, u32) {
+    let (steps, cells) = (vec![1; steps], vec![0; cells]);
+    let mut out = vec![b'?'; room];
+    let refusal = write_report(ran(Verdict::Passed), &steps, &cells, &mut out).unwrap_err();
+    assert!(out.iter().all(|&byte| byte == b'?'));
+    (refusal.number, refusal.place)
 }
 
 #[test]
-fn r23_comes_before_22() {
-    for cells in [0, 1_025] {
-        let refusal = write_report(ran(Verdict::Passed), &vec![0; cells], &mut []).unwrap_err();
-        assert_eq!((refusal.number, refusal.place), (23, 0));
+fn r23_where_cells_or_counts_are_out_of_their_limits() {
+    for room in [0, 30, 40_000] {
+        for steps in [0, 1, 2, 31, 32, 33, 64, 256, 1_024] {
+            assert_eq!(refused(steps, 0, room), (23, 0));
+            assert_eq!(refused(steps, 1_025, room), (23, 0));
+        }
+        for cells in [1, 2, 32, 33, 1_023, 1_024] {
+            for steps in [0, 33, 34, 64, 256, 1_024, 1_025] {
+                assert_eq!(refused(steps, cells, room), (23, 0));
+            }
+        }
+    }
+}
+
+#[test]
+fn every_number_of_counts_up_to_32_is_written_in_order() {
+    for threads in 1..=32 {
+        let steps: Vec<u32> = (0..threads).map(|thread| 1_000 - thread).collect();
+        let lines: String = steps.iter().map(|n| format!("steps={n}\n")).collect();
+        let report = written(ran(Verdict::Spent { row: 0 }), &steps, &[9]);
+        let head = "verdict=spent\nrow=0\nthread=-\nother=-\nkind=-\nat=-\nrows=1\n";
+        let tail = "barriers=3\ncell=9\nend=report\n";
+        assert_eq!(report, head.to_string() + &lines + tail);
     }
 }
 
 #[test]
 fn r22_names_the_length_needed() {
     let subject = ran(Verdict::Spent { row: 4 });
-    for cells in [1, 1_024] {
-        let cells = vec![u32::MAX; cells];
-        let refusal = write_report(subject, &cells, &mut []).unwrap_err();
+    for (steps, cells) in [(1, 1), (32, 1), (1, 1_024), (32, 1_024)] {
+        let (steps, cells) = (vec![u32::MAX; steps], vec![u32::MAX; cells]);
+        let refusal = write_report(subject, &steps, &cells, &mut []).unwrap_err();
         assert_eq!(refusal.number, 22);
         let needed = refusal.place as usize;
         assert!(needed <= 17_408);
         let mut out = vec![b'?'; needed - 1];
-        assert_eq!(write_report(subject, &cells, &mut out), Err(refusal));
+        assert_eq!(
+            write_report(subject, &steps, &cells, &mut out),
+            Err(refusal)
+        );
         assert!(out.iter().all(|&byte| byte == b'?'));
         out.push(b'?');
-        assert_eq!(write_report(subject, &cells, &mut out), Ok(needed));
+        assert_eq!(write_report(subject, &steps, &cells, &mut out), Ok(needed));
         assert!(out.ends_with(b"end=report\n"));
     }
 }

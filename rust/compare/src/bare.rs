@@ -17,6 +17,7 @@ pub(crate) fn compare(
     let before = Lent {
         cells: launch.lent_cells.clone(),
         log: launch.lent_log.clone(),
+        steps: launch.lent_steps,
         output: Vec::new(),
     };
     let ours = run(ours, &launch, &before);
@@ -31,9 +32,13 @@ fn run(checker: &impl Checker, launch: &BareLaunch, before: &Lent) -> Left<Outco
         cells: launch.cells,
         limit: launch.limit,
     };
-    Left::by(before, |Lent { cells, log, .. }| {
-        checker.bare_launch(&launch.table, numbers, cells, log)
-    })
+    let lend = |lent: &mut Lent| {
+        let Lent {
+            cells, log, steps, ..
+        } = lent;
+        checker.bare_launch(&launch.table, numbers, cells, log, steps)
+    };
+    Left::by(before, lend)
 }
 
 /// As a report's first line has it.

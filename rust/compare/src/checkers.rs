@@ -1,6 +1,9 @@
 //! The two checkers behind one face, in the independent checker's types.
 
-use checker::{AccessKind, Outcome, Refusal, Subject, Verdict};
+use checker::{AccessKind, Outcome, Refusal, Subject, Verdict, MAX_THREADS};
+
+/// The words that a bare launch is lent for its threads' steps.
+pub type Steps = [u32; MAX_THREADS as usize];
 
 /// The three entries of the specification.
 pub trait Checker {
@@ -13,19 +16,21 @@ pub trait Checker {
         output: &mut [u8],
     ) -> Result<usize, Refusal>;
 
-    /// The bare launch.
+    /// The bare launch. Where it ran, the words of steps behind the last thread are 0.
     fn bare_launch(
         &self,
         table: &[u8],
         numbers: Numbers,
         cells: &mut [u32],
         log: &mut [u32],
+        steps: &mut Steps,
     ) -> Result<Outcome, Refusal>;
 
     /// The report writer.
     fn write_report(
         &self,
         subject: Subject,
+        steps: &[u32],
         cells: &[u32],
         output: &mut [u8],
     ) -> Result<usize, Refusal>;
@@ -56,28 +61,34 @@ impl Checker for Independent {
         checker::check_file(file, cells, log, output)
     }
 
+    /// This checker keeps the words of steps behind the last thread, which the library clears. So they are cleared for it, and the whole
+    /// array can be asked of the library.
     fn bare_launch(
         &self,
         table: &[u8],
         numbers: Numbers,
         cells: &mut [u32],
         log: &mut [u32],
+        steps: &mut Steps,
     ) -> Result<Outcome, Refusal> {
         let Numbers {
             threads,
             cells: count,
             limit,
         } = numbers;
-        checker::bare_launch(table, threads, count, limit, cells, log)
+        let ran = checker::bare_launch(table, threads, count, limit, cells, log, steps)?;
+        steps[threads as usize..].fill(0);
+        Ok(ran)
     }
 
     fn write_report(
         &self,
         subject: Subject,
+        steps: &[u32],
         cells: &[u32],
         output: &mut [u8],
     ) -> Result<usize, Refusal> {
-        checker::write_report(subject, cells, output)
+        checker::write_report(subject, steps, cells, output)
     }
 }
 
@@ -101,13 +112,14 @@ impl Checker for Verified {
         numbers: Numbers,
         cells: &mut [u32],
         log: &mut [u32],
+        steps: &mut Steps,
     ) -> Result<Outcome, Refusal> {
         let Numbers {
             threads,
             cells: count,
             limit,
         } = numbers;
-        sekufoyi::bare_launch(table, threads, count, limit, cells, log)
+        sekufoyi::bare_launch(table, threads, count, limit, cells, log, steps)
             .map(outcome)
             .map_err(refusal)
     }
@@ -115,10 +127,11 @@ impl Checker for Verified {
     fn write_report(
         &self,
         subject: Subject,
+        steps: &[u32],
         cells: &[u32],
         output: &mut [u8],
     ) -> Result<usize, Refusal> {
-        sekufoyi::write_report(subject_for(subject), cells, output).map_err(refusal)
+        sekufoyi::write_report(subject_for(subject), steps, cells, output).map_err(refusal)
     }
 }
 
@@ -192,7 +205,6 @@ fn outcome(ours: sekufoyi::Outcome) -> Outcome {
     Outcome {
         verdict: verdict(ours.verdict),
         rows: ours.rows,
-        steps: ours.steps,
         barriers: ours.barriers,
     }
 }
@@ -201,7 +213,6 @@ fn outcome_for(theirs: Outcome) -> sekufoyi::Outcome {
     sekufoyi::Outcome {
         verdict: verdict_for(theirs.verdict),
         rows: theirs.rows,
-        steps: theirs.steps,
         barriers: theirs.barriers,
     }
 }

@@ -4,11 +4,14 @@ use std::fmt;
 
 use checker::Refusal;
 
-/// The buffers that an entry is lent. An entry without one of them has it empty.
+use crate::Steps;
+
+/// The buffers that an entry is lent. An entry without one of them has it empty, or full of zeros.
 #[derive(Clone, Debug, Default, PartialEq, Eq)]
 pub(crate) struct Lent {
     pub cells: Vec<u32>,
     pub log: Vec<u32>,
+    pub steps: Steps,
     pub output: Vec<u8>,
 }
 
@@ -59,9 +62,10 @@ pub(crate) fn judge<T: PartialEq + fmt::Debug>(
         return Ok(());
     }
     let what = format!(
-        "ours:   {:?}\ntheirs: {:?}\n{}{}{}{}{}",
+        "ours:   {:?}\ntheirs: {:?}\n{}{}{}{}{}{}",
         ours.answer,
         theirs.answer,
+        counts(&before.steps, &ours.lent.steps, &theirs.lent.steps),
         words("cell", &before.cells, &ours.lent.cells, &theirs.lent.cells),
         words("log word", &before.log, &ours.lent.log, &theirs.lent.log),
         words(
@@ -75,6 +79,23 @@ pub(crate) fn judge<T: PartialEq + fmt::Debug>(
     );
     let launch = launch();
     Err(Box::new(Difference { seed, launch, what }))
+}
+
+/// Every count beside the other's, since where one is wrong the others say which row it was; nothing where the entry has none.
+fn counts(before: &Steps, ours: &Steps, theirs: &Steps) -> String {
+    if *before == Steps::default() {
+        return String::new();
+    }
+    let line = |thread: usize| {
+        let (was, our, their) = (before[thread], ours[thread], theirs[thread]);
+        let mark = if our == their { "" } else { "  differs" };
+        format!("thread {thread:>5}{our:>12}{their:>12}{was:>12}{mark}\n")
+    };
+    let lines: String = (0..before.len()).map(line).collect();
+    format!(
+        "{:<12}{:>12}{:>12}{:>12}\n{lines}",
+        "steps of", "ours", "theirs", "before"
+    )
 }
 
 /// The places where a buffer differs, the first few of them.

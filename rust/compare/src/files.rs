@@ -21,9 +21,13 @@ pub(crate) fn compare(
 }
 
 fn check(checker: &impl Checker, file: &[u8], before: &Lent) -> Left<usize> {
-    Left::by(before, |Lent { cells, log, output }| {
+    let lend = |lent: &mut Lent| {
+        let Lent {
+            cells, log, output, ..
+        } = lent;
         checker.check_file(file, cells, log, output)
-    })
+    };
+    Left::by(before, lend)
 }
 
 /// Buffers full of junk. In about one launch of six some of them are of a wrong size: one, two or all, each set as likely as
@@ -48,6 +52,7 @@ fn lend(seed: u64) -> Lent {
         cells: junk::words(seed, cells),
         log: junk::words(!seed, log),
         output: junk::bytes(seed, output),
+        ..Lent::default()
     }
 }
 
@@ -71,8 +76,7 @@ fn name(left: &Left<usize>) -> String {
 }
 
 fn show(file: &[u8], lent: &Lent) -> String {
-    let Lent { cells, log, output } = lent;
-    let (cells, log, output) = (cells.len(), log.len(), output.len());
+    let (cells, log, output) = (lent.cells.len(), lent.log.len(), lent.output.len());
     let lines = lines(file);
     format!("lent {cells} cells, {log} words of log, {output} bytes of output; the file:\n{lines}")
 }

@@ -8,7 +8,7 @@ mod junk;
 mod reports;
 mod tally;
 
-pub use checkers::{Checker, Independent, Numbers, Verified};
+pub use checkers::{Checker, Independent, Numbers, Steps, Verified};
 pub use difference::Difference;
 pub use tally::{Kind, Tally};
 

@@ -13,31 +13,44 @@ pub(crate) fn compare(
     theirs: &impl Checker,
 ) -> Result<String, Box<Difference>> {
     let mut rng = Rng::new(seed, 11);
-    let subject = subject(&mut rng);
-    let cells = cells(&mut rng);
+    let asked = Asked {
+        subject: subject(&mut rng),
+        steps: counts(&mut rng),
+        cells: cells(&mut rng),
+    };
     let before = Lent {
-        output: junk::bytes(seed, room(&mut rng, theirs, subject, &cells)),
+        output: junk::bytes(seed, room(&mut rng, theirs, &asked)),
         ..Lent::default()
     };
-    let ours = write(ours, subject, &cells, &before);
-    let theirs = write(theirs, subject, &cells, &before);
-    let show = || show(subject, &cells, &before);
-    judge(seed, show, &before, &ours, &theirs)?;
+    let ours = write(ours, &asked, &before);
+    let theirs = write(theirs, &asked, &before);
+    judge(seed, || show(&asked, &before), &before, &ours, &theirs)?;
     Ok(ours
         .answer
         .map_or_else(refused, |_| "report=written".to_string()))
 }
 
-fn write(checker: &impl Checker, subject: Subject, cells: &[u32], before: &Lent) -> Left<usize> {
-    Left::by(before, |lent| {
-        checker.write_report(subject, cells, &mut lent.output)
-    })
+/// What a report is asked to say.
+struct Asked {
+    subject: Subject,
+    steps: Vec<u32>,
+    cells: Vec<u32>,
 }
 
-/// Exactly as long as the report, one byte shorter, empty, or longer. Where the cells are refused, mostly too short as well.
-fn room(rng: &mut Rng, checker: &impl Checker, subject: Subject, cells: &[u32]) -> usize {
+impl Asked {
+    fn of(&self, checker: &impl Checker, output: &mut [u8]) -> Result<usize, Refusal> {
+        checker.write_report(self.subject, &self.steps, &self.cells, output)
+    }
+}
+
+fn write(checker: &impl Checker, asked: &Asked, before: &Lent) -> Left<usize> {
+    Left::by(before, |lent| asked.of(checker, &mut lent.output))
+}
+
+/// Exactly as long as the report, one byte shorter, empty, or longer. Where steps or cells are refused, mostly too short as well.
+fn room(rng: &mut Rng, checker: &impl Checker, asked: &Asked) -> usize {
     let mut output = vec![0; REPORT_ROOM];
-    let Ok(needed) = checker.write_report(subject, cells, &mut output) else {
+    let Ok(needed) = asked.of(checker, &mut output) else {
         return rng.pick(&[0, 1, 40, 1_024, REPORT_ROOM, 20_000]);
     };
     match rng.below(8) {
@@ -57,7 +70,6 @@ fn subject(rng: &mut Rng) -> Subject {
     Subject::Ran(Outcome {
         verdict: verdict(rng),
         rows: digits(rng),
-        steps: digits(rng),
         barriers: digits(rng),
     })
 }
@@ -90,6 +102,15 @@ fn verdict(rng: &mut Rng) -> Verdict {
     }
 }
 
+/// The generator's counts, of right and wrong lengths. One in four is drawn anew, so that the least and the greatest count of so many
+/// digits are among them.
+fn counts(rng: &mut Rng) -> Vec<u32> {
+    let drawn = generator::report_steps(rng).into_iter();
+    drawn
+        .map(|count| if rng.one_in(4) { digits(rng) } else { count })
+        .collect()
+}
+
 fn cells(rng: &mut Rng) -> Vec<u32> {
     let some = 2 + rng.index(100);
     let many = 2 + rng.index(1_023);
@@ -110,7 +131,12 @@ fn digits(rng: &mut Rng) -> u32 {
     }
 }
 
-fn show(subject: Subject, cells: &[u32], lent: &Lent) -> String {
-    let room = lent.output.len();
-    format!("{subject:?}, {room} bytes of output, cells {cells:?}\n")
+fn show(asked: &Asked, lent: &Lent) -> String {
+    let Asked {
+        subject,
+        steps,
+        cells,
+    } = asked;
+    let (room, counts, words) = (lent.output.len(), steps.len(), cells.len());
+    format!("{subject:?}, {room} bytes of output\n{counts} steps: {steps:?}\n{words} cells: {cells:?}\n")
 }

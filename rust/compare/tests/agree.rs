@@ -3,7 +3,7 @@
 use checker::{
     log_words, parse_file, AccessKind, Outcome, Refusal, Subject, Verdict, LENT_LOG, REPORT_ROOM,
 };
-use compare::{compare_all, compare_seed, Checker, Independent, Kind, Numbers};
+use compare::{compare_all, compare_seed, Checker, Independent, Kind, Numbers, Steps};
 
 #[test]
 fn the_verified_library_agrees_with_the_independent_checker() {
@@ -31,6 +31,7 @@ fn the_verified_library_agrees_with_the_independent_checker() {
             assert!(tally.answered(kind, &answer) > 0, "{kind:?}: {answer}");
         }
     }
+    assert!(tally.answered(Kind::Report, "report=written") > 50);
 }
 
 /// The independent checker with one mistake.
@@ -41,11 +42,24 @@ enum Faulty {
     ChangesTheLastLogWord,
     ChangesTheLastByte,
     CountsAStepTooMany,
+    CountsTheStoppedThread,
+    CountsForAllAsForTheFirst,
+    SumsTheSteps,
+    PutsTheLastThreadFirst,
+    ForgetsTheLastCount,
+    LeavesTheWordsBehindAsLent,
+    ChangesTheLastStepWord,
+    ClearsTheStepsOnRefusal,
+    WritesTheBarriersBeforeTheSteps,
+    TakesNoCounts,
+    TakesACountTooMany,
+    TakesManyCounts,
     ClearsTheLogOnRefusal,
     TellsTheOutputBeforeTheLog,
     TellsTheLogBeforeTheCells,
     TellsCellsBeforeThreads,
     TellsTheBufferBeforeTheCells,
+    TellsTheBufferBeforeTheCounts,
     ForgetsTheAdders,
     PutsTheAddersBeforeTheWriters,
     LeavesTheAddersAsLent,
@@ -105,6 +119,69 @@ impl Faulty {
         }
     }
 
+    /// Does the mistake to the steps that a run of so many threads has left.
+    fn spoil_steps(self, steps: &mut Steps, lent: &Steps, threads: usize, verdict: Verdict) {
+        let (counts, behind) = steps.split_at_mut(threads);
+        match (self, verdict) {
+            (Faulty::CountsAStepTooMany, _) => counts[0] += 1,
+            (
+                Faulty::CountsTheStoppedThread,
+                Verdict::Race { thread, .. } | Verdict::Outside { thread, .. },
+            ) => counts[thread as usize] += 1,
+            (Faulty::CountsForAllAsForTheFirst, _) => counts.fill(counts[0]),
+            (Faulty::SumsTheSteps, _) => {
+                let sum = counts.iter().sum();
+                counts.fill(0);
+                counts[0] = sum;
+            }
+            (Faulty::PutsTheLastThreadFirst, _) => counts.reverse(),
+            (Faulty::ForgetsTheLastCount, _) => counts[threads - 1] = lent[threads - 1],
+            (Faulty::LeavesTheWordsBehindAsLent, _) => behind.copy_from_slice(&lent[threads..]),
+            _ => {}
+        }
+    }
+
+    /// Does the mistake to the lines of a report.
+    fn spoil_lines(self, lines: &mut Vec<String>) {
+        let Some(barriers) = lines.iter().position(|line| line.starts_with("barriers=")) else {
+            return;
+        };
+        let steps = FIRST_COUNT..barriers;
+        match self {
+            Faulty::SwapsTheLetters => lines[4] = swapped_line(&lines[4]),
+            Faulty::SumsTheSteps => {
+                let sum: u64 = lines[steps.clone()].iter().map(|line| count(line)).sum();
+                lines.splice(steps, [format!("steps={sum}")]);
+            }
+            Faulty::PutsTheLastThreadFirst => lines[steps].reverse(),
+            Faulty::ForgetsTheLastCount => drop(lines.remove(barriers - 1)),
+            Faulty::WritesTheBarriersBeforeTheSteps => {
+                lines[FIRST_COUNT..=barriers].rotate_right(1)
+            }
+            _ => {}
+        }
+    }
+
+    /// The same in the output. No mistake makes a report longer.
+    fn spoil_report(self, output: &mut [u8], written: usize) -> usize {
+        let text = std::str::from_utf8(&output[..written]).expect("a report is ASCII");
+        let mut lines: Vec<String> = text.lines().map(str::to_string).collect();
+        self.spoil_lines(&mut lines);
+        let text: String = lines.iter().map(|line| format!("{line}\n")).collect();
+        output[..text.len()].copy_from_slice(text.as_bytes());
+        text.len()
+    }
+
+    /// As many counts as are written where a wrong number of them is taken.
+    fn counts_taken(self, steps: &[u32]) -> Option<Vec<u32>> {
+        match (self, steps.len()) {
+            (Faulty::TakesNoCounts, 0) => Some(vec![0]),
+            (Faulty::TakesACountTooMany, 33) => Some(steps[..32].to_vec()),
+            (Faulty::TakesManyCounts, 34..) => Some(steps[..32].to_vec()),
+            _ => None,
+        }
+    }
+
     /// Whether a log that is too short by one kind of mask is taken.
     fn takes(self, log: &[u32], words: usize) -> bool {
         matches!(self, Faulty::TakesALogOfTwoKinds) && 3 * log.len() == 2 * words
@@ -147,11 +224,17 @@ fn swapped(kind: AccessKind) -> AccessKind {
 }
 
 /// The same in a report, whose line `kind=` is its fifth.
-fn swap_letters(report: &mut [u8]) {
-    let kind = report.split_mut(|&byte| byte == b'\n').nth(4);
-    if let Some([b'k', b'i', b'n', b'd', b'=', letters @ ..]) = kind {
-        letters.reverse();
-    }
+fn swapped_line(line: &str) -> String {
+    let letters = line.strip_prefix("kind=").expect("the kind's line");
+    format!("kind={}", letters.chars().rev().collect::<String>())
+}
+
+/// Where the first line `steps=` of a report is.
+const FIRST_COUNT: usize = 7;
+
+fn count(line: &str) -> u64 {
+    let digits = line.strip_prefix("steps=").expect("a count's line");
+    digits.parse().expect("a number")
 }
 
 impl Checker for Faulty {
@@ -167,12 +250,10 @@ impl Checker for Faulty {
             let mut longer = vec![0; LENT_LOG];
             return Independent.check_file(file, cells, &mut longer, output);
         }
-        let answer = Independent.check_file(file, cells, log, output);
-        if let (Ok(launch), Ok(written)) = (parse_file(file), answer) {
+        let mut answer = Independent.check_file(file, cells, log, output);
+        if let (Ok(launch), Ok(written)) = (parse_file(file), &mut answer) {
             self.spoil_log(log, &lent, launch.cells.len());
-            if matches!(self, Faulty::SwapsTheLetters) {
-                swap_letters(&mut output[..written]);
-            }
+            *written = self.spoil_report(output, *written);
         }
         let answer = match (self, answer.map_err(|refusal| refusal.number)) {
             (Faulty::TellsTheOutputBeforeTheLog, Err(21)) if output.len() < REPORT_ROOM => {
@@ -190,14 +271,19 @@ impl Checker for Faulty {
         numbers: Numbers,
         cells: &mut [u32],
         log: &mut [u32],
+        steps: &mut Steps,
     ) -> Result<Outcome, Refusal> {
-        let Numbers { cells: said, .. } = numbers;
-        let (lent, count) = (log.to_vec(), said as usize);
+        let Numbers {
+            threads,
+            cells: said,
+            ..
+        } = numbers;
+        let (lent, lent_steps, count) = (log.to_vec(), *steps, said as usize);
         if self.takes(log, log_words(count)) {
             let mut longer = vec![0; log_words(count)];
-            return Independent.bare_launch(table, numbers, cells, &mut longer);
+            return Independent.bare_launch(table, numbers, cells, &mut longer, steps);
         }
-        let mut answer = Independent.bare_launch(table, numbers, cells, log);
+        let mut answer = Independent.bare_launch(table, numbers, cells, log, steps);
         answer = match (self, answer.map_err(|refusal| refusal.number)) {
             (Faulty::TellsCellsBeforeThreads, Err(8)) if !(1..=1_024).contains(&said) => refused(9),
             (Faulty::TellsTheLogBeforeTheCells, Err(20)) if log.len() != log_words(count) => {
@@ -206,9 +292,14 @@ impl Checker for Faulty {
             _ => answer,
         };
         if let Ok(outcome) = &mut answer {
-            outcome.steps += u32::from(matches!(self, Faulty::CountsAStepTooMany));
+            self.spoil_steps(steps, &lent_steps, threads as usize, outcome.verdict);
             self.spoil_kind(&mut outcome.verdict, log, count);
             self.spoil_log(log, &lent, count);
+        }
+        match self {
+            Faulty::ChangesTheLastStepWord => steps[31] ^= 1,
+            Faulty::ClearsTheStepsOnRefusal if answer.is_err() => steps.fill(0),
+            _ => {}
         }
         self.spoil(answer, cells, log, &mut [])
     }
@@ -216,16 +307,23 @@ impl Checker for Faulty {
     fn write_report(
         &self,
         subject: Subject,
+        steps: &[u32],
         cells: &[u32],
         output: &mut [u8],
     ) -> Result<usize, Refusal> {
-        let answer = Independent.write_report(subject, cells, output);
-        if let (Faulty::SwapsTheLetters, Ok(written)) = (self, answer) {
-            swap_letters(&mut output[..written]);
+        if let Some(taken) = self.counts_taken(steps) {
+            return Independent.write_report(subject, &taken, cells, output);
         }
+        let mut answer = Independent.write_report(subject, steps, cells, output);
+        if let Ok(written) = &mut answer {
+            *written = self.spoil_report(output, *written);
+        }
+        let right = (1..=32).contains(&steps.len());
+        // A report has no fewer bytes than this.
+        let short = output.len() < 50;
         let answer = match (self, answer.map_err(|refusal| refusal.number)) {
-            // A report has no fewer bytes than this.
-            (Faulty::TellsTheBufferBeforeTheCells, Err(23)) if output.len() < 50 => refused(22),
+            (Faulty::TellsTheBufferBeforeTheCells, Err(23)) if right && short => refused(22),
+            (Faulty::TellsTheBufferBeforeTheCounts, Err(23)) if !right && short => refused(22),
             _ => answer,
         };
         self.spoil(answer, &mut [], &mut [], output)
@@ -254,6 +352,10 @@ fn a_fault_in_files_is_found_out() {
         Faulty::LeavesTheAddersAsLent,
         Faulty::TakesALogOfTwoKinds,
         Faulty::SwapsTheLetters,
+        Faulty::SumsTheSteps,
+        Faulty::PutsTheLastThreadFirst,
+        Faulty::ForgetsTheLastCount,
+        Faulty::WritesTheBarriersBeforeTheSteps,
     ] {
         assert!(found_out(faulty, Kind::File), "{faulty:?}");
     }
@@ -266,6 +368,14 @@ fn a_fault_in_bare_launches_is_found_out() {
         Faulty::ChangesTheLastCell,
         Faulty::ChangesTheLastLogWord,
         Faulty::CountsAStepTooMany,
+        Faulty::CountsTheStoppedThread,
+        Faulty::CountsForAllAsForTheFirst,
+        Faulty::SumsTheSteps,
+        Faulty::PutsTheLastThreadFirst,
+        Faulty::ForgetsTheLastCount,
+        Faulty::LeavesTheWordsBehindAsLent,
+        Faulty::ChangesTheLastStepWord,
+        Faulty::ClearsTheStepsOnRefusal,
         Faulty::ClearsTheLogOnRefusal,
         Faulty::TellsTheLogBeforeTheCells,
         Faulty::TellsCellsBeforeThreads,
@@ -286,6 +396,14 @@ fn a_fault_in_reports_is_found_out() {
         Faulty::PlaceOffByOne,
         Faulty::ChangesTheLastByte,
         Faulty::TellsTheBufferBeforeTheCells,
+        Faulty::TellsTheBufferBeforeTheCounts,
+        Faulty::TakesNoCounts,
+        Faulty::TakesACountTooMany,
+        Faulty::TakesManyCounts,
+        Faulty::SumsTheSteps,
+        Faulty::PutsTheLastThreadFirst,
+        Faulty::ForgetsTheLastCount,
+        Faulty::WritesTheBarriersBeforeTheSteps,
         Faulty::SwapsTheLetters,
     ] {
         assert!(found_out(faulty, Kind::Report), "{faulty:?}");
@@ -294,8 +412,12 @@ fn a_fault_in_reports_is_found_out() {
 
 #[test]
 fn a_fault_of_both_is_found_out_where_a_refusal_keeps_the_buffers() {
-    let both = Faulty::ClearsTheLogOnRefusal;
-    assert!((0..160).any(|seed| compare_seed(seed, &both, &both).is_err()));
+    for both in [
+        Faulty::ClearsTheLogOnRefusal,
+        Faulty::ClearsTheStepsOnRefusal,
+    ] {
+        assert!((0..160).any(|seed| compare_seed(seed, &both, &both).is_err()));
+    }
 }
 
 #[test]
@@ -306,7 +428,33 @@ fn a_difference_shows_the_launch_and_both_answers() {
         .expect("some launch runs");
     let found = compare_seed(seed, &Faulty::CountsAStepTooMany, &Independent);
     let text = found.expect_err("as before").to_string();
-    for part in ["row 0: [", "threads ", "ours:   Ok", "theirs: Ok", "steps"] {
+    for part in ["row 0: [", "threads ", "ours:   Ok", "theirs: Ok"] {
         assert!(text.contains(part), "{part} in\n{text}");
+    }
+}
+
+#[test]
+fn a_difference_shows_the_counts_side_by_side() {
+    let seed = (12..10_000).step_by(16);
+    let found =
+        seed.filter_map(|seed| compare_seed(seed, &Faulty::CountsAStepTooMany, &Independent).err());
+    let text = found.map(|found| found.to_string()).next();
+    let text = text.expect("some launch runs");
+    let mut lines = (text.lines())
+        .skip_while(|line| !line.starts_with("steps of"))
+        .map(|line| line.split_whitespace().collect::<Vec<_>>());
+    assert_eq!(
+        lines.next(),
+        Some(vec!["steps", "of", "ours", "theirs", "before"])
+    );
+    for thread in 0..32 {
+        let line = lines.next().unwrap_or_default();
+        let [name, number, ours, theirs, _, mark @ ..] = &line[..] else {
+            panic!("no counts of thread {thread} in\n{text}");
+        };
+        assert_eq!([*name, *number], ["thread", thread.to_string().as_str()]);
+        let [ours, theirs] = [ours, theirs].map(|count| count.parse::<u32>().expect("a count"));
+        assert_eq!(ours - theirs, u32::from(thread == 0));
+        assert_eq!(mark.len(), usize::from(thread == 0));
     }
 }

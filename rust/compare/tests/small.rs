@@ -1,8 +1,9 @@
 //! The launches that the explorer plays every run of: what it finds of the independent checker's answers holds of the verified
 //! library's too, because they are the same.
 
-use checker::log_words;
-use compare::{Checker, Independent, Numbers, Verified};
+use checker::{log_words, Outcome, Refusal, MAX_THREADS};
+use compare::{Checker, Independent, Numbers, Steps, Verified};
+use generator::SmallLaunch;
 
 /// The explorer's seeds, in its own test and some more.
 const SEEDS: u64 = 20_000;
@@ -18,23 +19,19 @@ fn small_launches_are_answered_alike() {
             cells: launch.cells.len() as u32,
             limit: LIMIT,
         };
-        let run = |checker: &dyn Fn(&mut [u32], &mut [u32]) -> String| {
-            let mut cells = launch.cells.clone();
-            let mut log = vec![u32::MAX; log_words(cells.len())];
-            (checker(&mut cells, &mut log), cells, log)
-        };
-        let ours = run(&|cells, log| {
-            format!(
-                "{:?}",
-                Verified.bare_launch(&launch.table, numbers, cells, log)
-            )
-        });
-        let theirs = run(&|cells, log| {
-            format!(
-                "{:?}",
-                Independent.bare_launch(&launch.table, numbers, cells, log)
-            )
-        });
+        let ours = run(&Verified, &launch, numbers);
+        let theirs = run(&Independent, &launch, numbers);
         assert_eq!(ours, theirs, "seed {seed}: {launch:?}");
     }
+}
+
+/// The answer with the cells, the log and the steps that it leaves.
+type Left = (Result<Outcome, Refusal>, Vec<u32>, Vec<u32>, Steps);
+
+fn run(checker: &impl Checker, launch: &SmallLaunch, numbers: Numbers) -> Left {
+    let mut cells = launch.cells.clone();
+    let mut log = vec![u32::MAX; log_words(cells.len())];
+    let mut steps = [u32::MAX; MAX_THREADS as usize];
+    let answer = checker.bare_launch(&launch.table, numbers, &mut cells, &mut log, &mut steps);
+    (answer, cells, log, steps)
 }

@@ -183,6 +183,11 @@ impl State {
         }
     }
 
+    /// How many threads there are.
+    pub fn threads(&self) -> usize {
+        self.threads.len()
+    }
+
     /// The cells now.
     pub fn cells(&self) -> &[u32] {
         &self.cells

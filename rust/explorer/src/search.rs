@@ -1,6 +1,6 @@
 //! Every run of a launch: a depth-first search through all states.
 
-use std::collections::{BTreeSet, HashMap, HashSet};
+use std::collections::{BTreeMap, BTreeSet, HashMap, HashSet};
 
 use crate::machine::{BadEnd, Kernel, Move, Standing, State};
 
@@ -10,10 +10,8 @@ pub type Run = Vec<Move>;
 /// How a complete run came to its end.
 #[derive(Clone, Debug, PartialEq, Eq, PartialOrd, Ord)]
 pub struct End {
-    /// Threads' rows made.
-    pub steps: u32,
-    /// Releases made.
-    pub releases: u32,
+    /// The moves made.
+    pub made: Made,
     /// The cells at the end.
     pub cells: Vec<u32>,
 }
@@ -25,8 +23,8 @@ pub struct Findings {
     pub states: usize,
     /// Whether every run has been played, so that what isn't found isn't there.
     pub complete: bool,
-    /// All ways in which runs came to their end.
-    pub ends: BTreeSet<End>,
+    /// All ways in which runs came to their end, each with a run that did so.
+    pub ends: BTreeMap<End, Run>,
     /// For each release by its number, the cells just before it in any run.
     pub releases: Vec<BTreeSet<Vec<u32>>>,
     /// A run that ended badly.
@@ -35,8 +33,8 @@ pub struct Findings {
     pub stuck: Option<Run>,
     /// A run after which a part of it can be repeated for ever.
     pub endless: Option<Run>,
-    /// A run that leads to a state which another run reaches with other
-    /// numbers of steps and releases.
+    /// A run that leads to a state which another run reaches with another
+    /// number of moves, of releases, or of moves of any one thread.
     pub uneven: Option<Run>,
 }
 
@@ -47,25 +45,41 @@ impl Findings {
     }
 }
 
-/// Moves made on the way to a state.
-#[derive(Clone, Copy, Debug, Default, PartialEq, Eq)]
-struct Made {
-    steps: u32,
-    releases: u32,
+/// Moves made on the way to a state. Each of the numbers is counted by itself,
+/// so that none of them has to be worked out from the others.
+#[derive(Clone, Debug, PartialEq, Eq, PartialOrd, Ord)]
+pub struct Made {
+    /// Of each thread.
+    pub by_thread: Vec<u32>,
+    /// Releases.
+    pub releases: u32,
+    /// Of any kind.
+    pub all: u32,
 }
 
 impl Made {
-    fn after(self, made: Move) -> Self {
-        match made {
-            Move::Row(_) => Self {
-                steps: self.steps + 1,
-                ..self
-            },
-            Move::Release => Self {
-                releases: self.releases + 1,
-                ..self
-            },
+    /// None yet, by so many threads.
+    pub fn nothing(threads: usize) -> Self {
+        Self {
+            by_thread: vec![0; threads],
+            releases: 0,
+            all: 0,
         }
+    }
+
+    /// The numbers of a run's moves.
+    pub fn of(run: &[Move], threads: usize) -> Self {
+        let start = Self::nothing(threads);
+        run.iter().fold(start, |made, &next| made.after(next))
+    }
+
+    fn after(mut self, made: Move) -> Self {
+        match made {
+            Move::Row(thread) => self.by_thread[thread] += 1,
+            Move::Release => self.releases += 1,
+        }
+        self.all += 1;
+        self
     }
 }
 
@@ -101,7 +115,8 @@ pub fn explore(kernel: &Kernel, start: State, most_states: usize) -> Findings {
         findings: Findings::default(),
     };
     search.findings.complete = true;
-    search.arrive(start, Made::default());
+    let nothing = Made::nothing(start.threads());
+    search.arrive(start, nothing);
     while search.findings.complete && search.advance() {}
     search.findings.states = search.seen.len();
     search.findings
@@ -119,7 +134,7 @@ impl Search<'_> {
             return true;
         };
         let mut state = frame.state.clone();
-        let count = frame.made;
+        let count = frame.made.clone();
         if made == Move::Release {
             let before = state.cells().to_vec();
             self.note_release(count.releases as usize, before);
@@ -140,11 +155,11 @@ impl Search<'_> {
 
     /// Comes to a state by the moves in `run`; goes on from it if it is new.
     fn arrive(&mut self, state: State, made: Made) {
-        if let Some(&(before, on_path)) = self.seen.get(&state) {
-            if on_path {
+        if let Some((before, on_path)) = self.seen.get(&state) {
+            if *on_path {
                 // A cycle: the moves since then can be made again and again.
                 note(&mut self.findings.endless, || self.run.clone());
-            } else if before != made {
+            } else if *before != made {
                 note(&mut self.findings.uneven, || self.run.clone());
             }
             self.run.pop();
@@ -164,7 +179,7 @@ impl Search<'_> {
         }
         match state.standing(self.kernel) {
             Standing::Open(untried) => {
-                self.seen.insert(state.clone(), (made, true));
+                self.seen.insert(state.clone(), (made.clone(), true));
                 self.on_path.insert(place);
                 self.path.push(Frame {
                     state,
@@ -173,7 +188,7 @@ impl Search<'_> {
                 });
                 return;
             }
-            Standing::Ended => self.note_end(&state, made),
+            Standing::Ended => self.note_end(&state, made.clone()),
             Standing::Stuck => note(&mut self.findings.stuck, || self.run.clone()),
         }
         self.seen.insert(state, (made, false));
@@ -191,11 +206,10 @@ impl Search<'_> {
     }
 
     fn note_end(&mut self, state: &State, made: Made) {
-        self.findings.ends.insert(End {
-            steps: made.steps,
-            releases: made.releases,
-            cells: state.cells().to_vec(),
-        });
+        let cells = state.cells().to_vec();
+        let end = End { made, cells };
+        let run = || self.run.clone();
+        self.findings.ends.entry(end).or_insert_with(run);
     }
 
     fn note_release(&mut self, number: usize, cells: Vec<u32>) {
@@ -242,4 +256,80 @@ pub fn replay(kernel: &Kernel, mut state: State, run: &[Move]) -> Replay {
         }
     }
     Replay::Stands(state.standing(kernel))
+}
+
+#[cfg(test)]
+mod tests {
+    use super::*;
+
+    const BARRIER: [u8; 4] = [37, 0, 0, 0];
+    const TID: [u8; 4] = [2, 0, 0, 0];
+
+    fn all_runs(rows: &[[u8; 4]], threads: u32) -> Findings {
+        let kernel = Kernel::new(&rows.concat());
+        explore(&kernel, State::start(threads, &[0]), 10_000)
+    }
+
+    /// The moves of every run, where all runs make the same.
+    fn moves(rows: &[[u8; 4]], threads: u32) -> (Vec<u32>, u32, u32) {
+        let findings = all_runs(rows, threads);
+        assert!(findings.always_ends() && findings.uneven.is_none());
+        assert_eq!(findings.ends.len(), 1);
+        let Made {
+            by_thread,
+            releases,
+            all,
+        } = findings.ends.into_keys().next().unwrap().made;
+        (by_thread, releases, all)
+    }
+
+    #[test]
+    fn moves_are_counted_for_the_thread_that_makes_them() {
+        // IF for all but thread 0: two rows; a release is nobody's.
+        let arm = [TID, [32, 0, 0, 0], TID, TID, [34, 0, 0, 0], BARRIER];
+        assert_eq!(moves(&arm, 2), (vec![3, 5], 1, 9));
+        assert_eq!(moves(&arm, 3), (vec![3, 5, 5], 1, 14));
+        let otherwise = [TID, [32, 0, 0, 0], [33, 0, 0, 0], TID, TID, [34, 0, 0, 0]];
+        assert_eq!(moves(&otherwise, 2), (vec![5, 4], 0, 9));
+    }
+
+    #[test]
+    fn trips_are_counted_for_the_thread_that_makes_them() {
+        // While R0, from the thread's number on, R0 = R0 - 1.
+        let one = [1, 1, 1, 0];
+        let trips = [TID, one, [35, 0, 0, 0], [5, 0, 0, 1], [36, 0, 0, 0]];
+        assert_eq!(moves(&trips, 3), (vec![3, 6, 9], 0, 18));
+    }
+
+    #[test]
+    fn moves_of_a_run_are_those_of_its_list() {
+        let run = [1, 0, 1, 1].map(Move::Row);
+        let made = Made::of(&[&run[..], &[Move::Release]].concat(), 3);
+        assert_eq!(made.by_thread, [1, 3, 0]);
+        assert_eq!((made.releases, made.all), (1, 5));
+    }
+
+    /// No launch that passes has such a state, so that one is made by hand.
+    #[test]
+    fn a_state_reached_by_other_moves_is_uneven() {
+        let kernel = Kernel::new(&[TID, TID].concat());
+        let start = State::start(2, &[0]);
+        let mut search = Search {
+            kernel: &kernel,
+            most_states: 9,
+            seen: HashMap::new(),
+            on_path: HashSet::new(),
+            path: vec![],
+            run: vec![],
+            findings: Findings::default(),
+        };
+        let by = |moves: &[Move]| Made::of(moves, 2);
+        let [first, second] = [0, 1].map(Move::Row);
+        search.seen.insert(start.clone(), (by(&[first]), false));
+        search.arrive(start.clone(), by(&[first]));
+        assert!(search.findings.uneven.is_none());
+        // As many moves, but another thread's.
+        search.arrive(start, by(&[second]));
+        assert!(search.findings.uneven.is_some());
+    }
 }

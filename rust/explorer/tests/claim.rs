@@ -66,6 +66,35 @@ fn p1_ends_badly_and_p2_passes() {
     assert_eq!(check(&p2), Ok(Confirmed::Passed));
 }
 
+/// Arms of unequal length and loops of unequal trips, with barriers between.
+#[test]
+fn threads_with_unequal_steps_pass() {
+    let plain = [4, 5, 5, 1];
+    let first = [TID, ONE, begin_if(0), plain, plain, ELSE, ENDIF, BARRIER];
+    let trips = [begin_while(0), plain, [5, 0, 0, 1], ENDWHILE];
+    let last = [
+        BARRIER,
+        begin_if(5),
+        plain,
+        ELSE,
+        plain,
+        plain,
+        plain,
+        ENDIF,
+    ];
+    for threads in [2, 3] {
+        for rows in [
+            first.to_vec(),
+            [&first[..2], &trips].concat(),
+            [&first[..], &trips, &last].concat(),
+            [&first[..2], &[begin_if(0)], &trips, &[ENDIF], &last].concat(),
+        ] {
+            let found = check(&launch(threads, &rows, &[0]));
+            assert_eq!(found, Ok(Confirmed::Passed), "{rows:?}");
+        }
+    }
+}
+
 #[test]
 fn p5_is_stuck() {
     let rows = [TID, begin_if(0), BARRIER, ELSE, BARRIER, ENDIF];

@@ -1,6 +1,6 @@
 //! Bare launches, with buffers and lengths right and wrong.
 
-use checker::{log_words, LENT_CELLS, LENT_LOG};
+use checker::{log_words, LENT_CELLS, LENT_LOG, MAX_THREADS};
 
 use crate::damage::hurt_rows;
 use crate::headers::{out_of_range, LIMIT};
@@ -24,12 +24,14 @@ pub struct BareLaunch {
     pub lent_cells: Vec<u32>,
     /// The lent log, holding anything.
     pub lent_log: Vec<u32>,
+    /// The lent words of steps, holding words that no count comes to.
+    pub lent_steps: [u32; MAX_THREADS as usize],
 }
 
 /// A bare launch: sound, hurt in some way, with a small table that is turned
 /// back, or with one fault or two at once.
 pub fn bare(rng: &mut Rng, any_plan: impl FnOnce(&mut Rng) -> Plan) -> BareLaunch {
-    match rng.below(16) {
+    let mut launch = match rng.below(16) {
         0..=9 => {
             let plan = any_plan(rng);
             hurt_or_not(rng, plan)
@@ -39,7 +41,9 @@ pub fn bare(rng: &mut Rng, any_plan: impl FnOnce(&mut Rng) -> Plan) -> BareLaunc
             of(rng, plan)
         }
         _ => one_or_two_faults(rng),
-    }
+    };
+    launch.lent_steps = [0; MAX_THREADS as usize].map(|_| rng.word() | 1 << 31);
+    launch
 }
 
 fn of(rng: &mut Rng, plan: Plan) -> BareLaunch {
@@ -51,6 +55,7 @@ fn of(rng: &mut Rng, plan: Plan) -> BareLaunch {
         limit: plan.limit,
         lent_cells: plan.cells,
         lent_log: (0..log).map(|_| rng.word()).collect(),
+        lent_steps: [0; MAX_THREADS as usize],
     }
 }
 

@@ -3,6 +3,7 @@
 
 mod asm;
 mod bare;
+mod counts;
 mod damage;
 mod extremes;
 mod headers;
@@ -10,10 +11,12 @@ mod intervals;
 mod patterns;
 mod plan;
 mod random;
+mod reports;
 mod rng;
 mod shifts;
 mod slips;
 mod small;
+mod small_counts;
 mod small_shifts;
 mod spelling;
 mod tables;
@@ -21,6 +24,7 @@ mod words;
 
 pub use bare::BareLaunch;
 pub use plan::Plan;
+pub use reports::report_steps;
 pub use rng::Rng;
 pub use small::SmallLaunch;
 
@@ -59,9 +63,10 @@ pub fn small(seed: u64) -> SmallLaunch {
 
 fn any_plan(rng: &mut Rng) -> Plan {
     match rng.below(100) {
-        0..=45 => patterns::pattern(rng),
+        0..=38 => patterns::pattern(rng),
+        39..=45 | 67..=71 => counts::counts(rng),
         46..=51 | 72..=75 => intervals::intervals(rng),
-        52..=71 => random::random(rng),
+        52..=66 => random::random(rng),
         76..=84 => extremes::extreme(rng),
         _ => words::words(rng),
     }

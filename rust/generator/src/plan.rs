@@ -1,6 +1,6 @@
 //! A launch before it is written as a file.
 
-use checker::{bare_launch, log_words, Verdict};
+use checker::{bare_launch, log_words, Verdict, MAX_THREADS};
 
 use crate::asm::Row;
 use crate::rng::Rng;
@@ -82,12 +82,13 @@ impl Plan {
 
     /// Rows finished, if the launch ends soon. Launches that are refused need
     /// none.
-    fn rows_needed(&self) -> Option<u32> {
+    pub(crate) fn rows_needed(&self) -> Option<u32> {
         let mut cells = self.cells.clone();
         let mut log = vec![0; log_words(cells.len())];
         let count = cells.len() as u32;
-        let table = self.table();
-        let outcome = bare_launch(&table, self.threads, count, PROBE, &mut cells, &mut log);
+        let (table, mut steps) = (self.table(), [0; MAX_THREADS as usize]);
+        let (threads, log) = (self.threads, &mut log);
+        let outcome = bare_launch(&table, threads, count, PROBE, &mut cells, log, &mut steps);
         match outcome {
             Ok(outcome) if matches!(outcome.verdict, Verdict::Spent { .. }) => None,
             Ok(outcome) => Some(outcome.rows),

@@ -2,6 +2,7 @@
 
 use crate::asm::*;
 use crate::rng::Rng;
+use crate::small_counts::uneven;
 use crate::small_shifts::shifts;
 
 /// A launch of few threads, rows and cells; its table is well-formed.
@@ -15,8 +16,8 @@ pub struct SmallLaunch {
     pub cells: Vec<u32>,
 }
 
-/// A small launch: rows at random, a short loop with barriers and accesses, or
-/// a shift on which the outcome hangs.
+/// A small launch: rows at random, a short loop with barriers and accesses, a
+/// shift on which the outcome hangs, or threads with unequal steps.
 pub fn small_launch(rng: &mut Rng) -> SmallLaunch {
     let threads = rng.pick(&[2, 2, 2, 3]);
     let mut count = rng.range(1, 3);
@@ -24,10 +25,11 @@ pub fn small_launch(rng: &mut Rng) -> SmallLaunch {
     let rows = match rng.below(26) {
         0..=3 => short_loop(rng),
         4..=5 => exchange(rng),
-        6..=9 => two_arms(rng),
+        6..=8 => two_arms(rng),
+        9 | 15 => uneven(rng),
         10 => turns(rng),
         11 => two_loops(rng),
-        12..=15 => two_accesses(rng),
+        12..=14 => two_accesses(rng),
         16..=19 => {
             let (rows, words) = shifts(rng);
             behind = words;

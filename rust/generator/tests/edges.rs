@@ -203,7 +203,7 @@ fn two_faults_in_a_header() {
 
 /// What the row checks say of a table, with all else in order.
 fn rows_refused(table: &[u8]) -> Option<Refusal> {
-    bare_launch(table, 1, 1, 0, &mut [0], &mut [0; 3]).err()
+    bare_launch(table, 1, 1, 0, &mut [0], &mut [0; 3], &mut [0; 32]).err()
 }
 
 /// The four bytes of a `row=` line that is spelt right.
@@ -545,7 +545,8 @@ fn shifts_that_decide_the_verdict() {
         see_changes(&mut counts, &plan);
     }
     // Others occur, but need not.
-    counts.0.retain(|name, _| name.contains("passed"));
+    let asked = |name: &str| name.ends_with("for passed") || name == "passed for spent";
+    counts.0.retain(|name, _| asked(name));
     counts.expect(3);
 }
 
@@ -617,10 +618,11 @@ fn addresses_at_the_end_and_behind_it() {
     counts.expect(4);
 }
 
-/// A plan's outcome, its cells and the three masks of each cell, where it isn't
-/// refused.
+/// A plan's outcome, the steps of each thread, its cells and the three masks of
+/// each cell, where it isn't refused.
 struct Ran {
     outcome: Outcome,
+    steps: Vec<u32>,
     before: Vec<u32>,
     after: Vec<u32>,
     log: Vec<u32>,
@@ -632,10 +634,12 @@ impl Ran {
         let mut log = vec![0; log_words(after.len())];
         let (table, count) = (plan.rows.concat(), after.len() as u32);
         let (threads, limit) = (plan.threads, plan.limit);
-        let outcome = bare_launch(&table, threads, count, limit, &mut after, &mut log).ok()?;
+        let (cells, masks, mut steps) = (&mut after, &mut log, [0; 32]);
+        let ran = bare_launch(&table, threads, count, limit, cells, masks, &mut steps);
         let before = plan.cells.clone();
         Some(Self {
-            outcome,
+            outcome: ran.ok()?,
+            steps: steps[..threads as usize].to_vec(),
             before,
             after,
             log,
@@ -654,7 +658,12 @@ impl Ran {
 }
 
 fn ran() -> impl Iterator<Item = (Plan, Ran)> {
-    (0..SEEDS).map(generator::plan).filter_map(|plan| {
+    ran_to(SEEDS)
+}
+
+/// The launches of so many seeds.
+fn ran_to(seeds: u64) -> impl Iterator<Item = (Plan, Ran)> {
+    (0..seeds).map(generator::plan).filter_map(|plan| {
         let ran = Ran::of(&plan)?;
         Some((plan, ran))
     })
@@ -997,4 +1006,235 @@ fn the_number_of_threads_is_seldom_that_of_cells() {
         counted && plan.cells.len() != plan.threads as usize
     });
     assert!(differ.count() > 400);
+}
+
+/// Whether some thread has made more steps than another.
+fn unequal(steps: &[u32]) -> bool {
+    steps.windows(2).any(|two| two[0] != two[1])
+}
+
+#[test]
+fn counts_of_steps_that_differ_from_thread_to_thread() {
+    let (mut by_threads, mut counts) = (Counts::default(), Counts::default());
+    for (plan, ran) in ran() {
+        let steps = &ran.steps;
+        for threads in 2..=32 {
+            let seen = plan.threads == threads && unequal(steps);
+            by_threads.see(format!("{threads:2} threads"), seen);
+        }
+        for name in ["passed", "race", "outside", "diverged", "spent"] {
+            let seen = verdict_name(ran.outcome.verdict) == name && unequal(steps);
+            counts.see(format!("unequal, {name}"), seen);
+        }
+        let many = plan.threads > 3;
+        let rising = steps.windows(2).all(|two| two[0] < two[1]);
+        let falling = steps.windows(2).all(|two| two[0] > two[1]);
+        counts.see("rising", many && rising);
+        counts.see("falling", many && falling);
+        let (first, last) = (steps[0], steps[steps.len() - 1]);
+        let all_but = |one: u32| steps.iter().filter(|&&count| count != one).count() == 1;
+        counts.see(
+            "only thread 0 differs",
+            many && all_but(last) && first != last,
+        );
+        counts.see(
+            "only the last differs",
+            many && all_but(first) && first != last,
+        );
+        counts.see(
+            "one in between differs",
+            many && all_but(first) && first == last,
+        );
+        let most = steps.iter().max().copied().unwrap_or(0);
+        counts.see("twice as many", steps.iter().any(|&count| 2 * count < most));
+        counts.see(
+            "past 8 bits, not all",
+            most > 255 && steps.iter().any(|&n| n < 256),
+        );
+    }
+    by_threads.expect(10);
+    counts.expect(8);
+}
+
+#[test]
+fn counts_of_steps_that_are_large() {
+    let mut counts = Counts::default();
+    for (_, ran) in ran() {
+        let steps = &ran.steps;
+        let past = |count: &u32| *count > 65_535;
+        let (some, all) = (steps.iter().any(past), steps.iter().all(past));
+        counts.see("past 16 bits", some);
+        counts.see("past 16 bits, unequal", some && unequal(steps));
+        counts.see("past 16 bits, not all", some && !all);
+        let sum: u32 = steps.iter().sum();
+        counts.see(
+            "a sum past 16 bits by counts that aren't",
+            sum > 65_535 && !some,
+        );
+        counts.see("a sum past 24 bits", sum > 1 << 24);
+        counts.see(
+            "a sum past 24 bits, unequal",
+            sum > 1 << 24 && unequal(steps),
+        );
+    }
+    counts.expect(3);
+}
+
+/// The threads with more steps in the second run.
+fn stepping(before: &Ran, after: &Ran) -> u32 {
+    let more = |thread: &usize| after.steps[*thread] > before.steps[*thread];
+    let threads = (0..before.steps.len()).filter(more);
+    threads.fold(0, |mask, thread| mask | 1 << thread)
+}
+
+fn all_threads(plan: &Plan) -> u32 {
+    u32::MAX >> (32 - plan.threads)
+}
+
+/// Where an access or a barrier stops a run, which threads have acted there
+/// already: none, some, and threads that weren't enabled between them.
+#[test]
+fn stops_inside_constructs_count_for_some() {
+    let (mut by_thread, mut counts) = (Counts::default(), Counts::default());
+    for (plan, ran) in ran_to(3 * SEEDS) {
+        let (Verdict::Race { row, thread, .. } | Verdict::Outside { row, thread, .. }) =
+            ran.outcome.verdict
+        else {
+            continue;
+        };
+        let name = verdict_name(ran.outcome.verdict);
+        let acted = stepping(&stopped(&plan, ran.outcome.rows).0, &ran);
+        let lower = (1 << thread) - 1;
+        let constructs = around(&plan.rows, row as usize);
+        for number in 0..32 {
+            // Nobody is below thread 0, so that all of them have acted there.
+            let partly = (acted != lower || thread == 0) && !constructs.is_empty();
+            by_thread.see(format!("thread {number:2}"), thread == number && partly);
+        }
+        let access = plan.rows[row as usize][0];
+        let mut see = |what: &str, seen: bool| counts.see(format!("{name}, {what}"), seen);
+        see("some lower threads acted", acted != 0 && acted != lower);
+        see("all lower threads acted", acted == lower && thread > 1);
+        see("no lower thread acted", acted == 0 && thread > 1);
+        see("thread 31 behind others", thread == 31 && acted != 0);
+        for construct in ['I', 'E', 'W'] {
+            see(&format!("in {construct}"), constructs.contains(construct));
+        }
+        see(&format!("by {access}"), acted != 0 && acted != lower);
+    }
+    by_thread.expect(3);
+    counts.expect(6);
+}
+
+#[test]
+fn limits_and_barriers_inside_constructs_cut_counts_off() {
+    let mut counts = Counts::default();
+    for (plan, ran) in ran() {
+        let (Verdict::Spent { row } | Verdict::Diverged { row, .. }) = ran.outcome.verdict else {
+            continue;
+        };
+        let name = verdict_name(ran.outcome.verdict);
+        let mut see = |what: &str, seen: bool| counts.see(format!("{name}, {what}"), seen);
+        let constructs = around(&plan.rows, row as usize);
+        for construct in ['I', 'E', 'W'] {
+            let seen = constructs.contains(construct) && unequal(&ran.steps);
+            see(&format!("in {construct}"), seen);
+        }
+        see("in three", constructs.len() > 2 && unequal(&ran.steps));
+        // The row before may have changed the mask.
+        let before = row.checked_sub(1).map(|row| plan.rows[row as usize][0]);
+        for op in [op::IF, op::ELSE, op::WHILE] {
+            see(&format!("behind {op}"), before == Some(op));
+        }
+    }
+    counts.expect(4);
+}
+
+/// The rows run one after the other, each with the threads that stepped. The
+/// launch is run up to each row of it.
+fn trace(plan: &Plan, rows: u32) -> Vec<(usize, u32)> {
+    let mut found = vec![];
+    let (mut before, mut row) = stopped(plan, 0);
+    for limit in 1..=rows {
+        let (after, next) = stopped(plan, limit);
+        found.push((row, stepping(&before, &after)));
+        (before, row) = (after, next);
+    }
+    found
+}
+
+/// Rows that change the mask, and which of those that come and those that
+/// leave are counted there.
+#[test]
+fn rows_that_change_the_mask_are_stepped_by_some() {
+    let mut counts = Counts::default();
+    let short = |(_, ran): &(Plan, Ran)| ran.outcome.rows < 100;
+    for (plan, ran) in ran().filter(short).filter(|(plan, _)| plan.threads > 2) {
+        let all = all_threads(&plan);
+        let traced = trace(&plan, ran.outcome.rows);
+        for rows in traced.windows(2) {
+            let [(row, came), (next, then)] = [rows[0], rows[1]];
+            let [code, of_next] = [row, next].map(|row| plan.rows[row][0]);
+            if of_next == op::BARRIER {
+                continue;
+            }
+            see_change(&mut counts, code, came, then, all);
+            let end = of_next == op::ENDIF;
+            counts.see(
+                "ENDIF of more than the arm",
+                end && came != 0 && then != came,
+            );
+            counts.see(
+                "ENDIF of some",
+                end && then != all && then != came && came != 0,
+            );
+            counts.see("ENDIF behind nobody", end && came == 0 && then != 0);
+        }
+    }
+    counts.expect(50);
+}
+
+fn see_change(counts: &mut Counts, code: u8, came: u32, then: u32, all: u32) {
+    let some = came != 0 && came != all;
+    let names = [(op::IF, "IF"), (op::WHILE, "WHILE"), (op::ELSE, "ELSE")];
+    for (of, name) in names {
+        let mut see = |what: &str, seen: bool| {
+            counts.see(format!("{name}, {what}"), seen && code == of);
+        };
+        see("some of some go on", some && then != 0 && then != came);
+        // Behind ELSE others go on, and behind WHILE somebody always does.
+        if of != op::ELSE {
+            see("some of all go on", came == all && then != 0 && then != all);
+            see("all of some go on", some && then == came);
+        }
+        if of != op::WHILE {
+            see("nobody goes on", came != 0 && then == 0);
+        }
+    }
+}
+
+/// What the report writer may be handed, together with cells that are as wrong.
+#[test]
+fn counts_for_the_report_writer_alone() {
+    let mut counts = Counts::default();
+    for seed in 0..SEEDS {
+        let steps = generator::report_steps(&mut generator::Rng::new(seed, 0));
+        for length in [0, 1, 32, 33, 64, 256, 1_024] {
+            counts.see(format!("{length} counts"), steps.len() == length);
+        }
+        counts.see("some counts", (2..32).contains(&steps.len()));
+        for digits in 1..=10 {
+            let seen = steps.iter().any(|count| count.to_string().len() == digits);
+            counts.see(format!("{digits} digits"), seen);
+        }
+    }
+    counts.expect(100);
+}
+
+#[test]
+fn lent_words_of_steps_pass_for_no_count() {
+    for launch in (0..SEEDS).map(generator::bare) {
+        assert!(launch.lent_steps.iter().all(|&word| word > MAX_LIMIT));
+        assert!(unequal(&launch.lent_steps));
+    }
 }

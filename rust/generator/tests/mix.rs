@@ -100,9 +100,15 @@ fn bare_launches() {
             before.limit,
             cells,
             log,
+            &mut bare.lent_steps,
         );
         let names = match found {
-            Ok(outcome) => verdict_names(outcome.verdict),
+            Ok(outcome) => {
+                let (steps, behind) = bare.lent_steps.split_at(before.threads as usize);
+                assert!(steps.iter().all(|&count| count <= outcome.rows + 1));
+                assert_eq!(behind, &before.lent_steps[steps.len()..]);
+                verdict_names(outcome.verdict)
+            }
             Err(refusal) => {
                 assert_eq!(bare, before, "a refusal changes no buffer");
                 vec![format!("refused={}", refusal.number)]
@@ -127,6 +133,7 @@ fn small_launches() {
         let mut cells = small.cells.clone();
         let mut log = vec![0; log_words(cells.len())];
         let said = cells.len() as u32;
+        let mut steps = [0; 32];
         let found = bare_launch(
             &small.table,
             small.threads,
@@ -134,6 +141,7 @@ fn small_launches() {
             1_000,
             &mut cells,
             &mut log,
+            &mut steps,
         );
         let outcome = found.expect("small launches are well-formed");
         count(&mut tally, verdict_names(outcome.verdict));
@@ -142,10 +150,18 @@ fn small_launches() {
         if passed && met {
             count(&mut tally, vec!["adds that meet".to_string()]);
         }
+        if passed
+            && steps[..small.threads as usize]
+                .windows(2)
+                .any(|two| two[0] != two[1])
+        {
+            count(&mut tally, vec!["unequal counts".to_string()]);
+        }
     }
     expect(&tally, &verdicts(), 500);
     expect(&tally, &kinds(), 60);
     expect(&tally, &["adds that meet".to_string()], 300);
+    expect(&tally, &["unequal counts".to_string()], 800);
 }
 
 /// Kernels with and without adds, so that neither kind of run is rare.

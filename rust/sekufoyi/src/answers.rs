@@ -74,15 +74,13 @@ pub enum Verdict {
     },
 }
 
-/// A verdict with the counts of its run.
+/// A verdict with the counts of its run, but for the steps, which are each thread's own.
 #[derive(Clone, Copy, Debug, PartialEq, Eq, Hash)]
 pub struct Outcome {
     /// How the run ended.
     pub verdict: Verdict,
     /// Rows run.
     pub rows: u32,
-    /// Rows run, counted for each thread that was enabled.
-    pub steps: u32,
     /// Barriers that all threads came to.
     pub barriers: u32,
 }
@@ -169,23 +167,17 @@ impl Verdict {
 
 impl Outcome {
     pub(crate) fn from_words(words: OutcomeWords) -> Self {
-        let [.., rows, steps, barriers] = words;
+        let [.., rows, barriers] = words;
         Self {
             verdict: Verdict::from_words(words),
             rows,
-            steps,
             barriers,
         }
     }
 
     pub(crate) fn words(self) -> OutcomeWords {
         let [verdict, row, thread, other, kind, at] = self.verdict.words();
-        let Self {
-            rows,
-            steps,
-            barriers,
-            ..
-        } = self;
-        [verdict, row, thread, other, kind, at, rows, steps, barriers]
+        let Self { rows, barriers, .. } = self;
+        [verdict, row, thread, other, kind, at, rows, barriers]
     }
 }

@@ -12,6 +12,8 @@ pub use answers::{AccessKind, Outcome, Refusal, Subject, Verdict};
 pub const LENT_CELLS: usize = 1_024;
 /// Words of log that [`check_file`] is lent.
 pub const LENT_LOG: usize = 3_072;
+/// Words of steps that [`bare_launch`] is lent: one for each thread that a group may have.
+pub const LENT_STEPS: usize = 32;
 /// Bytes of output that [`check_file`] needs at least: enough for every report.
 pub const REPORT_ROOM: usize = 17_408;
 
@@ -25,7 +27,8 @@ pub fn check_file(
     written(raw::check_file(file, cells, log, output))
 }
 
-/// Runs a kernel table over the lent cells, which hold the launch's words before and the run's words after.
+/// Runs a kernel table over the lent cells, which hold the launch's words before and the run's words after. `steps` holds after the run
+/// what each thread stepped, and 0 behind the last thread; [`write_report`] wants the first words alone, one for each thread.
 pub fn bare_launch(
     table: &[u8],
     threads: u32,
@@ -33,8 +36,9 @@ pub fn bare_launch(
     limit: u32,
     cells: &mut [u32],
     log: &mut [u32],
+    steps: &mut [u32; LENT_STEPS],
 ) -> Result<Outcome, Refusal> {
-    let answer = raw::bare_launch(table, threads, cell_count, limit, cells, log);
+    let answer = raw::bare_launch(table, threads, cell_count, limit, cells, log, steps);
     if answer.ran {
         Ok(Outcome::from_words(answer.outcome))
     } else {
@@ -42,10 +46,16 @@ pub fn bare_launch(
     }
 }
 
-/// Writes a report to the start of `output` and gives its length. A refusal's report has no cells: they are not looked at.
-pub fn write_report(subject: Subject, cells: &[u32], output: &mut [u8]) -> Result<usize, Refusal> {
+/// Writes a report to the start of `output` and gives its length. A run's report has a line for each of the steps, 1 to 32, and for each of
+/// the cells. A refusal's report has neither: they are not looked at.
+pub fn write_report(
+    subject: Subject,
+    steps: &[u32],
+    cells: &[u32],
+    output: &mut [u8],
+) -> Result<usize, Refusal> {
     written(match subject {
-        Subject::Ran(outcome) => raw::write_report(&outcome.words(), cells, output),
+        Subject::Ran(outcome) => raw::write_report(&outcome.words(), steps, cells, output),
         Subject::Refused(Refusal { number, place }) => raw::write_refusal(number, place, output),
     })
 }

@@ -2,7 +2,10 @@
 #![allow(unsafe_code)]
 
 /// The words of an outcome, as the header orders them.
-pub(crate) type OutcomeWords = [u32; 9];
+pub(crate) type OutcomeWords = [u32; 8];
+
+/// Each thread's steps, and 0 behind the last thread.
+pub(crate) type StepWords = [u32; 32];
 
 /// A refusal's number and place; both 0 where there is none.
 pub(crate) type RefusalWords = [u32; 2];
@@ -30,12 +33,15 @@ extern "C" {
         cells_length: usize,
         log: *mut u32,
         log_length: usize,
+        steps: *mut StepWords,
         outcome: *mut OutcomeWords,
         refusal: *mut RefusalWords,
     ) -> bool;
 
     fn sekufoyi_write_report(
         outcome: *const OutcomeWords,
+        steps: *const u32,
+        steps_length: usize,
         cells: *const u32,
         cells_length: usize,
         output: *mut u8,
@@ -95,10 +101,12 @@ pub(crate) fn bare_launch(
     limit: u32,
     cells: &mut [u32],
     log: &mut [u32],
+    steps: &mut StepWords,
 ) -> BareAnswer {
-    let mut outcome = [UNWRITTEN; 9];
+    let mut outcome = [UNWRITTEN; 8];
     let mut refusal = [UNWRITTEN; 2];
-    // SAFETY: as in `check_file`; the outcome has the nine words and the refusal the two that are asked for. A C bool is a Rust bool.
+    // SAFETY: as in `check_file`; the steps have the 32 words, the outcome the eight and the refusal the two that are asked for. A C bool
+    // is a Rust bool.
     let ran = unsafe {
         sekufoyi_bare_launch(
             table.as_ptr(),
@@ -110,6 +118,7 @@ pub(crate) fn bare_launch(
             cells.len(),
             log.as_mut_ptr(),
             log.len(),
+            steps,
             &mut outcome,
             &mut refusal,
         )
@@ -124,14 +133,17 @@ pub(crate) fn bare_launch(
 /// The length of an outcome's report, or the refusal.
 pub(crate) fn write_report(
     outcome: &OutcomeWords,
+    steps: &[u32],
     cells: &[u32],
     output: &mut [u8],
 ) -> (usize, RefusalWords) {
     let mut refusal = [UNWRITTEN; 2];
-    // SAFETY: as in `check_file`; outcome and cells are only read, and the output, borrowed exclusively, overlaps neither.
+    // SAFETY: as in `check_file`; outcome, steps and cells are only read, and the output, borrowed exclusively, overlaps none of them.
     let length = unsafe {
         sekufoyi_write_report(
             outcome,
+            steps.as_ptr(),
+            steps.len(),
             cells.as_ptr(),
             cells.len(),
             output.as_mut_ptr(),

@@ -1,7 +1,4 @@
 -- `compute::compute_row` leaves the row's values in the lanes that it stores to. Assumes nothing.
-use mathlib.Core.Path.{sym, ap, _∙_}
-use lib.Count.{ones}
-use Rattle.masks.proofs.Bits.{ones-all}
 use borrow.Author.Needs.{needs}
 use Rattle.compute.proofs.Stored.{all-stored, some-stored}
 use Rattle.compute.proofs.compute_row.Statement.{statement}
@@ -12,21 +9,14 @@ returns c =
     let all-enabled = c .before .before .if1 .taken in
     let all = c .before .before .before .all in
     let value-lanes = c .before .before .before .before .value-lanes in
-    let start = c .before .before .before .before .before .before in (
-      sym (ap ones (all-enabled ∙ all .ensures) ∙ ones-all (start .args .n)),
-      start .pre .0,
-      all-stored (value-lanes .ensures) all-enabled (all .ensures) (c .put-all .ensures),
-    )
+    all-stored (value-lanes .ensures) all-enabled (all .ensures) (c .put-all .ensures)
 
 returns-2 : tie.Need-returns-2
 returns-2 c =
-    let some-away = c .before .before .before .before .if1 .left in
-    let all = c .before .before .before .before .before .all in
-    let value-lanes = c .before .before .before .before .before .before .value-lanes in (
-      c .count .ensures .0,
-      c .count .ensures .1,
-      some-stored (value-lanes .ensures) some-away (all .ensures) (c .before .before .bits-of .ensures) (c .before .put .ensures),
-    )
+    let some-away = c .before .before .before .if1 .left in
+    let all = c .before .before .before .before .all in
+    let value-lanes = c .before .before .before .before .before .value-lanes in
+    some-stored (value-lanes .ensures) some-away (all .ensures) (c .before .bits-of .ensures) (c .put .ensures)
 
 pub compute-row-spec : {M : Type 1} → statement M
 compute-row-spec =
@@ -34,5 +24,5 @@ compute-row-spec =
     (tie.spec
     (λ c κs. search needs) (λ c κs. search needs) (λ c κs. search needs)
     returns
-    (λ c κs. search needs) (λ c κs. search needs) (λ c κs. search needs)
+    (λ c κs. search needs) (λ c κs. search needs)
     returns-2)

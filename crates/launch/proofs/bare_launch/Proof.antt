@@ -14,7 +14,7 @@ returns : tie.Need-returns
 returns c =
     let numbers = c .before .before .before .numbers in
     let args = c .before .before .before .before .before .before .before .args in
-    numbers-refuse (args .table .now) (args .threads) (args .count) (args .limit) (args .cells .now) (args .log .now) _
+    numbers-refuse (args .table .now) (args .threads) (args .count) (args .limit) (args .cells .now) (args .log .now) (args .steps .now) _
     (sym (numbers .ensures) ∙ ap refusalOf (c .before .why .given .1))
 
 read-table-requires : tie.Need-read-table-requires
@@ -28,7 +28,7 @@ returns-2 c =
     let accepted = c .before .before .before .before .before .enum-told in
     let numbers = c .before .before .before .before .before .before .before .numbers in
     let args = c .before .before .before .before .before .before .before .before .before .before .before .args in
-    table-refuses (args .table .now) (args .threads) (args .count) (args .limit) (args .cells .now) (args .log .now) _
+    table-refuses (args .table .now) (args .threads) (args .count) (args .limit) (args .cells .now) (args .log .now) (args .steps .now) _
     (sym (numbers .ensures) ∙ ap refusalOf (accepted .given .1)) (sym (read-table .ensures .0) ∙ ap refusalOf (c .before .answer .given .1))
 
 returns-3 : tie.Need-returns-3
@@ -39,19 +39,19 @@ returns-3 c =
     let accepted = c .before .before .before .before .before .before .before .before .enum-told in
     let numbers = c .before .before .before .before .before .before .before .before .before .before .numbers in
     let args = c .before .before .before .before .before .before .before .before .before .before .before .before .before .before .args in
-    state-refuses (args .table .now) (args .threads) (args .count) (args .limit) (args .cells .now) (args .log .now) _
+    state-refuses (args .table .now) (args .threads) (args .count) (args .limit) (args .cells .now) (args .log .now) (args .steps .now) _
     (sym (numbers .ensures) ∙ ap refusalOf (accepted .given .1)) (sym (read-table .ensures .0) ∙ ap refusalOf (checked .given .1))
     (sym (lent .ensures) ∙ ap refusalOf (c .before .why2 .given .1))
 
 run-requires : tie.Need-run-requires
 run-requires c κs =
-    let suited = c .before .before .before .enum-told3 in
-    let lent = c .before .before .before .before .before .lent in
-    let checked = c .before .before .before .before .before .before .enum-told2 in
-    let read-table = c .before .before .before .before .before .before .before .before .before .read-table in
-    let accepted = c .before .before .before .before .before .before .before .before .before .before .enum-told in
-    let numbers = c .before .before .before .before .before .before .before .before .before .before .before .before .numbers in
-    let args = c .before .before .before .before .before .before .before .before .before .before .before .before .before .before .before .before .args in
+    let suited = c .before .before .before .before .enum-told3 in
+    let lent = c .before .before .before .before .before .before .lent in
+    let checked = c .before .before .before .before .before .before .before .enum-told2 in
+    let read-table = c .before .before .before .before .before .before .before .before .before .before .read-table in
+    let accepted = c .before .before .before .before .before .before .before .before .before .before .before .enum-told in
+    let numbers = c .before .before .before .before .before .before .before .before .before .before .before .before .before .numbers in
+    let args = c .before .before .before .before .before .before .before .before .before .before .before .before .before .before .before .before .before .args in
     let table = args .table .now in
     let n : bareNumbers (length table) (args .threads) (args .count) (args .limit) ≡ none = sym (numbers .ensures) ∙ ap refusalOf (accepted .given .1) in
     let f = fine _ (args .threads) (args .count) (args .limit) n in
@@ -68,14 +68,14 @@ run-requires c κs =
 returns-4 : tie.Need-returns-4
 returns-4 c =
     let run = c .before .before .before .before .run in
-    let lent = c .before .before .before .before .before .before .before .before .enum-told3 in
-    let at-lent = c .before .before .before .before .before .before .before .before .before .before in
+    let lent = c .before .before .before .before .before .before .before .before .before .enum-told3 in
+    let at-lent = c .before .before .before .before .before .before .before .before .before .before .before in
     let checked = at-lent .before .enum-told2 in
     let read-table = at-lent .before .before .before .before .read-table in
     let accepted = at-lent .before .before .before .before .before .enum-told in
     let numbers = at-lent .before .before .before .before .before .before .before .numbers in
     let args = at-lent .before .before .before .before .before .before .before .before .before .before .before .args in
-    ran (args .table .now) (args .threads) (args .count) (args .limit) (args .cells .now) (args .log .now) _ _ _
+    ran (args .table .now) (args .threads) (args .count) (args .limit) (args .cells .now) (args .log .now) (args .steps .now) _ _ _ _
     (sym (numbers .ensures) ∙ ap refusalOf (accepted .given .1)) (sym (read-table .ensures .0) ∙ ap refusalOf (checked .given .1))
     (sym (at-lent .lent .ensures) ∙ ap refusalOf (lent .given .1)) (run .ensures)
 

@@ -3,7 +3,6 @@ use borrow.Author.Needs.{needs}
 use mathlib.Core.Path.{_≡_, refl, sym, ap, _∙_, subst}
 use Prim.Native.Nat.{ℕ, _+_, _-_, _^_, _≤_, _<_}
 use native.Mathlib.Omega.{arith}
-use lib.Count.{ones}
 use lib.ListN.{length}
 use Rattle.spec.specs.Op.{Mem, MEM, opOf}
 use Rattle.spec.specs.Table.{Row}
@@ -12,7 +11,7 @@ use Rattle.layout.specs.Memory.{KeptBut, shapeBy}
 use Rattle.layout.specs.Logging.{SameAbove}
 use Rattle.layout.proofs.Reach.{same-more}
 use Rattle.layout.proofs.Turning.{Turning, Turns, turn-start, turn-whole, go-in, go-stop}
-use Rattle.masks.proofs.Bits.{next-bit, left-odd, left-less, ones-all}
+use Rattle.masks.proofs.Bits.{next-bit, left-odd, left-less}
 use Rattle.access.proofs.Accesses.{asks-still, turn-still, keeps-on}
 use Rattle.memory.proofs.access_all.Statement.{statement}
 use Rattle.memory.proofs.access_all.Tie as tie
@@ -77,13 +76,11 @@ returns c =
     let turn = c .before .before .before .before .before .before .before .before .before .before .before .before .before .before .loop in
     let start = c .before .before .before .before .before .before .before .before .before .before .before .before .before .before .before .before .before in
     let args = start .args in
-    let memory = args .cells .now in
-    let gone : turn .t + ones (2 ^ (args .n - turn .t) - 1) ≡ ones (2 ^ args .n - 1) = omega (arith, some-left, ones-all (args .n), ones-all (args .n - turn .t)) in (
-      omega (arith, some-left, start .pre .1 .memory .few),
+    let memory = args .cells .now in (
       λ y x o ed ea s e q M.
           go-stop (accessTurn (shapeBy (args .n) memory) y x) (args .n) s (turn .t) (2 ^ (args .n - turn .t) - 1) (turn .regs) (turn .cells) (turn .log)
-          (turn .inv .3 y x o ed ea s e q M) (2 ^ args .n - 1) (turn .t) (access-one .result) _ (access-one .last .0) (access-one .last .1 .0)
-          (access-one .last .1 .1 .0) e gone some-left (left-odd (args .n) (turn .t) some-left)
+          (turn .inv .3 y x o ed ea s e q M) (access-one .result) _ (access-one .last .0) (access-one .last .1 .0)
+          (access-one .last .1 .1 .0) some-left (left-odd (args .n) (turn .t) some-left)
           (turn-still (args .n) (turn .t) y x memory _ _ _ _ _ _ _ (turn .inv .1) (access-one .ensures .0 (args .n) y x o some-left ed ea)) (c .before .v .given .1),
       keeps-on (args .d) (args .n) (turn .t) (args .regs .now) (turn .regs) (access-one .last .0) some-left (turn .inv .5) (access-one .ensures .1),
       same-more (turn .reach) _ (length memory) (length (turn .cells)) (args .log .now) (turn .log) (access-one .last .1 .1 .0) (turn .inv .6) (turn .inv .1)
@@ -134,10 +131,9 @@ returns-2 c =
     let args = start .args in
     let memory = args .cells .now in
     let none-left : 2 ^ (args .n - turn .t) - 1 ≡ 0 = ap (λ (k : ℕ). 2 ^ k - 1) (let z : args .n - turn .t ≡ 0 = omega (arith, c .loop-test .left) in z) in (
-      start .pre .1 .memory .few,
       λ y x o ed ea s e q M.
           turn-whole (accessTurn (shapeBy (args .n) memory) y x) (args .n) s (turn .t) (2 ^ (args .n - turn .t) - 1) (turn .regs) (turn .cells) (turn .log)
-          (turn .inv .3 y x o ed ea s e q M) (2 ^ args .n - 1) (args .n) e (sym (ones-all (args .n))) none-left,
+          (turn .inv .3 y x o ed ea s e q M) none-left,
       turn .inv .5,
       turn .inv .6,
     )

@@ -3,9 +3,7 @@ use borrow.Author.Needs.{needs}
 use mathlib.Core.Path.{_≡_, refl, sym, ap, _∙_, subst, subst₂}
 use mathlib.Core.Logic.{⊎-elim}
 use Prim.Native.Nat.{ℕ, _+_, _-_, _^_, _≤_, _<_}
-use native.Mathlib.Nat.{le-refl, le-trans}
 use native.Mathlib.Omega.{arith}
-use lib.Count.{ones}
 use lib.ListN.{length}
 use Rattle.spec.specs.Op.{Mem, MEM, opOf}
 use Rattle.spec.specs.Table.{Row}
@@ -14,7 +12,7 @@ use Rattle.layout.specs.Memory.{KeptBut, shapeBy}
 use Rattle.layout.specs.Logging.{SameAbove}
 use Rattle.layout.proofs.Reach.{same-more}
 use Rattle.layout.proofs.Turning.{Turns, turn-start, turn-whole, go-in, go-out, go-stop}
-use Rattle.masks.proofs.Bits.{next-bit, left-some, left-half, ones-half}
+use Rattle.masks.proofs.Bits.{next-bit, left-some, left-half}
 use Rattle.access.proofs.Accesses.{asks-still, turn-still, keeps-on}
 use Rattle.memory.proofs.access_enabled.Statement.{statement}
 use Rattle.memory.proofs.access_enabled.Tie as tie
@@ -22,7 +20,7 @@ use Rattle.memory.proofs.access_enabled.Tie as tie
 -- m is what is left of the mask when the threads below t are gone.
 abbrev Inv-loop : tie.InvT-loop
 Inv-loop regs₀ cells₀ log₀ n mask op d a m₀ t₀ bit₀ reach₀ regs cells log m t bit reach =
-    (t ≤ n) × (m < 2 ^ (n - t)) × (ones m ≤ ones mask) × (length cells ≡ length cells₀) × (length log ≡ length log₀)
+    (t ≤ n) × (m < 2 ^ (n - t)) × (length cells ≡ length cells₀) × (length log ≡ length log₀)
     × ((y : Mem) (x : Row) → opOf op ≡ MEM y → x .d ≡ d → x .a ≡ a
     → Turns (accessTurn (shapeBy n cells₀) y x) n mask regs₀ cells₀ log₀ t m regs cells log)
     × (t < 32 → bit ≡ 2 ^ t) × KeptBut d n regs₀ regs × SameAbove reach (length cells₀) log₀ log
@@ -37,7 +35,6 @@ loop-holds c =
     let memory = args .cells .now in (
       omega arith,
       subst (λ (k : ℕ). args .mask < 2 ^ k) (let z : args .n ≡ args .n - 0 = omega arith in z) (start .pre .0),
-      le-refl (ones (args .mask)),
       refl,
       refl,
       λ y x o ed ea s e l M.
@@ -62,48 +59,40 @@ access-one-requires c κs =
     let pre = start .pre .1 in
     let some-left = left-some (start .args .n) (turn .t) (turn .m) (turn .inv .1) (c .before .before .before .before .before .before .loop-test .taken) in (
       omega (arith, some-left, pre .1 .memory .few),
-      asks-still _ _ _ _ _ _ _ (pre .0) (turn .inv .3) (turn .inv .4),
-      turn .inv .6 (omega (arith, some-left, pre .1 .memory .few)),
+      asks-still _ _ _ _ _ _ _ (pre .0) (turn .inv .2) (turn .inv .3),
+      turn .inv .5 (omega (arith, some-left, pre .1 .memory .few)),
       c .before .before .before .cell-number .ensures,
     )
 
-sub-steps : tie.Need-sub-t27 Inv-loop μ-loop
-sub-steps c =
-    let turn = c .before .before .before .before .before .before .before .before .before .before .before .before .before .before .before .before .before .loop in
-    omega (arith, c .count2 .ensures .0, c .before .count .ensures .0, turn .inv .2)
-
 same-length : tie.Need-same-length Inv-loop μ-loop
 same-length c =
-    let access-one = c .before .before .before .before .before .before .before .before .before .access-one in
-    let turn = c .before .before .before .before .before .before .before .before .before .before .before .before .before .before .before .before .before .loop in
-    access-one .kept .1 .0 ∙ turn .inv .3
+    let access-one = c .before .before .before .before .before .before .before .access-one in
+    let turn = c .before .before .before .before .before .before .before .before .before .before .before .before .before .before .before .loop in
+    access-one .kept .1 .0 ∙ turn .inv .2
 
 same-length-2 : tie.Need-same-length-2 Inv-loop μ-loop
 same-length-2 c =
-    let access-one = c .before .before .before .before .before .before .before .before .before .access-one in
-    let turn = c .before .before .before .before .before .before .before .before .before .before .before .before .before .before .before .before .before .loop in
-    access-one .kept .1 .1 .0 ∙ turn .inv .4
+    let access-one = c .before .before .before .before .before .before .before .access-one in
+    let turn = c .before .before .before .before .before .before .before .before .before .before .before .before .before .before .before .loop in
+    access-one .kept .1 .1 .0 ∙ turn .inv .3
 
 returns : tie.Need-returns Inv-loop μ-loop
 returns c =
-    let gone = c .count2 .ensures .0 in
-    let all = c .before .count .ensures in
-    let access-one = c .before .before .before .before .before .before .before .before .before .access-one in
-    let enabled = c .before .before .before .before .before .before .before .before .before .before .before .before .before .before .before .if1 .taken in
-    let at-test = c .before .before .before .before .before .before .before .before .before .before .before .before .before .before .before .before in
+    let access-one = c .before .before .before .before .before .before .before .access-one in
+    let enabled = c .before .before .before .before .before .before .before .before .before .before .before .before .before .if1 .taken in
+    let at-test = c .before .before .before .before .before .before .before .before .before .before .before .before .before .before in
     let turn = at-test .before .loop in
     let start = at-test .before .before .before .before in
     let args = start .args in
     let memory = args .cells .now in
     let some-left = left-some (args .n) (turn .t) (turn .m) (turn .inv .1) (at-test .loop-test .taken) in (
-      omega (arith, all .1),
       λ y x o ed ea s e q M.
           go-stop (accessTurn (shapeBy (args .n) memory) y x) (args .n) s (turn .t) (turn .m) (turn .regs) (turn .cells) (turn .log)
-          (turn .inv .5 y x o ed ea s e q M) (args .mask) _ (access-one .result) _ (access-one .last .0) (access-one .last .1 .0)
-          (access-one .last .1 .1 .0) e (omega (arith, gone, all .0, turn .inv .2)) some-left enabled
-          (turn-still (args .n) (turn .t) y x memory _ _ _ _ _ _ _ (turn .inv .3) (access-one .ensures .0 (args .n) y x o some-left ed ea)) (c .before .before .before .v .given .1),
-      keeps-on (args .d) (args .n) (turn .t) (args .regs .now) (turn .regs) (access-one .last .0) some-left (turn .inv .7) (access-one .ensures .1),
-      same-more (turn .reach) _ (length memory) (length (turn .cells)) (args .log .now) (turn .log) (access-one .last .1 .1 .0) (turn .inv .8) (turn .inv .3)
+          (turn .inv .4 y x o ed ea s e q M) (access-one .result) _ (access-one .last .0) (access-one .last .1 .0)
+          (access-one .last .1 .1 .0) some-left enabled
+          (turn-still (args .n) (turn .t) y x memory _ _ _ _ _ _ _ (turn .inv .2) (access-one .ensures .0 (args .n) y x o some-left ed ea)) (c .before .v .given .1),
+      keeps-on (args .d) (args .n) (turn .t) (args .regs .now) (turn .regs) (access-one .last .0) some-left (turn .inv .6) (access-one .ensures .1),
+      same-more (turn .reach) _ (length memory) (length (turn .cells)) (args .log .now) (turn .log) (access-one .last .1 .1 .0) (turn .inv .7) (turn .inv .2)
           (access-one .ensures .2),
     )
 
@@ -124,58 +113,54 @@ loop-again c =
     let memory = args .cells .now in
     let some-left = left-some (args .n) (turn .t) (turn .m) (turn .inv .1) (c .before .loop-test .taken) in
     let fewer = left-half (args .n) (turn .t) (turn .m) some-left (turn .inv .1) in
-    let ones-left = le-trans (ones-half (turn .m)) (turn .inv .2) in
     ⊎-elim
     (λ w. (
       omega (arith, some-left),
       fewer,
-      ones-left,
-      ap length (w .14) ∙ w .6 .kept .1 .0 ∙ turn .inv .3,
-      ap length (w .15) ∙ w .6 .kept .1 .1 .0 ∙ turn .inv .4,
+      ap length (w .14) ∙ w .6 .kept .1 .0 ∙ turn .inv .2,
+      ap length (w .15) ∙ w .6 .kept .1 .1 .0 ∙ turn .inv .3,
       λ y x o ed ea s e q M.
           go-in (accessTurn (shapeBy (args .n) memory) y x) (args .n) s (turn .t) (turn .m) (turn .regs) (turn .cells) (turn .log)
-          (turn .inv .5 y x o ed ea s e q M) (w .6 .result) (w .6 .last .0) (w .6 .last .1 .0) (w .6 .last .1 .1 .0) _ _ _ some-left (w .0 .taken)
-          (turn-still (args .n) (turn .t) y x memory _ _ _ _ _ _ _ (turn .inv .3) (w .6 .ensures .0 (args .n) y x o some-left ed ea))
+          (turn .inv .4 y x o ed ea s e q M) (w .6 .result) (w .6 .last .0) (w .6 .last .1 .0) (w .6 .last .1 .1 .0) _ _ _ some-left (w .0 .taken)
+          (turn-still (args .n) (turn .t) y x memory _ _ _ _ _ _ _ (turn .inv .2) (w .6 .ensures .0 (args .n) y x o some-left ed ea))
           (w .12 .given .1) (w .13) (w .14) (w .15),
-      next-bit (turn .t) (turn .bit) (turn .inv .6),
-      keeps-on (args .d) (args .n) (turn .t) (args .regs .now) (turn .regs) (c .if1 .regs) some-left (turn .inv .7)
+      next-bit (turn .t) (turn .bit) (turn .inv .5),
+      keeps-on (args .d) (args .n) (turn .t) (args .regs .now) (turn .regs) (c .if1 .regs) some-left (turn .inv .6)
           (subst (KeptBut (args .d) (turn .t + 1) (turn .regs)) (sym (w .13)) (w .6 .ensures .1)),
       subst₂ (λ h l. SameAbove h (length memory) (args .log .now) l) (sym (w .16)) (sym (w .15))
-          (same-more (turn .reach) _ (length memory) (length (turn .cells)) (args .log .now) (turn .log) (w .6 .last .1 .1 .0) (turn .inv .8) (turn .inv .3)
+          (same-more (turn .reach) _ (length memory) (length (turn .cells)) (args .log .now) (turn .log) (w .6 .last .1 .1 .0) (turn .inv .7) (turn .inv .2)
           (w .6 .ensures .2)),
     ))
     (λ w. (
       omega (arith, some-left),
       fewer,
-      ones-left,
-      ap length (w .2) ∙ turn .inv .3,
-      ap length (w .3) ∙ turn .inv .4,
+      ap length (w .2) ∙ turn .inv .2,
+      ap length (w .3) ∙ turn .inv .3,
       λ y x o ed ea s e q M.
           go-out (accessTurn (shapeBy (args .n) memory) y x) (args .n) s (turn .t) (turn .m) (turn .regs) (turn .cells) (turn .log)
-          (turn .inv .5 y x o ed ea s e q M) _ _ _ some-left (w .0 .left) (w .1) (w .2) (w .3),
-      next-bit (turn .t) (turn .bit) (turn .inv .6),
-      subst (KeptBut (args .d) (args .n) (args .regs .now)) (sym (w .1)) (turn .inv .7),
-      subst₂ (λ h l. SameAbove h (length memory) (args .log .now) l) (sym (w .4)) (sym (w .3)) (turn .inv .8),
+          (turn .inv .4 y x o ed ea s e q M) _ _ _ some-left (w .0 .left) (w .1) (w .2) (w .3),
+      next-bit (turn .t) (turn .bit) (turn .inv .5),
+      subst (KeptBut (args .d) (args .n) (args .regs .now)) (sym (w .1)) (turn .inv .6),
+      subst₂ (λ h l. SameAbove h (length memory) (args .log .now) l) (sym (w .4)) (sym (w .3)) (turn .inv .7),
     ))
     (c .if1 .came)
 
 same-length-3 : tie.Need-same-length-3 Inv-loop μ-loop
-same-length-3 c = c .before .before .loop .inv .3
+same-length-3 c = c .before .loop .inv .2
 
 same-length-4 : tie.Need-same-length-4 Inv-loop μ-loop
-same-length-4 c = c .before .before .loop .inv .4
+same-length-4 c = c .before .loop .inv .3
 
 returns-2 : tie.Need-returns-2 Inv-loop μ-loop
 returns-2 c =
-    let turn = c .before .before .loop in
-    let args = c .before .before .before .before .before .args in
+    let turn = c .before .loop in
+    let args = c .before .before .before .before .args in
     let memory = args .cells .now in (
-      c .count3 .ensures .1,
       λ y x o ed ea s e q M.
           turn-whole (accessTurn (shapeBy (args .n) memory) y x) (args .n) s (turn .t) (turn .m) (turn .regs) (turn .cells) (turn .log)
-          (turn .inv .5 y x o ed ea s e q M) (args .mask) (c .count3 .result) e (c .count3 .ensures .0) (c .before .loop-test .left),
+          (turn .inv .4 y x o ed ea s e q M) (c .loop-test .left),
+      turn .inv .6,
       turn .inv .7,
-      turn .inv .8,
     )
 
 pub access-enabled-spec : {M : Type 1} → statement M
@@ -187,15 +172,13 @@ access-enabled-spec =
     loop-holds
     cell-number-requires
     access-one-requires
-    (λ c. search needs) (λ c. search needs) (λ c κs. search needs) (λ c κs. search needs)
-    sub-steps
+    (λ c. search needs) (λ c. search needs)
     same-length
     same-length-2
     returns
     next-thread
     loop-less
     loop-again
-    (λ c κs. search needs)
     same-length-3
     same-length-4
     returns-2)

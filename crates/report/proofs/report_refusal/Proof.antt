@@ -5,7 +5,7 @@ use native.Mathlib.Omega.{arith}
 use lib.ListN.{length}
 use Rattle.report.specs.Subjects.{refused}
 use Rattle.report.proofs.Parts.{refusal-part, nothing}
-use Rattle.report.proofs.Entry.{no-cells-asked, too-long, fitting, turned-back, taken, fits}
+use Rattle.report.proofs.Entry.{no-lines-asked, too-long, fitting, turned-back, taken, fits}
 use Rattle.reportlines.proofs.Writing.{next, finished}
 use borrow.Author.Needs.{needs}
 use Rattle.report.proofs.report_refusal.Statement.{statement}
@@ -17,8 +17,9 @@ returns c =
     let what = refused (args .number) (args .place) in
     let size = c .before .lines-length .ensures in
     let needed = size .0 ∙ ap length (refusal-part (args .number) (args .place) _ (c .before .before .refusal-values .ensures)) in
-    turned-back what [] (args .out .now) _ (too-long what [] _ _ (no-cells-asked _ _ []) needed (c .if1 .taken))
-    (fits what [] _ needed (omega (arith, size .1)))
+    let out = args .out .now in
+    turned-back what [] [] out _ (too-long what [] [] out _ (no-lines-asked _ _ [] []) needed (c .if1 .taken))
+    (fits what [] [] out _ needed (omega (arith, size .1)))
 
 returns-2 : tie.Need-returns-2
 returns-2 c =
@@ -33,8 +34,8 @@ returns-2 c =
     let part = refusal-part (args .number) (args .place) _ (refusal-values .ensures) in
     let needed = size .0 ∙ ap length part in
     let written = finished _ (next _ _ (nothing out) (omega (arith, size .0, test .left)) (wrote .ensures .0) (wrote .ensures .1)) part in
-    taken what [] out _ _ (fitting what [] _ _ (no-cells-asked _ _ []) needed (omega (arith, test .left)))
-    (written .0) (written .1) (fits what [] _ needed (omega (arith, size .1)))
+    taken what [] [] out _ _ (fitting what [] [] out _ (no-lines-asked _ _ [] []) needed (omega (arith, test .left)))
+    (written .0) (written .1) (fits what [] [] out _ needed (omega (arith, size .1)))
 
 pub report-refusal-spec : {M : Type 1} → statement M
 report-refusal-spec =

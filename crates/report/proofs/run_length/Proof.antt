@@ -1,4 +1,4 @@
--- `report::run_length` meets its contract. The three parts are as long as the report. Assumes nothing.
+-- `report::run_length` meets its contract. The five parts are as long as the report. Assumes nothing.
 use mathlib.Core.Path.{_≡_, ap₂, _∙_}
 use Prim.Native.Nat.{_+_}
 use native.Mathlib.Omega.{arith}
@@ -11,14 +11,17 @@ use Rattle.report.proofs.run_length.Tie as tie
 returns : tie.Need-returns
 unfolding text
 returns c =
-    let each-length = c .before .each-length in
-    let lines-length = c .before .before .before .lines-length in
-    let run-values = c .before .before .before .before .run-values in
-    let start = c .before .before .before .before .before .before in
-    let args = start .args in
-    let last = c .lines-length2 .ensures in (
-      ap₂ _+_ (ap₂ _+_ (lines-length .ensures .0) (each-length .ensures .0)) (last .0) ∙ run-size (args .outcome) (args .cells .now) _ (run-values .ensures),
-      omega (arith, start .pre, lines-length .ensures .1, each-length .ensures .1, last .1),
+    let last = c .lines-length3 .ensures in
+    let cell = c .before .each-length2 .ensures in
+    let barriers = c .before .before .before .lines-length2 .ensures in
+    let step = c .before .before .before .before .each-length .ensures in
+    let head = c .before .before .before .before .before .before .lines-length .ensures in
+    let run-values = c .before .before .before .before .before .before .before .run-values in
+    let start = c .before .before .before .before .before .before .before .before .before .before in
+    let args = start .args in (
+      ap₂ _+_ (ap₂ _+_ (ap₂ _+_ (ap₂ _+_ (head .0) (step .0)) (barriers .0)) (cell .0)) (last .0)
+          ∙ run-size (args .outcome) (args .steps .now) (args .cells .now) _ (run-values .ensures),
+      omega (arith, start .pre, head .1, step .1, barriers .1, cell .1, last .1),
     )
 
 pub run-length-spec : {M : Type 1} → statement M
@@ -26,5 +29,6 @@ run-length-spec =
     tie.close
     (tie.spec
     (λ c κs. search needs) (λ c κs. search needs) (λ c. search needs) (λ c κs. search needs) (λ c. search needs)
+    (λ c κs. search needs) (λ c. search needs) (λ c. search needs) (λ c κs. search needs) (λ c. search needs)
     (λ c κs. search needs) (λ c. search needs)
     returns)

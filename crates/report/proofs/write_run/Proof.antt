@@ -1,64 +1,92 @@
--- `report::write_run` meets its contract. The head, the cells and the last line stand one behind the other. Assumes nothing.
-use mathlib.Core.Path.{_≡_}
-use mathlib.Core.List.{_++_}
+-- `report::write_run` meets its contract. The head, the steps, the barriers, the cells and the last line stand one behind the other. Assumes nothing.
 use Prim.Native.Nat.{_+_, _≤_}
 use native.Mathlib.Omega.{arith}
-use lib.ListN.{length, length-append}
+use lib.ListN.{length}
 use Rattle.spec.specs.Text.{text}
 use Rattle.reportlines.proofs.Writing.{Stands, next, same-size, finished}
-use Rattle.report.proofs.Parts.{head, cellsPart, last, run-parts, run-size, nothing}
+use Rattle.report.proofs.Parts.{head, stepsPart, barriersPart, cellsPart, last, toSteps, toBarriers, toCells}
+use Rattle.report.proofs.Parts.{to-steps, to-barriers, to-cells, run-parts, run-size, nothing}
 use borrow.Author.Needs.{needs}
 use Rattle.report.proofs.write_run.Statement.{statement}
 use Rattle.report.proofs.write_run.Tie as tie
 
--- There is room for the three parts.
+-- From behind each part back to where it was due.
+abbrev start : tie.After-run-values → tie.Start
+start c = c .before .before .before .before
+
+abbrev head-due : tie.After-slice-known2 → tie.After-run-values
+head-due c = c .before .before .before .before
+
+abbrev steps-due : tie.After-slice-known3 → tie.After-slice-known2
+steps-due c = c .before .before .before .before .before
+
+abbrev barriers-due : tie.After-slice-known4 → tie.After-slice-known3
+barriers-due c = c .before .before .before .before
+
+abbrev cells-due : tie.After-slice-known5 → tie.After-slice-known4
+cells-due c = c .before .before .before .before .before
+
+-- There is room for the five parts.
 room : (c : tie.After-run-values)
-    → let start = c .before .before .before in
-    let values = c .run-values .result in
-    let args = start .args in
-    length (head values) + length (cellsPart (args .cells .now)) + length (last values) ≤ length (args .out .now)
+    → let values = c .run-values .result in
+    let args = start c .args in
+    length (head values) + length (stepsPart (args .steps .now)) + length (barriersPart values) + length (cellsPart (args .cells .now)) + length (last values)
+    ≤ length (args .out .now)
 room c =
-    let start = c .before .before .before in
-    let args = start .args in
-    omega (arith, start .pre, run-size (args .outcome) (args .cells .now) _ (c .run-values .ensures))
+    let args = start c .args in
+    omega (arith, start c .pre, run-size (args .outcome) (args .steps .now) (args .cells .now) _ (c .run-values .ensures))
 
 -- The head has been written.
 headed : (c : tie.After-slice-known2)
     → let lines-at = c .before .before .lines-at in
-    let run-values = c .before .before .before .before .run-values in
-    let start = c .before .before .before .before .before .before .before in
-    Stands (start .args .out .now) (lines-at .last .1 .1 .1 .0) (head (run-values .result)) (lines-at .result)
+    let at-room = head-due c in
+    Stands (start at-room .args .out .now) (lines-at .last .1 .1 .1 .0) (head (at-room .run-values .result)) (lines-at .result)
 headed c =
     let lines-at = c .before .before .lines-at in
-    let at-room = c .before .before .before .before in
-    let out = c .before .before .before .before .before .before .before .args .out .now in
-    next (head (at-room .run-values .result)) _ (nothing out) (omega (arith, room at-room)) (lines-at .ensures .0) (lines-at .ensures .1)
+    let at-room = head-due c in
+    next (head (at-room .run-values .result)) _ (nothing (start at-room .args .out .now)) (omega (arith, room at-room)) (lines-at .ensures .0) (lines-at .ensures .1)
 
--- The cells stand behind it.
-celled : (c : tie.After-slice-known3)
+-- The steps stand behind it.
+stepped : (c : tie.After-slice-known3)
     → let each-at = c .before .before .each-at in
-    let run-values = c .before .before .before .before .before .before .before .before .before .run-values in
-    let args = c .before .before .before .before .before .before .before .before .before .before .before .before .args in
-    Stands (args .out .now) (each-at .last .1 .1 .0) (head (run-values .result) ++ cellsPart (args .cells .now)) (each-at .result)
+    let at-room = head-due (steps-due c) in
+    let args = start at-room .args in
+    Stands (args .out .now) (each-at .last .1 .1 .0) (toSteps (at-room .run-values .result) (args .steps .now)) (each-at .result)
+unfolding text
+stepped c =
+    let each-at = c .before .before .each-at in
+    let at-room = head-due (steps-due c) in
+    let front = headed (steps-due c) in
+    next (stepsPart (start at-room .args .steps .now)) _ front (omega (arith, room at-room, front .ended)) (each-at .ensures .0) (each-at .ensures .1)
+
+-- The barriers stand behind them.
+barred : (c : tie.After-slice-known4)
+    → let lines-at = c .before .before .lines-at2 in
+    let at-room = head-due (steps-due (barriers-due c)) in
+    let args = start at-room .args in
+    Stands (args .out .now) (lines-at .last .1 .1 .1 .0) (toBarriers (at-room .run-values .result) (args .steps .now)) (lines-at .result)
+barred c =
+    let lines-at = c .before .before .lines-at2 in
+    let at-room = head-due (steps-due (barriers-due c)) in
+    let values = at-room .run-values .result in
+    let front = stepped (barriers-due c) in
+    next (barriersPart values) _ front (omega (arith, room at-room, front .ended, to-steps values (start at-room .args .steps .now)))
+    (lines-at .ensures .0) (lines-at .ensures .1)
+
+-- The cells stand behind them.
+celled : (c : tie.After-slice-known5)
+    → let each-at = c .before .before .each-at2 in
+    let at-room = head-due (steps-due (barriers-due (cells-due c))) in
+    let args = start at-room .args in
+    Stands (args .out .now) (each-at .last .1 .1 .0) (toCells (at-room .run-values .result) (args .steps .now) (args .cells .now)) (each-at .result)
 unfolding text
 celled c =
-    let each-at = c .before .before .each-at in
-    let at-headed = c .before .before .before .before .before in
-    let at-room = c .before .before .before .before .before .before .before .before .before in
-    let cells = at-room .before .before .before .args .cells .now in
-    let front = headed at-headed in
-    next (cellsPart cells) _ front (omega (arith, room at-room, front .ended)) (each-at .ensures .0) (each-at .ensures .1)
-
-both : (c : tie.After-slice-known3)
-    → let run-values = c .before .before .before .before .before .before .before .before .before .run-values in
-    let start = c .before .before .before .before .before .before .before .before .before .before .before .before in
-    let front = head (run-values .result) in
-    let cells = cellsPart (start .args .cells .now) in
-    length (front ++ cells) ≡ length front + length cells
-both c =
-    let run-values = c .before .before .before .before .before .before .before .before .before .run-values in
-    let start = c .before .before .before .before .before .before .before .before .before .before .before .before in
-    length-append (head (run-values .result)) (cellsPart (start .args .cells .now))
+    let each-at = c .before .before .each-at2 in
+    let at-room = head-due (steps-due (barriers-due (cells-due c))) in
+    let args = start at-room .args in
+    let front = barred (cells-due c) in
+    next (cellsPart (args .cells .now)) _ front (omega (arith, room at-room, front .ended, to-barriers (at-room .run-values .result) (args .steps .now)))
+    (each-at .ensures .0) (each-at .ensures .1)
 
 lines-at-requires : tie.Need-lines-at-requires
 lines-at-requires c κs = (search needs, omega (arith, room (c .before)))
@@ -66,26 +94,44 @@ lines-at-requires c κs = (search needs, omega (arith, room (c .before)))
 each-at-requires : tie.Need-each-at-requires
 unfolding text
 each-at-requires c κs =
-    let at-room = c .before .before .before .before .before .before in
-    omega (arith, room at-room, same-size (headed (c .before .before)), headed (c .before .before) .ended)
+    let front = headed (c .before .before) in
+    omega (arith, room (head-due (c .before .before)), same-size front, front .ended)
 
 lines-at-requires-2 : tie.Need-lines-at-requires-2
 lines-at-requires-2 c κs =
-    let at-celled = c .before in
-    let at-room = c .before .before .before .before .before .before .before .before .before .before in
-    (search needs, omega (arith, room at-room, same-size (celled at-celled), celled at-celled .ended, both at-celled))
+    let front = stepped (c .before) in
+    let at-room = head-due (steps-due (c .before)) in
+    let size = to-steps (at-room .run-values .result) (start at-room .args .steps .now) in
+    (search needs, omega (arith, room at-room, same-size front, front .ended, size))
+
+each-at-requires-2 : tie.Need-each-at-requires-2
+unfolding text
+each-at-requires-2 c κs =
+    let front = barred (c .before .before) in
+    let at-room = head-due (steps-due (barriers-due (c .before .before))) in
+    let size = to-barriers (at-room .run-values .result) (start at-room .args .steps .now) in
+    omega (arith, room at-room, same-size front, front .ended, size)
+
+lines-at-requires-3 : tie.Need-lines-at-requires-3
+lines-at-requires-3 c κs =
+    let front = celled (c .before) in
+    let at-room = head-due (steps-due (barriers-due (cells-due (c .before)))) in
+    let args = start at-room .args in
+    let size = to-cells (at-room .run-values .result) (args .steps .now) (args .cells .now) in
+    (search needs, omega (arith, room at-room, same-size front, front .ended, size))
 
 returns : tie.Need-returns
 unfolding text
 returns c =
-    let lines-at2 = c .before .before .lines-at2 in
+    let lines-at = c .before .before .lines-at3 in
     let at-celled = c .before .before .before .before in
-    let at-room = at-celled .before .before .before .before .before .before .before .before .before in
-    let run-values = at-room .run-values in
-    let args = at-room .before .before .before .args in
-    let written = next (last (run-values .result)) _ (celled at-celled) (omega (arith, room at-room, celled at-celled .ended, both at-celled))
-    (lines-at2 .ensures .0) (lines-at2 .ensures .1) in
-    finished _ written (run-parts (args .outcome) (args .cells .now) (run-values .result) (run-values .ensures))
+    let front = celled at-celled in
+    let at-room = head-due (steps-due (barriers-due (cells-due at-celled))) in
+    let values = at-room .run-values .result in
+    let args = start at-room .args in
+    let written = next (last values) _ front (omega (arith, room at-room, front .ended, to-cells values (args .steps .now) (args .cells .now)))
+    (lines-at .ensures .0) (lines-at .ensures .1) in
+    finished _ written (run-parts (args .outcome) (args .steps .now) (args .cells .now) values (at-room .run-values .ensures))
 
 pub write-run-spec : {M : Type 1} → statement M
 write-run-spec =
@@ -96,5 +142,8 @@ write-run-spec =
     (λ c. search needs)
     each-at-requires
     lines-at-requires-2
+    (λ c. search needs)
+    each-at-requires-2
+    lines-at-requires-3
     (λ c. search needs)
     returns)

@@ -3,7 +3,7 @@ use mathlib.Core.Path.{ap}
 use mathlib.Core.List.{[], _∷_, _++_}
 use Rattle.spec.specs.declared.Details.{Details}
 use Rattle.spec.specs.declared.Value.the-variants as value
-use Rattle.spec.specs.Report.{headWith}
+use Rattle.spec.specs.Report.{headWith, barriersLine}
 use Rattle.reportvalues.specs.Values.{valuesOf}
 use Rattle.reportvalues.proofs.Lines.{listed}
 use borrow.Author.Needs.{needs}
@@ -15,7 +15,9 @@ details-requires c κs = search needs
 
 returns : tie.Need-returns
 unfolding listed
-returns c = ap (λ (d : Details). valuesOf (headWith (c .before .args .outcome) d) ++ (value.Hyphen ∷ value.Hyphen ∷ value.Report ∷ [])) (c .details .ensures)
+returns c =
+    let o = c .before .args .outcome in
+    ap (λ (d : Details). valuesOf (headWith o d ++ (barriersLine o ∷ [])) ++ (value.Hyphen ∷ value.Hyphen ∷ value.Report ∷ [])) (c .details .ensures)
 
 pub run-values-spec : {M : Type 1} → statement M
 run-values-spec = tie.close (tie.spec details-requires returns)

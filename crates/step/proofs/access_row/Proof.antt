@@ -7,6 +7,7 @@ use Rattle.layout.specs.Logging.{EmptyAbove}
 use Rattle.layout.specs.Represents.{reached}
 use Rattle.layout.proofs.Reach.{empty-more, reach-more}
 use Rattle.step.proofs.Tables.{mem-op}
+use Rattle.stepcounts.proofs.NextCounts.{accessed-on}
 use Rattle.step.proofs.Plain.{access-after}
 use borrow.Author.Needs.{needs}
 use Rattle.step.proofs.access_row.Statement.{statement}
@@ -22,20 +23,20 @@ returns c =
     let m = mem-op (args .op) (pre .known) (pre .small) in
     let state = reached (args .s) (access-row .result .reach) in (
       (
-        counts-accessed (args .s) (access-row .result .reach) (c .after-access .result) (access-row .result .access) (access-row .result .steps) (c .after-access .ensures)
-            (access-row .ensures .0),
+        counts-accessed (args .s) (access-row .result .reach) (c .after-access .result) (access-row .result .access) (c .after-access .ensures),
         λ saved openers T x z q ed ea R.
             access-after (args .n) z state (args .regs .now) cells (args .log .now) saved openers
             (reach-more (args .n) z (args .s) (access-row .result .reach) (args .regs .now) cells (args .log .now) saved openers R) T x
             (shapeBy (args .n) cells) (m .0)
-            (access-row .result .steps) (access-row .result .access) (c .after-access .result) (access-row .last .0) (access-row .last .1 .0)
+            (access-row .result .access) (c .after-access .result) (access-row .last .0) (access-row .last .1 .0)
             (access-row .last .1 .1 .0)
-            (q ∙ m .1) (access-row .ensures .1 (m .0) x (m .1) ed ea z (R .enabled-is) (R .enabled-size) (R .memory))
+            (q ∙ m .1) (access-row .ensures .0 (m .0) x (m .1) ed ea z (R .enabled-is) (R .enabled-size) (R .memory))
             (subst (λ k. EmptyAbove (state .reach) k (access-row .last .1 .1 .0)) (sym (access-row .kept .1 .0))
-            (empty-more (length cells) (args .log .now) (args .s .reach) (access-row .result .reach) (access-row .last .1 .1 .0) (R .reach-is) (access-row .ensures .3)))
+            (empty-more (length cells) (args .log .now) (args .s .reach) (access-row .result .reach) (access-row .last .1 .1 .0) (R .reach-is) (access-row .ensures .2)))
             (c .after-access .ensures),
       ),
-      access-row .ensures .2,
+      access-row .ensures .1,
+      accessed-on (args .s) (access-row .result .reach) (access-row .result .access) (c .after-access .result) (c .after-access .ensures),
     )
 
 pub access-row-spec : {M : Type 1} → statement M

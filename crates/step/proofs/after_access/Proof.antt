@@ -1,7 +1,7 @@
 -- `step::after_access` meets its contract. Assumes nothing.
 use mathlib.Core.Path.{sym, ap, _∙_}
 use Rattle.layout.specs.declared.Next.the-variants as next
-use Rattle.layout.specs.Represents.{movedOn, heldBack, reached, accessed}
+use Rattle.layout.specs.Represents.{movedOn, reached, accessed}
 use borrow.Author.Needs.{needs}
 use Rattle.step.proofs.after_access.Statement.{statement}
 use Rattle.step.proofs.after_access.Tie as tie
@@ -9,24 +9,21 @@ use Rattle.step.proofs.after_access.Tie as tie
 returns : tie.Need-returns
 returns c =
     let args = c .before .before .before .before .args in
-    let k = args .r .steps in
     let state = c .before .before .before .reached in
-    ap next.Go (c .moved .ensures ∙ ap (λ z. movedOn z k) (state .ensures .1))
-    ∙ sym (ap (λ a. accessed (reached (args .s) (args .r .reach)) a k) (c .before .enum-told .given .1))
+    ap next.Go (c .moved .ensures ∙ ap movedOn (state .ensures .1))
+    ∙ sym (ap (accessed (reached (args .s) (args .r .reach))) (c .before .enum-told .given .1))
 
 returns-2 : tie.Need-returns-2
 returns-2 c =
-    let args = c .before .before .before .before .before .args in
-    let k = args .r .steps in
-    let state = c .before .before .before .before .reached in
-    let verdict = c .before .before .c .given .0 .0 in
-    ap (next.Stop verdict) (c .held .ensures ∙ ap (λ z. heldBack z k) (state .ensures .1))
-    ∙ sym (ap (λ a. accessed (reached (args .s) (args .r .reach)) a k) (c .before .before .c .given .1))
+    let args = c .before .before .before .before .args in
+    let state = c .before .before .before .reached in
+    let verdict = c .before .c .given .0 .0 in
+    ap (next.Stop verdict) (state .ensures .1) ∙ sym (ap (accessed (reached (args .s) (args .r .reach))) (c .before .c .given .1))
 
 pub after-access-spec : {M : Type 1} → statement M
 after-access-spec =
     tie.close
     (tie.spec
-    (λ c κs. search needs) (λ c. search needs) (λ c κs. search needs) (λ c. search needs) (λ c κs. search needs)
+    (λ c κs. search needs) (λ c. search needs) (λ c κs. search needs) (λ c. search needs)
     returns
     returns-2)

@@ -7,7 +7,7 @@ use Rattle.step.proofs.reached.Tie as tie
 returns : tie.Need-returns
 returns c =
     let room = c .before .pre in
-    (record { row-few = room .row-few; rows-few = room .rows-few; steps-few = room .steps-few; barriers-few = room .barriers-few }, refl)
+    (record { row-few = room .row-few; rows-few = room .rows-few; since-few = room .since-few; barriers-few = room .barriers-few }, refl)
 
 pub reached-spec : {M : Type 1} → statement M
 reached-spec = tie.close (tie.spec returns)

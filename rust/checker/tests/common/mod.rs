@@ -5,6 +5,9 @@ use checker::{
     bare_launch, check_file, Outcome, Refusal, Verdict, LENT_CELLS, LENT_LOG, REPORT_ROOM,
 };
 
+/// What lent words of steps hold: no count is as large.
+pub const JUNK: u32 = 0xdead_beef;
+
 pub type Row = [u8; 4];
 
 /// P1's file.
@@ -45,19 +48,36 @@ pub const ENDIF: Row = [34, 0, 0, 0];
 pub const ENDWHILE: Row = [36, 0, 0, 0];
 pub const BARRIER: Row = [37, 0, 0, 0];
 
-pub fn outcome(verdict: Verdict, rows: u32, steps: u32, barriers: u32) -> Outcome {
-    Outcome {
+/// An outcome with the steps of each thread.
+#[derive(Debug, PartialEq)]
+pub struct Found {
+    pub verdict: Verdict,
+    pub rows: u32,
+    pub steps: Vec<u32>,
+    pub barriers: u32,
+}
+
+pub fn outcome(verdict: Verdict, rows: u32, steps: &[u32], barriers: u32) -> Found {
+    Found {
         verdict,
         rows,
-        steps,
+        steps: steps.to_vec(),
         barriers,
     }
 }
 
+/// An outcome with the lent words of steps, of which only the threads' own may
+/// be written.
+pub fn found(ran: Outcome, threads: u32, lent: &[u32; 32]) -> Found {
+    let (steps, behind) = lent.split_at(threads as usize);
+    assert!(behind.iter().all(|&word| word == JUNK), "{lent:?}");
+    outcome(ran.verdict, ran.rows, steps, ran.barriers)
+}
+
 /// Runs a bare launch with buffers that fit; gives the cells as well.
-pub fn run(rows: &[Row], threads: u32, cells: &[u32], limit: u32) -> (Outcome, Vec<u32>) {
-    let (outcome, after, _) = run_logged(rows, threads, cells, limit);
-    (outcome, after)
+pub fn run(rows: &[Row], threads: u32, cells: &[u32], limit: u32) -> (Found, Vec<u32>) {
+    let (found, after, _) = run_logged(rows, threads, cells, limit);
+    (found, after)
 }
 
 /// As [`run`], with the log besides.
@@ -66,20 +86,25 @@ pub fn run_logged(
     threads: u32,
     cells: &[u32],
     limit: u32,
-) -> (Outcome, Vec<u32>, Vec<u32>) {
+) -> (Found, Vec<u32>, Vec<u32>) {
     let mut after = cells.to_vec();
     let mut log = vec![7; 3 * cells.len()];
-    let count = cells.len() as u32;
-    let outcome = bare_launch(&rows.concat(), threads, count, limit, &mut after, &mut log);
-    (outcome.expect("a launch that isn't refused"), after, log)
+    let mut steps = [JUNK; 32];
+    let (table, count) = (rows.concat(), cells.len() as u32);
+    let ran = bare_launch(
+        &table, threads, count, limit, &mut after, &mut log, &mut steps,
+    );
+    let ran = ran.expect("a launch that isn't refused");
+    (found(ran, threads, &steps), after, log)
 }
 
 /// The refusal of a bare table, which must leave the buffers alone.
 pub fn refused(rows: &[Row]) -> Refusal {
     let (mut cells, mut log) = ([5; 2], [6; 6]);
-    let refusal = bare_launch(&rows.concat(), 2, 2, 9, &mut cells, &mut log).unwrap_err();
-    assert_eq!((cells, log), ([5; 2], [6; 6]));
-    refusal
+    let (table, mut steps) = (rows.concat(), [JUNK; 32]);
+    let refused = bare_launch(&table, 2, 2, 9, &mut cells, &mut log, &mut steps);
+    assert_eq!((cells, log, steps), ([5; 2], [6; 6], [JUNK; 32]));
+    refused.unwrap_err()
 }
 
 /// The whole-file entry with buffers as it wants them; gives the report.
