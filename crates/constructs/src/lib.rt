@@ -203,6 +203,7 @@ pub fn barrier_row(log: &mut [u32], cells: usize, n: u32, s: layout::State) -> l
         });
     }
     if mask == 0 {
+        // Nobody is enabled, so the step is nobody's.
         return layout::Next::Go(moved(s));
     }
     layout::Next::Stop(

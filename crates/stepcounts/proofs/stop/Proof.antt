@@ -11,32 +11,36 @@ use Rattle.stepcounts.proofs.stop.Tie as tie
 below-requires : tie.Need-below-requires
 below-requires c κs =
     let start = c .before .before .before .before in
-    subst ThreadFits (c .before .before .v .given .1) (start .pre .0)
+    omega (arith, subst ThreadFits (c .before .before .v .given .1) (start .pre .0))
 
 add-requires : tie.Need-add-requires
 add-requires c κs =
     let start = c .before .before .before .before .before in
     subst (λ m. Roomy m 1 (start .args .counts .now)) (sym (c .below .ensures))
-    (roomy-below (start .args .mask) 1 (c .before .before .before .v .given .0 .0) (start .args .counts .now) (start .pre .1))
+    (roomy-below (start .args .mask) 1 _ (start .args .counts .now) (start .pre .1))
 
 below-requires-2 : tie.Need-below-requires-2
 below-requires-2 c κs =
     let start = c .before .before .before .before in
-    subst ThreadFits (c .before .before .v2 .given .1) (start .pre .0)
+    omega (arith, subst ThreadFits (c .before .before .v2 .given .1) (start .pre .0))
 
 add-requires-2 : tie.Need-add-requires-2
 add-requires-2 c κs =
     let start = c .before .before .before .before .before in
     subst (λ m. Roomy m 1 (start .args .counts .now)) (sym (c .below2 .ensures))
-    (roomy-below (start .args .mask) 1 (c .before .before .before .v2 .given .0 .0) (start .args .counts .now) (start .pre .1))
+    (roomy-below (start .args .mask) 1 _ (start .args .counts .now) (start .pre .1))
 
 returns : tie.Need-returns
 unfolding actedBefore
-returns c = rw (c .before .before .before .before .v .given .1, ← c .before .below .ensures) (c .add .ensures)
+returns c =
+    rw (c .before .before .before .before .v .given .1)
+    (subst (λ m. Added m 1 (c .before .before .before .before .before .before .args .counts .now) (c .add .last .0)) (c .before .below .ensures) (c .add .ensures))
 
 returns-2 : tie.Need-returns-2
 unfolding actedBefore
-returns-2 c = rw (c .before .before .before .before .v2 .given .1, ← c .before .below2 .ensures) (c .add2 .ensures)
+returns-2 c =
+    rw (c .before .before .before .before .v2 .given .1)
+    (subst (λ m. Added m 1 (c .before .before .before .before .before .before .args .counts .now) (c .add2 .last .0)) (c .before .below2 .ensures) (c .add2 .ensures))
 
 -- In the other verdicts nobody has stepped.
 nobody : (c : tie.Start) → Added 0 1 (c .args .counts .now) (c .args .counts .now)
