@@ -196,6 +196,15 @@ ran-is n o v z s r regs cells log saved openers counts eo er R ec =
       counts-are = ec;
     })
 
+-- A row has stopped in state s′: there is room to count what was stepped, and the run is then the definition's.
+pub record Stops (o : LockResult) (v : Verdict) (s′ : State) (cells log counts : List ℕ) : Type 0 where
+  pub row : s′ .row ≤ 256
+  pub fits : ThreadFits v
+  pub room : Roomy (s′ .mask) 1 counts
+  pub rest : (counts₁ : List ℕ) → Added (actedBefore v (s′ .mask)) 1 counts counts₁ → Roomy (s′ .mask) (s′ .since) counts₁
+  pub ran : (counts₁ counts₂ : List ℕ) (q : Outcome) → Added (actedBefore v (s′ .mask)) 1 counts counts₁ → q ≡ endedAs v s′
+      → Added (s′ .mask) (s′ .since) counts₁ counts₂ → RunIs o q cells log counts₂
+
 abbrev enabledIn : Step → Mask
 enabledIn (continues z) = z .enabled
 enabledIn (stops v z) = z .enabled
@@ -455,7 +464,7 @@ module _ (table ends : List ℕ) (n limit : ℕ) (cells₀ : List ℕ) (s : Stat
       -- a row that stops
       module _ (v : Verdict) (s′ : State) (e : r ≡ next.Stop v s′) where
         -- its number still fits
-        pub go-stop-row : s′ .row ≤ 256
+        go-stop-row : s′ .row ≤ 256
         go-stop-row = let q : s′ .row ≡ s .row = subst (Counts s) e (S .counts) in omega (arith, go-row)
 
         left-uncounted : (s′ .mask ≡ s .mask) × (s′ .since ≡ s .since) × (counts′ ≡ counts)
@@ -478,23 +487,23 @@ module _ (table ends : List ℕ) (n limit : ℕ) (cells₀ : List ℕ) (s : Stat
         enabled-few : length (G .here .enabled) ≤ length (G .here .steps)
         enabled-few = omega (arith, G .rep .enabled-size, G .every)
 
-        pub go-stop-fits : ThreadFits v
+        go-stop-fits : ThreadFits v
         go-stop-fits = tally-fits (G .here) s counts (G .tally) (G .rep .enabled-is) enabled-few threads-few v (stopped .0) acted
 
-        pub go-stop-room : limit ≤ 1000000 → Roomy (s′ .mask) 1 counts′
+        go-stop-room : limit ≤ 1000000 → Roomy (s′ .mask) 1 counts′
         go-stop-room l = rw (left-uncounted .0, left-uncounted .2) (go-room 1 (omega arith) l)
 
         module _ (counts₁ : List ℕ) (B : Added (actedBefore v (s′ .mask)) 1 counts′ counts₁) where
           before : Added (actedBefore v (s .mask)) 1 counts counts₁
           before = subst₂ (λ m l. Added (actedBefore v m) 1 l counts₁) (left-uncounted .0) (left-uncounted .2) B
 
-          pub go-stop-rest : limit ≤ 1000000 → Roomy (s′ .mask) (s′ .since) counts₁
+          go-stop-rest : limit ≤ 1000000 → Roomy (s′ .mask) (s′ .since) counts₁
           go-stop-rest l =
               rw (left-uncounted .0, left-uncounted .1)
               (tally-stop-room (G .here) s counts (G .tally) (G .rep .enabled-is) enabled-few threads-few v (stopped .0) acted counts₁ before
               (omega (arith, G .rows-most)))
 
-          pub go-stop : (q : Outcome) (counts₂ : List ℕ) → q ≡ endedAs v s′ → Added (s′ .mask) (s′ .since) counts₁ counts₂
+          go-stop : (q : Outcome) (counts₂ : List ℕ) → q ≡ endedAs v s′ → Added (s′ .mask) (s′ .since) counts₁ counts₂
               → RunIs (lockstep T n cells₀ limit) q cells′ log′ counts₂
           go-stop q counts₂ eq D =
               let z = stopped .0 in
@@ -503,3 +512,13 @@ module _ (table ends : List ℕ) (n limit : ℕ) (cells₀ : List ℕ) (s : Stat
               ran-is n (lockstep T n cells₀ limit) v z s′ q regs′ cells′ log′ saved′ openers′ counts₂ c eq (stopped .2)
               (tally-stop (G .here) s counts (G .tally) (G .rep .enabled-is) enabled-few threads-few v z acted counts₁ counts₂ before
               (subst₂ (λ m k. Added m k counts₁ counts₂) (left-uncounted .0) (left-uncounted .1) D))
+
+        pub go-stops : limit ≤ 1000000 → Stops (lockstep T n cells₀ limit) v s′ cells′ log′ counts′
+        go-stops l =
+            record {
+              row = go-stop-row;
+              fits = go-stop-fits;
+              room = go-stop-room l;
+              rest = λ counts₁ B. go-stop-rest counts₁ B l;
+              ran = λ counts₁ counts₂ q B e D. go-stop counts₁ B q counts₂ e D;
+            }

@@ -4,9 +4,14 @@ use mathlib.Core.Path.{_≡_, refl, _∙_, subst}
 use Prim.Native.Nat.{_+_, _-_}
 use native.Mathlib.Omega.{arith}
 use lib.ListN.{length}
+use Rattle.spec.specs.declared.Verdict.{Verdict}
+use Rattle.spec.specs.Table.{rowsOf}
+use Rattle.spec.specs.LockStep.{lockstep}
+use Rattle.layout.specs.declared.State.{State}
+use Rattle.layout.specs.declared.Next.the-variants as next
 use Rattle.layout.specs.Represents.{Counts}
 use Rattle.run.proofs.Going.{Going, go-start, go-row, go-room, go-passed, go-spent, go-ready, go-next}
-use Rattle.run.proofs.Going.{go-stop-row, go-stop-fits, go-stop-room, go-stop-rest, go-stop}
+use Rattle.run.proofs.Going.{Stops, go-stops}
 use Rattle.run.proofs.run.Statement.{statement}
 use Rattle.run.proofs.run.Tie as tie
 
@@ -109,44 +114,31 @@ loop-again c =
     )
 
 -- A row that stops.
-stop-requires : tie.Need-stop-requires Inv-loop μ-loop
-stop-requires c κs =
-    let at-step = c .before .before .before .before .before .before .before .before in
-    let step = at-step .step in
-    let unspent = at-step .before .before .before .before .before .before .before .if2 .left in
-    let inside = at-step .before .before .before .before .before .before .before .before .before .if1 .taken in
-    let at-turn = at-step .before .before .before .before .before .before .before .before .before .before .before in
+stops : (c : tie.After-step Inv-loop μ-loop) (v : Verdict) (s′ : State) → c .step .result ≡ next.Stop v s′
+    → let start = c .before .before .before .before .before .before .before .before .before .before .before .before .before .before .before .before .before .before .before .before .before in
+    let left = c .step .last .1 .1 .1 .1 in
+    Stops (lockstep (rowsOf (start .args .table .now)) (start .args .n) (start .args .cells .now) (start .args .limit)) v s′ (left .0) (left .1 .0) (left .1 .1 .1 .1 .0)
+stops c v s′ e =
+    let step = c .step in
+    let unspent = c .before .before .before .before .before .before .before .if2 .left in
+    let inside = c .before .before .before .before .before .before .before .before .before .if1 .taken in
+    let at-turn = c .before .before .before .before .before .before .before .before .before .before .before in
     let turn = at-turn .loop in
     let going = turn .inv .2 in
     let start = at-turn .before .before .before .before .before .before .before .before .before .before in
-    let args = start .args in (
-      go-stop-fits (args .table .now) (args .ends .now) (args .n) (args .limit) (args .cells .now) (turn .s) (turn .regs) (turn .cells) (turn .log)
-          (turn .saved) (turn .openers) (turn .counts) going (start .pre .0) inside unspent (turn .inv .0)
-          (step .result) _ _ _ _ _ _ (step .ensures .0) (step .ensures .1) _ _ (c .before .before .v .given .1),
-      go-stop-room (args .table .now) (args .ends .now) (args .n) (args .limit) (args .cells .now) (turn .s) (turn .regs) (turn .cells) (turn .log)
-          (turn .saved) (turn .openers) (turn .counts) going (start .pre .0) inside unspent (turn .inv .0)
-          (step .result) _ _ _ _ _ _ (step .ensures .0) (step .ensures .1) _ _ (c .before .before .v .given .1) (start .pre .3),
-    )
+    let args = start .args in
+    go-stops (args .table .now) (args .ends .now) (args .n) (args .limit) (args .cells .now) (turn .s) (turn .regs) (turn .cells) (turn .log)
+    (turn .saved) (turn .openers) (turn .counts) going (start .pre .0) inside unspent (turn .inv .0)
+    (step .result) _ _ _ _ _ _ (step .ensures .0) (step .ensures .1) v s′ e (start .pre .3)
+
+stop-requires : tie.Need-stop-requires Inv-loop μ-loop
+stop-requires c κs = let S = stops (c .before .before .before .before .before .before .before .before) _ _ (c .before .before .v .given .1) in (S .fits, S .room)
 
 ended-requires-2 : tie.Need-ended-requires-2 Inv-loop μ-loop
 ended-requires-2 c κs =
-    let at-step = c .before .before .before .before .before .before .before .before .before .before in
-    let step = at-step .step in
-    let unspent = at-step .before .before .before .before .before .before .before .if2 .left in
-    let inside = at-step .before .before .before .before .before .before .before .before .before .if1 .taken in
-    let at-turn = at-step .before .before .before .before .before .before .before .before .before .before .before in
-    let turn = at-turn .loop in
-    let going = turn .inv .2 in
-    let start = at-turn .before .before .before .before .before .before .before .before .before .before in
-    let args = start .args in (
-      go-stop-row (args .table .now) (args .ends .now) (args .n) (args .limit) (args .cells .now) (turn .s) (turn .regs) (turn .cells) (turn .log)
-          (turn .saved) (turn .openers) (turn .counts) going (start .pre .0) inside unspent (turn .inv .0)
-          (step .result) _ _ _ _ _ _ (step .ensures .0) (step .ensures .1) _ _ (c .before .before .before .before .v .given .1),
-      go-stop-rest (args .table .now) (args .ends .now) (args .n) (args .limit) (args .cells .now) (turn .s) (turn .regs) (turn .cells) (turn .log)
-          (turn .saved) (turn .openers) (turn .counts) going (start .pre .0) inside unspent (turn .inv .0)
-          (step .result) _ _ _ _ _ _ (step .ensures .0) (step .ensures .1) _ _ (c .before .before .before .before .v .given .1)
-          (c .before .stop .last .0) (c .before .stop .ensures) (start .pre .3),
-    )
+    let stop = c .before .stop in
+    let S = stops (c .before .before .before .before .before .before .before .before .before .before) _ _ (c .before .before .before .before .v .given .1) in
+    (S .row, S .rest (stop .last .0) (stop .ensures))
 
 same-length-3 : tie.Need-same-length-3 Inv-loop μ-loop
 same-length-3 c =
@@ -162,19 +154,9 @@ same-length-4 c =
 
 returns-2 : tie.Need-returns-2 Inv-loop μ-loop
 returns-2 c =
-    let at-step = c .before .before .before .before .before .before .before .before .before .before .before in
-    let step = at-step .step in
-    let unspent = at-step .before .before .before .before .before .before .before .if2 .left in
-    let inside = at-step .before .before .before .before .before .before .before .before .before .if1 .taken in
-    let at-turn = at-step .before .before .before .before .before .before .before .before .before .before .before in
-    let turn = at-turn .loop in
-    let going = turn .inv .2 in
-    let start = at-turn .before .before .before .before .before .before .before .before .before .before in
-    let args = start .args in
-    go-stop (args .table .now) (args .ends .now) (args .n) (args .limit) (args .cells .now) (turn .s) (turn .regs) (turn .cells) (turn .log)
-    (turn .saved) (turn .openers) (turn .counts) going (start .pre .0) inside unspent (turn .inv .0)
-    (step .result) _ _ _ _ _ _ (step .ensures .0) (step .ensures .1) _ _ (c .before .before .before .before .before .v .given .1)
-    (c .before .before .stop .last .0) (c .before .before .stop .ensures) (c .ended2 .result) (c .ended2 .last .0) (c .ended2 .ensures .0) (c .ended2 .ensures .1)
+    let stop = c .before .before .stop in
+    let S = stops (c .before .before .before .before .before .before .before .before .before .before .before) _ _ (c .before .before .before .before .before .v .given .1) in
+    S .ran (stop .last .0) (c .ended2 .last .0) (c .ended2 .result) (stop .ensures) (c .ended2 .ensures .0) (c .ended2 .ensures .1)
 
 ended-requires-3 : tie.Need-ended-requires-3 Inv-loop μ-loop
 ended-requires-3 c κs =
