@@ -546,8 +546,18 @@ fn shifts_that_decide_the_verdict() {
     }
     // Others occur, but need not.
     let asked = |name: &str| name.ends_with("for passed") || name == "passed for spent";
+    let mut others = Counts(counts.0.clone());
     counts.0.retain(|name, _| asked(name));
     counts.expect(3);
+    // What else turns into or out of passed is no single chance find.
+    for plan in (SEEDS..8 * SEEDS)
+        .map(generator::plan)
+        .filter_map(with_shifts)
+    {
+        see_changes(&mut others, &plan);
+    }
+    others.0.retain(|name, _| name.contains("passed"));
+    others.expect(3);
 }
 
 #[test]
