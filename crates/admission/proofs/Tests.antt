@@ -7,7 +7,7 @@ use native.Mathlib.Omega.{arith}
 use borrow.Author.Tests.{eq-eqb, ne-eqb, le-leb, lt-leb}
 use lib.Dec.{leb}
 use Rattle.spec.specs.declared.Refusal.the-variants.{TableLength, TooManyRows, ThreadsOutOfRange, CellsOutOfRange, LimitOutOfRange, CellsLength}
-use Rattle.spec.specs.declared.Refusal.the-variants.{LogLength, OutputLength}
+use Rattle.spec.specs.declared.Refusal.the-variants.{LogLength, RecordsLength, OutputLength}
 use Rattle.spec.specs.Entries.{bareNumbers, bareLent, fileLent}
 use Rattle.admission.proofs.Answers.{fails, holds, ends}
 
@@ -54,35 +54,50 @@ module _ (bytes threads cells limit : ℕ) where
               sym (holds _ _ _ (eq-eqb (bytes % 4) 0 e) ∙ holds _ _ _ (le-leb (bytes / 4) 256 h) ∙ holds _ _ _ (yes-by w _ ew q)
               ∙ holds _ _ _ (yes-by v _ ev r) ∙ holds _ _ _ (le-leb limit 1000000 l) ∙ ends)
 
-module _ (cells k held logged : ℕ) (ek : k ≡ cells) where
-  pub bad-held : (held ≡ k → ⊥) → some CellsLength ≡ bareLent cells held logged
+module _ (cells k held logged recorded : ℕ) (ek : k ≡ cells) where
+  pub bad-held : (held ≡ k → ⊥) → some CellsLength ≡ bareLent cells held logged recorded
   unfolding bareLent
   bad-held n = sym (fails _ _ _ (ne-eqb held cells (λ e. n (e ∙ sym ek))))
 
   module _ (e : held ≡ k) where
-    pub bad-logged : (logged ≡ 3 * k → ⊥) → some LogLength ≡ bareLent cells held logged
+    pub bad-logged : (logged ≡ 3 * k → ⊥) → some LogLength ≡ bareLent cells held logged recorded
     unfolding bareLent
     bad-logged n = sym (holds _ _ _ (eq-eqb held cells (e ∙ ek)) ∙ fails _ _ _ (ne-eqb logged (3 * cells) (λ q. n (omega (arith, q, ek)))))
 
-    pub lent-fine : logged ≡ 3 * k → none ≡ bareLent cells held logged
-    unfolding bareLent
-    lent-fine q = sym (holds _ _ _ (eq-eqb held cells (e ∙ ek)) ∙ holds _ _ _ (eq-eqb logged (3 * cells) (omega (arith, q, ek))) ∙ ends)
+    module _ (q : logged ≡ 3 * k) where
+      pub bad-recorded : recorded < 3075 → some RecordsLength ≡ bareLent cells held logged recorded
+      unfolding bareLent
+      bad-recorded l =
+          sym (holds _ _ _ (eq-eqb held cells (e ∙ ek)) ∙ holds _ _ _ (eq-eqb logged (3 * cells) (omega (arith, q, ek))) ∙ fails _ _ _ (lt-leb 3075 recorded l))
 
-module _ (held logged room : ℕ) where
-  pub bad-cells-lent : (held ≡ 1024 → ⊥) → some CellsLength ≡ fileLent held logged room
+      pub lent-fine : 3075 ≤ recorded → none ≡ bareLent cells held logged recorded
+      unfolding bareLent
+      lent-fine l =
+          sym (holds _ _ _ (eq-eqb held cells (e ∙ ek)) ∙ holds _ _ _ (eq-eqb logged (3 * cells) (omega (arith, q, ek)))
+          ∙ holds _ _ _ (le-leb 3075 recorded l) ∙ ends)
+
+module _ (held logged recorded room : ℕ) where
+  pub bad-cells-lent : (held ≡ 1024 → ⊥) → some CellsLength ≡ fileLent held logged recorded room
   unfolding fileLent
   bad-cells-lent n = sym (fails _ _ _ (ne-eqb held 1024 n))
 
   module _ (e : held ≡ 1024) where
-    pub bad-log-lent : (logged ≡ 3072 → ⊥) → some LogLength ≡ fileLent held logged room
+    pub bad-log-lent : (logged ≡ 3072 → ⊥) → some LogLength ≡ fileLent held logged recorded room
     unfolding fileLent
     bad-log-lent n = sym (holds _ _ _ (eq-eqb held 1024 e) ∙ fails _ _ _ (ne-eqb logged 3072 n))
 
     module _ (q : logged ≡ 3072) where
-      pub bad-output-lent : room < 17408 → some OutputLength ≡ fileLent held logged room
+      pub bad-records-lent : recorded < 3075 → some RecordsLength ≡ fileLent held logged recorded room
       unfolding fileLent
-      bad-output-lent l = sym (holds _ _ _ (eq-eqb held 1024 e) ∙ holds _ _ _ (eq-eqb logged 3072 q) ∙ fails _ _ _ (lt-leb 17408 room l))
+      bad-records-lent l = sym (holds _ _ _ (eq-eqb held 1024 e) ∙ holds _ _ _ (eq-eqb logged 3072 q) ∙ fails _ _ _ (lt-leb 3075 recorded l))
 
-      pub all-lent : 17408 ≤ room → none ≡ fileLent held logged room
-      unfolding fileLent
-      all-lent l = sym (holds _ _ _ (eq-eqb held 1024 e) ∙ holds _ _ _ (eq-eqb logged 3072 q) ∙ holds _ _ _ (le-leb 17408 room l) ∙ ends)
+      module _ (h : 3075 ≤ recorded) where
+        pub bad-output-lent : room < 17408 → some OutputLength ≡ fileLent held logged recorded room
+        unfolding fileLent
+        bad-output-lent l =
+            sym (holds _ _ _ (eq-eqb held 1024 e) ∙ holds _ _ _ (eq-eqb logged 3072 q) ∙ holds _ _ _ (le-leb 3075 recorded h) ∙ fails _ _ _ (lt-leb 17408 room l))
+
+        pub all-lent : 17408 ≤ room → none ≡ fileLent held logged recorded room
+        unfolding fileLent
+        all-lent l =
+            sym (holds _ _ _ (eq-eqb held 1024 e) ∙ holds _ _ _ (eq-eqb logged 3072 q) ∙ holds _ _ _ (le-leb 3075 recorded h) ∙ holds _ _ _ (le-leb 17408 room l) ∙ ends)

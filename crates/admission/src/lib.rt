@@ -47,9 +47,9 @@ fn wide(x: u32) -> usize
     x as usize
 }
 
-// Refusals 20 and 21 of a bare launch, by the lengths of its cells and log.
-pub fn lent(count: u32, held: usize, logged: usize) -> Admission
-    ensures { λ r. ⌜ refusalOf r ≡ bareLent count held logged ⌝ }
+// Refusals 20, 21 and 30 of a bare launch, by the lengths of its cells, log and records.
+pub fn lent(count: u32, held: usize, logged: usize, recorded: usize) -> Admission
+    ensures { λ r. ⌜ refusalOf r ≡ bareLent count held logged recorded ⌝ }
 {
     let k = wide(count);
     if held != k {
@@ -58,18 +58,24 @@ pub fn lent(count: u32, held: usize, logged: usize) -> Admission
     if logged != 3 * k {
         return Admission::Refused(Refusal::LogLength);
     }
+    if recorded < 3075 {
+        return Admission::Refused(Refusal::RecordsLength);
+    }
     Admission::Accepted
 }
 
-// Refusals 20, 21 and 24 of a launch file, by the lengths of the lent buffers.
-pub fn lent_for_file(held: usize, logged: usize, room: usize) -> Admission
-    ensures { λ r. ⌜ refusalOf r ≡ fileLent held logged room ⌝ }
+// Refusals 20, 21, 30 and 24 of a launch file, by the lengths of the lent buffers.
+pub fn lent_for_file(held: usize, logged: usize, recorded: usize, room: usize) -> Admission
+    ensures { λ r. ⌜ refusalOf r ≡ fileLent held logged recorded room ⌝ }
 {
     if held != 1024 {
         return Admission::Refused(Refusal::CellsLength);
     }
     if logged != 3072 {
         return Admission::Refused(Refusal::LogLength);
+    }
+    if recorded < 3075 {
+        return Admission::Refused(Refusal::RecordsLength);
     }
     if room < 17408 {
         return Admission::Refused(Refusal::OutputLength);

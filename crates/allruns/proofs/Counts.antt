@@ -35,43 +35,43 @@ passes UNKNOWN s = false
 unfoldable pub passedAt : Op → LockState → List (List ℕ)
 passedAt o s = cond (passes o s) (s .cells ∷ []) []
 
-isSpent : Verdict → ℕ
+pub isSpent : Verdict → ℕ
 isSpent Passed = 0
 isSpent (Race t u k c) = 0
 isSpent (Outside t c) = 0
 isSpent (Diverged t u) = 0
 isSpent Spent = 1
 
--- A step leaves these counts of rows and barriers; where it stops, it is not for want of rows, and the barriers are c.
-abbrev Leaves : (rows barriers c : ℕ) → Step → Type 0
-Leaves r b c (continues z) = (z .rows ≡ r) × (z .barriers ≡ b)
-Leaves r b c (stops v z) = (isSpent v ≡ 0) × (z .barriers ≡ c)
+-- A step from s leaves these counts of rows and barriers; where it stops, it is not for want of rows, and the counts are those of s.
+abbrev pub Leaves : LockState → (rows barriers : ℕ) → Step → Type 0
+Leaves s r b (continues z) = (z .rows ≡ r) × (z .barriers ≡ b)
+Leaves s r b (stops v z) = (isSpent v ≡ 0) × (z .rows ≡ s .rows) × (z .barriers ≡ s .barriers)
 
-leaves-then : (r b c r′ b′ : ℕ) (x : Step) (f : LockState → Step) → Leaves r b c x
-    → ((z : LockState) → z .rows ≡ r → z .barriers ≡ b → Leaves r′ b′ c (f z)) → Leaves r′ b′ c (andThen x f)
+leaves-then : (s : LockState) (r b r′ b′ : ℕ) (x : Step) (f : LockState → Step) → Leaves s r b x
+    → ((z : LockState) → z .rows ≡ r → z .barriers ≡ b → Leaves s r′ b′ (f z)) → Leaves s r′ b′ (andThen x f)
 unfolding andThen
-leaves-then r b c r′ b′ (continues z) f h g = g z (h .0) (h .1)
-leaves-then r b c r′ b′ (stops v z) f h g = h
+leaves-then s r b r′ b′ (continues z) f h g = g z (h .0) (h .1)
+leaves-then s r b r′ b′ (stops v z) f h g = h
 
 -- A thread's turn that leaves the counts, taken by any number of threads.
 abbrev KeepsCounts : (LockState → ℕ → Step) → Type 0
-KeepsCounts f = (s : LockState) (t : ℕ) → Leaves (s .rows) (s .barriers) (s .barriers) (f s t)
+KeepsCounts f = (s : LockState) (t : ℕ) → Leaves s (s .rows) (s .barriers) (f s t)
 
-leaves-turns : (f : LockState → ℕ → Step) → KeepsCounts f → (r b : ℕ) (ts : List ℕ) (s : LockState) → s .rows ≡ r → s .barriers ≡ b
-    → Leaves r b b (inTurn f ts s)
+leaves-turns : (f : LockState → ℕ → Step) → KeepsCounts f → (s : LockState) (ts : List ℕ) (z : LockState) → z .rows ≡ s .rows → z .barriers ≡ s .barriers
+    → Leaves s (s .rows) (s .barriers) (inTurn f ts z)
 unfolding inTurn
-leaves-turns f h r b [] s p q = (p, q)
-leaves-turns f h r b (t ∷ ts) s p q = leaves-then r b b r b (f s t) (inTurn f ts) (move (f s t) (h s t)) (λ z x y. leaves-turns f h r b ts z x y)
+leaves-turns f h s [] z p q = (p, q)
+leaves-turns f h s (t ∷ ts) z p q =
+    leaves-then s (s .rows) (s .barriers) (s .rows) (s .barriers) (f z t) (inTurn f ts) (move (f z t) (h z t)) (λ w x y. leaves-turns f h s ts w x y)
   where
-    move : (x : Step) → Leaves (s .rows) (s .barriers) (s .barriers) x → Leaves r b b x
-    move (continues z) k = (k .0 ∙ p, k .1 ∙ q)
-    move (stops v z) k = (k .0, k .1 ∙ q)
+    move : (x : Step) → Leaves z (z .rows) (z .barriers) x → Leaves s (s .rows) (s .barriers) x
+    move (continues w) k = (k .0 ∙ p, k .1 ∙ q)
+    move (stops v w) k = (k .0, k .1 ∙ p, k .2 ∙ q)
 
-leaves-enabled : (f : LockState → ℕ → Step) → KeepsCounts f → (s : LockState) → Leaves (suc (s .rows)) (s .barriers) (s .barriers) (forEnabled f s)
+leaves-enabled : (f : LockState → ℕ → Step) → KeepsCounts f → (s : LockState) → Leaves s (suc (s .rows)) (s .barriers) (forEnabled f s)
 unfolding forEnabled advance
 leaves-enabled f h s =
-    leaves-then (s .rows) (s .barriers) (s .barriers) (suc (s .rows)) (s .barriers) (inTurn f _ s) _
-    (leaves-turns f h (s .rows) (s .barriers) _ s refl refl) (λ z p q. (ap suc p, q))
+    leaves-then s (s .rows) (s .barriers) (suc (s .rows)) (s .barriers) (inTurn f _ s) _ (leaves-turns f h s _ s refl refl) (λ z p q. (ap suc p, q))
 
 keeps-compute : (x : Row) (f : ℕ → ℕ → ℕ → ℕ) → KeepsCounts (computeTurn x f)
 unfolding computeTurn setReg
@@ -91,53 +91,53 @@ keeps-access L m x s t = by (leb (bound L m) c) (any others)
     others = conflictMask (s .log) (address L m c) t k
 
     by : (out races : Bool)
-        → Leaves (s .rows) (s .barriers) (s .barriers)
+        → Leaves s (s .rows) (s .barriers)
         (cond out (stops (Outside t c) s)
         (cond races (stops (Race t (lowest others) (raceKind (s .log) (address L m c) (lowest others) k) (address L m c)) s)
         (continues (madeAccess s t (x .d) (address L m c) k))))
-    by true races = (refl, refl)
-    by false true = (refl, refl)
+    by true races = (refl, refl, refl)
+    by false true = (refl, refl, refl)
     by false false = (refl, refl)
 
-leaves-while : (T : Table) (s : LockState) (v : List Saved) (m : Mask) → Leaves (suc (s .rows)) (s .barriers) (s .barriers) (continues (leaveOrStay T s v m))
+leaves-while : (T : Table) (s : LockState) (v : List Saved) (m : Mask) → Leaves s (suc (s .rows)) (s .barriers) (continues (leaveOrStay T s v m))
 unfolding leaveOrStay advance
 leaves-while T s v m = by (any m)
   where
     by : (p : Bool)
-        → Leaves (suc (s .rows)) (s .barriers) (s .barriers)
+        → Leaves s (suc (s .rows)) (s .barriers)
         (continues (cond p (advance (suc (s .row)) m v s) (advance (suc (endOf T (s .row))) (topMask v) (pop v) s)))
     by true = (refl, refl)
     by false = (refl, refl)
 
 leaves-barrier : (s : LockState) (a f : Bool) (v : Verdict) → isSpent v ≡ 0
-    → Leaves (suc (s .rows)) (s .barriers + length (cond (a && f) (s .cells ∷ []) [])) (s .barriers)
+    → Leaves s (suc (s .rows)) (s .barriers + length (cond (a && f) (s .cells ∷ []) []))
     (cond a (cond f (continues (passBarrier s)) (stops v s)) (continues (advance (suc (s .row)) (s .enabled) (s .saved) s)))
 unfolding passBarrier advance
 leaves-barrier s true true v h = (refl, omega arith)
-leaves-barrier s true false v h = (h, refl)
+leaves-barrier s true false v h = (h, refl, refl)
 leaves-barrier s false f v h = (refl, omega arith)
 
 -- The barriers after a row.
-grown : LockState → Op → ℕ
+unfoldable pub grown : LockState → Op → ℕ
 grown s o = s .barriers + length (passedAt o s)
 
 -- A row that counts no barrier.
-uncounted : (r b : ℕ) (x : Step) → Leaves r b b x → Leaves r (b + 0) b x
-uncounted r b (continues z) h = let p = h .1 in (h .0, omega (arith, p))
-uncounted r b (stops v z) h = h
+uncounted : (s : LockState) (x : Step) → Leaves s (suc (s .rows)) (s .barriers) x → Leaves s (suc (s .rows)) (s .barriers + 0) x
+uncounted s (continues z) h = let p = h .1 in (h .0, omega (arith, p))
+uncounted s (stops v z) h = h
 
-leaves-row : (T : Table) (L : Shape) (x : Row) (s : LockState) (o : Op) → Leaves (suc (s .rows)) (grown s o) (s .barriers) (runRow T L x s o)
+pub leaves-row : (T : Table) (L : Shape) (x : Row) (s : LockState) (o : Op) → Leaves s (suc (s .rows)) (grown s o) (runRow T L x s o)
 unfolding grown runRow passedAt passes advance countSteps barrierRow isSpent ifRow elseRow endifRow whileRow endwhileRow
 leaves-row T L x s (CALC c) =
-    uncounted (suc (s .rows)) (s .barriers) (runRow T L x s (CALC c)) (leaves-enabled _ (keeps-compute x (λ t p q. value c (L .threads) t (x .a) (x .b) p q)) s)
-leaves-row T L x s (MEM m) = uncounted (suc (s .rows)) (s .barriers) (runRow T L x s (MEM m)) (leaves-enabled _ (keeps-access L m x) s)
-leaves-row T L x s IF = uncounted (suc (s .rows)) (s .barriers) (runRow T L x s IF) (refl, refl)
-leaves-row T L x s ELSE = uncounted (suc (s .rows)) (s .barriers) (runRow T L x s ELSE) (refl, refl)
-leaves-row T L x s ENDIF = uncounted (suc (s .rows)) (s .barriers) (runRow T L x s ENDIF) (refl, refl)
-leaves-row T L x s WHILE = uncounted (suc (s .rows)) (s .barriers) (runRow T L x s WHILE) (leaves-while T (countSteps (s .enabled) s) _ _)
-leaves-row T L x s ENDWHILE = uncounted (suc (s .rows)) (s .barriers) (runRow T L x s ENDWHILE) (refl, refl)
+    uncounted s (runRow T L x s (CALC c)) (leaves-enabled _ (keeps-compute x (λ t p q. value c (L .threads) t (x .a) (x .b) p q)) s)
+leaves-row T L x s (MEM m) = uncounted s (runRow T L x s (MEM m)) (leaves-enabled _ (keeps-access L m x) s)
+leaves-row T L x s IF = uncounted s (runRow T L x s IF) (refl, refl)
+leaves-row T L x s ELSE = uncounted s (runRow T L x s ELSE) (refl, refl)
+leaves-row T L x s ENDIF = uncounted s (runRow T L x s ENDIF) (refl, refl)
+leaves-row T L x s WHILE = uncounted s (runRow T L x s WHILE) (leaves-while T (countSteps (s .enabled) s) _ _)
+leaves-row T L x s ENDWHILE = uncounted s (runRow T L x s ENDWHILE) (refl, refl)
 leaves-row T L x s BARRIER = leaves-barrier s (any (s .enabled)) (full (s .enabled)) _ refl
-leaves-row T L x s UNKNOWN = uncounted (suc (s .rows)) (s .barriers) (runRow T L x s UNKNOWN) (refl, refl)
+leaves-row T L x s UNKNOWN = uncounted s (runRow T L x s UNKNOWN) (refl, refl)
 
 -- A row at which barriers grows is one that all threads pass: their number tells which.
 by-growth : (c : List ℕ) (b : Bool) (x y : ℕ) → y ≡ x + length (cond b (c ∷ []) []) → cond (ltb x y) (c ∷ []) [] ≡ cond b (c ∷ []) []
@@ -149,14 +149,14 @@ unfolding grown countedAt passedAt
 counted-by s z o e = by-growth (s .cells) (passes o s) (s .barriers) (z .barriers) e
 
 pub counted-is : (T : Table) (L : Shape) (x : Row) (s z : LockState) (o : Op) → runRow T L x s o ≡ continues z → countedAt s z ≡ passedAt o s
-counted-is T L x s z o e = counted-by s z o (subst (Leaves (suc (s .rows)) (grown s o) (s .barriers)) e (leaves-row T L x s o) .1)
+counted-is T L x s z o e = counted-by s z o (subst (Leaves s (suc (s .rows)) (grown s o)) e (leaves-row T L x s o) .1)
 
 -- What a run with `left` rows to go says in its counts, its result being o and its counted barriers bs.
 record Counted (left : ℕ) (s : LockState) (o : LockResult) (bs : List (List ℕ)) : Type 0 where
   pub atLimit : isSpent (o .verdict) ≡ 1 → o .state .rows ≡ s .rows + left
   pub barriers : length bs + s .barriers ≡ o .state .barriers
 
-counted-on : (T : Table) (L : Shape) (left : ℕ) (s : LockState) (o : Op) (x : Step) → Leaves (suc (s .rows)) (grown s o) (s .barriers) x
+counted-on : (T : Table) (L : Shape) (left : ℕ) (s : LockState) (o : Op) (x : Step) → Leaves s (suc (s .rows)) (grown s o) x
     → ((z : LockState) → Counted left z (runFrom T L left z) (countedFrom T L left z))
     → Counted (suc left) s (resultOf x (runFrom T L left)) (countedAfter s x (countedFrom T L left))
 unfolding resultOf countedAfter grown isSpent
@@ -168,7 +168,7 @@ counted-on T L left s o (continues z) h f =
     let w = f z .barriers in
     record { atLimit = λ e. let v = f z .atLimit e in omega (arith, v, p); barriers = omega (arith, l, m, q, w) }
 counted-on T L left s o (stops v z) h f =
-    let q = h .1 in
+    let q = h .2 in
     record { atLimit = λ e. let p = h .0 in absurd (omega (arith, e, p)); barriers = omega (arith, q) }
 
 counted-run : (T : Table) (L : Shape) (left : ℕ) (s : LockState) → Counted left s (runFrom T L left s) (countedFrom T L left s)

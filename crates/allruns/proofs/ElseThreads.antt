@@ -24,11 +24,11 @@ use Rattle.allruns.proofs.BarrierRow.{row-done}
 use Rattle.spec.specs.Threads.{Group}
 
 -- Rows that compute or access, and BARRIER, leave the masks as they are.
-abbrev Masked : LockState → Step → Type 0
+abbrev pub Masked : LockState → Step → Type 0
 Masked s (continues z) = (z .enabled ≡ s .enabled) × (z .saved ≡ s .saved)
 Masked s (stops v z) = Unit {0}
 
-masked : (f : LockState → ℕ → Step) → ((s : LockState) (t : ℕ) → Keeps (t ∷ []) s (f s t)) → (s : LockState) → Masked s (forEnabled f s)
+pub masked : (f : LockState → ℕ → Step) → ((s : LockState) (t : ℕ) → Keeps (t ∷ []) s (f s t)) → (s : LockState) → Masked s (forEnabled f s)
 unfolding forEnabled
 masked f one s = by (inTurn f (members (s .enabled)) s) (keeps-all f one (members (s .enabled)) s)
   where
@@ -36,7 +36,7 @@ masked f one s = by (inTurn f (members (s .enabled)) s) (keeps-all f one (member
     by (continues z) k = unfold andThen advance in (k .onSame, k .savedSame)
     by (stops v z) k = unfold andThen in tt
 
-masked-barrier : (s : LockState) → Masked s (barrierRow s)
+pub masked-barrier : (s : LockState) → Masked s (barrierRow s)
 unfolding barrierRow passBarrier advance
 masked-barrier s = by (any (s .enabled)) (full (s .enabled))
   where

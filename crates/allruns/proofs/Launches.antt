@@ -7,6 +7,7 @@ use Prim.Native.Nat.{ℕ}
 use native.Mathlib.Omega.{arith}
 use lib.Dec.{leb}
 use lib.ListN.{length, take, replicate}
+use Rattle.spec.specs.declared.Outcome.{Outcome}
 use Rattle.spec.specs.declared.Refusal.{Refusal}
 use Rattle.spec.specs.declared.Refusal.the-variants.{FileTooLong}
 use Rattle.spec.specs.Limits.{maxFile, maxThreads}
@@ -14,9 +15,9 @@ use Rattle.spec.specs.Answers.{first}
 use Rattle.spec.specs.Table.{rowsOf}
 use Rattle.spec.specs.TableCheck.{tableRefusal}
 use Rattle.spec.specs.LaunchFile.{Launch, Checked, refused, accepted, Read, stop, read, unlessRefused, checkedTable, launchLines, fileLaunch}
-use Rattle.spec.specs.LockStep.{LockResult, lockstep, outcomeOf}
+use Rattle.spec.specs.LockStep.{LockResult, lockstep}
 use Rattle.spec.specs.AllRuns.{Demand3}
-use Rattle.spec.specs.Entries.{over, bareRefusal, bareRun, answerOf, keptIf, bareAnswer, bareCells, bareSteps, launchRun}
+use Rattle.spec.specs.Entries.{over, bareRefusal, bareRun, bareOutcome, answerOf, keptIf, bareAnswer, bareCells, bareSteps, launchRun, launchOutcome}
 use Rattle.spec.specs.Demands.{BareDemand3}
 use Rattle.spec.proofs.Laws.{front-of}
 use Rattle.structure.proofs.Refusals.{orElse-none}
@@ -25,17 +26,18 @@ use Rattle.allruns.proofs.LockInvariants.{steps-size}
 use Rattle.allruns.proofs.Theorem.{demand3}
 
 -- The rows are the second thing that a bare launch tests.
-pub bare-table : (table : List ℕ) (threads cells limit : ℕ) (lentCells lentLog : List ℕ) → bareRefusal table threads cells limit lentCells lentLog ≡ none
-    → tableRefusal (rowsOf table) ≡ none
+pub bare-table : (table : List ℕ) (threads cells limit : ℕ) (lentCells lentLog lentRecords : List ℕ)
+    → bareRefusal table threads cells limit lentCells lentLog lentRecords ≡ none → tableRefusal (rowsOf table) ≡ none
 unfolding bareRefusal first
-bare-table table threads cells limit lentCells lentLog e = orElse-none _ _ .0 (orElse-none _ _ .0 e .1) .0
+bare-table table threads cells limit lentCells lentLog lentRecords e = orElse-none _ _ .0 (orElse-none _ _ .0 e .1) .0
 
 -- A bare launch, of its answer and of the cells and the step counts that it leaves.
-module _ (table : List ℕ) (threads cells limit : ℕ) (lentCells lentLog lentSteps : List ℕ) where
-  ran-demand3 : bareRefusal table threads cells limit lentCells lentLog ≡ none
-      → let run = bareRun table threads limit lentCells in Demand3 (rowsOf table) threads lentCells limit (outcomeOf run) (run .state .steps) (run .state .cells)
-  unfolding bareRun
-  ran-demand3 e = demand3 (rowsOf table) (well-formed (rowsOf table) (bare-table table threads cells limit lentCells lentLog e)) threads lentCells limit
+module _ (table : List ℕ) (threads cells limit : ℕ) (lentCells lentLog lentRecords lentSteps : List ℕ) where
+  ran-demand3 : bareRefusal table threads cells limit lentCells lentLog lentRecords ≡ none
+      → let run = bareRun table threads limit lentCells in let outcome = bareOutcome table threads limit lentCells in
+      Demand3 (rowsOf table) threads lentCells limit outcome (run .state .steps) (run .state .cells)
+  unfolding bareRun bareOutcome
+  ran-demand3 e = demand3 (rowsOf table) (well-formed (rowsOf table) (bare-table table threads cells limit lentCells lentLog lentRecords e)) threads lentCells limit _
 
   steps-front : (behind : List ℕ) → let steps = bareRun table threads limit lentCells .state .steps in take threads (over steps behind) ≡ steps
   unfolding bareRun
@@ -43,19 +45,22 @@ module _ (table : List ℕ) (threads cells limit : ℕ) (lentCells lentLog lentS
       let steps = lockstep (rowsOf table) threads lentCells limit .state .steps in
       subst (λ k. take k (over steps behind) ≡ steps) (steps-size (rowsOf table) threads lentCells limit) (front-of steps behind _ refl)
 
-  pub bare-demand3 : BareDemand3 table threads limit lentCells (bareAnswer table threads cells limit lentCells lentLog)
-      (bareCells table threads cells limit lentCells lentLog) (bareSteps table threads cells limit lentCells lentLog lentSteps)
+  pub bare-demand3 : BareDemand3 table threads limit lentCells (bareAnswer table threads cells limit lentCells lentLog lentRecords)
+      (bareCells table threads cells limit lentCells lentLog lentRecords) (bareSteps table threads cells limit lentCells lentLog lentRecords lentSteps)
   unfolding bareAnswer bareCells bareSteps answerOf keptIf
-  bare-demand3 = by (bareRefusal table threads cells limit lentCells lentLog) refl
+  bare-demand3 = by (bareRefusal table threads cells limit lentCells lentLog lentRecords) refl
     where
       run : LockResult
       run = bareRun table threads limit lentCells
 
-      by : (x : Option Refusal) → bareRefusal table threads cells limit lentCells lentLog ≡ x
-          → BareDemand3 table threads limit lentCells (answerOf x (outcomeOf run)) (keptIf x lentCells (run .state .cells))
+      outcome : Outcome
+      outcome = bareOutcome table threads limit lentCells
+
+      by : (x : Option Refusal) → bareRefusal table threads cells limit lentCells lentLog lentRecords ≡ x
+          → BareDemand3 table threads limit lentCells (answerOf x outcome) (keptIf x lentCells (run .state .cells))
           (keptIf x lentSteps (over (run .state .steps) (replicate maxThreads 0)))
       by none e =
-          subst (λ steps. Demand3 (rowsOf table) threads lentCells limit (outcomeOf run) steps (run .state .cells)) (sym (steps-front _)) (ran-demand3 e)
+          subst (λ steps. Demand3 (rowsOf table) threads lentCells limit outcome steps (run .state .cells)) (sym (steps-front _)) (ran-demand3 e)
       by (some why) e = tt
 
 -- The table of an accepted file is not refused.
@@ -85,7 +90,7 @@ file-table file launch = by (leb (length file) maxFile)
 -- An accepted launch, of its run.
 pub launch-demand3 : (file : List ℕ) (launch : Launch) → fileLaunch file ≡ accepted launch
     → let run = launchRun launch in
-    Demand3 (launch .table) (launch .threads) (launch .cells) (launch .limit) (outcomeOf run) (run .state .steps) (run .state .cells)
-unfolding launchRun
+    Demand3 (launch .table) (launch .threads) (launch .cells) (launch .limit) (launchOutcome launch) (run .state .steps) (run .state .cells)
+unfolding launchRun launchOutcome
 launch-demand3 file launch e =
-    demand3 (launch .table) (well-formed (launch .table) (file-table file launch e)) (launch .threads) (launch .cells) (launch .limit)
+    demand3 (launch .table) (well-formed (launch .table) (file-table file launch e)) (launch .threads) (launch .cells) (launch .limit) _

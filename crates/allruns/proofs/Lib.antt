@@ -23,3 +23,4 @@ pub mod LoopCounts
 pub mod StuckAtBarrier
 pub mod ElseThreads
 pub mod WordBounds
+pub mod IntervalSums

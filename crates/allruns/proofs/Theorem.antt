@@ -115,9 +115,10 @@ module _ (T : Table) (w : WellFormed T) (n : ℕ) (cells : List ℕ) (limit : �
         some-run = (complete p .moves, (complete p .run, complete p .ended));
       }
 
-  pub demand3 : Demand3 T n cells limit (outcomeOf result) (result .state .steps) (result .state .cells)
+  -- whatever its rows cost
+  pub demand3 : (conflicts : ℕ) → Demand3 T n cells limit (outcomeOf result conflicts) (result .state .steps) (result .state .cells)
   unfolding outcomeOf
-  demand3 =
+  demand3 conflicts =
       record {
         exactly = λ ns. (well, back (result .verdict) refl simulated ns);
         passed = says;

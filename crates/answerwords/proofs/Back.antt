@@ -12,7 +12,7 @@ use Rattle.spec.specs.declared.Written.{Written}
 use Rattle.spec.specs.declared.Written.the-variants.{Refused, Wrote}
 use Rattle.spec.specs.Table.{Table}
 use Rattle.spec.specs.AllRuns.{Demand3}
-use Rattle.spec.specs.Report.{details, detailsOf, headWith, headLines, barriersLine, _is_}
+use Rattle.spec.specs.Report.{details, detailsOf, headWith, headLines, intervalLines, runLines, _is_}
 use Rattle.spec.specs.Demands.{OfWritten, OfLength}
 use Rattle.answerwords.specs.Codes.{lengthIn, verdictCode, kindCode, valueCode, outcomeWords, kindFrom, verdictFrom, outcomeFrom}
 
@@ -26,14 +26,23 @@ kind-back AddRead = refl
 kind-back WriteAdd = refl
 kind-back AddWrite = refl
 
-verdict-back : (v : Verdict) (row rows barriers : ℕ)
-    → outcomeFrom (outcomeWords (record { verdict = v; row = row; rows = rows; barriers = barriers })) .verdict ≡ v
-unfolding outcomeFrom outcomeWords headLines headWith barriersLine detailsOf details _is_ valueCode verdictCode verdictFrom
-verdict-back Passed row rows barriers = refl
-verdict-back (Race thread other kind at) row rows barriers = rw (kind-back kind) refl
-verdict-back (Outside thread at) row rows barriers = refl
-verdict-back (Diverged thread other) row rows barriers = refl
-verdict-back Spent row rows barriers = refl
+-- The outcome that is read from the words of o has its verdict, and its report says the same.
+abbrev SameBack : Outcome → Type 0
+SameBack o =
+    let p = outcomeFrom (outcomeWords o) in
+    (p .verdict ≡ o .verdict) × ((steps cells : List ℕ) → runLines p steps cells ≡ runLines o steps cells)
+
+words-back : (v : Verdict) (row rows barriers conflicts : ℕ)
+    → SameBack (record { verdict = v; row = row; rows = rows; barriers = barriers; conflicts = conflicts })
+unfolding outcomeFrom outcomeWords runLines headLines headWith intervalLines detailsOf details _is_ valueCode verdictCode verdictFrom
+words-back Passed row rows barriers conflicts = (refl, λ steps cells. refl)
+words-back (Race thread other kind at) row rows barriers conflicts = rw (kind-back kind) (refl, λ steps cells. refl)
+words-back (Outside thread at) row rows barriers conflicts = (refl, λ steps cells. refl)
+words-back (Diverged thread other) row rows barriers conflicts = (refl, λ steps cells. refl)
+words-back Spent row rows barriers conflicts = (refl, λ steps cells. refl)
+
+pub same-back : (o : Outcome) → SameBack o
+same-back o = words-back (o .verdict) (o .row) (o .rows) (o .barriers) (o .conflicts)
 
 -- So demand 3 may be said of the words.
 demand-of : (T : Table) (n : ℕ) (cells : List ℕ) (limit : ℕ) (o p : Outcome) (steps final : List ℕ) → p .verdict ≡ o .verdict → p .rows ≡ o .rows
@@ -48,9 +57,9 @@ demand-of T n cells limit o p steps final v r b d =
 
 pub words-demand : (T : Table) (n : ℕ) (cells : List ℕ) (limit : ℕ) (o : Outcome) (steps final : List ℕ) → Demand3 T n cells limit o steps final
     → Demand3 T n cells limit (outcomeFrom (outcomeWords o)) steps final
-unfolding outcomeFrom outcomeWords headLines headWith barriersLine _is_ valueCode
+unfolding outcomeFrom outcomeWords headLines headWith intervalLines _is_ valueCode
 words-demand T n cells limit o steps final d =
-    demand-of T n cells limit o (outcomeFrom (outcomeWords o)) steps final (verdict-back (o .verdict) (o .row) (o .rows) (o .barriers)) refl refl d
+    demand-of T n cells limit o (outcomeFrom (outcomeWords o)) steps final (same-back o .0) refl refl d
 
 -- A report's length is 0 only where none was written.
 pub of-length : (P : List ℕ → Type 0) (r : Written) (size : ℕ) (output : List ℕ) → size ≡ lengthIn r → OfWritten P r output → OfLength P size output

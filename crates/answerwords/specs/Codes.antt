@@ -1,10 +1,10 @@
--- Answers as words: a length with a refusal's number and place beside it, and an outcome as eight words. Assumes nothing.
+-- Answers as words: a length with a refusal's number and place beside it, and an outcome as nine words. Assumes nothing.
 use mathlib.Core.Path.{_≡_}
 use mathlib.Core.List.{List, [], _∷_, _++_, map}
 use mathlib.Core.Bool.{Bool, true, false, cond}
 use Prim.Native.Nat.{ℕ}
 use lib.Dec.{eqb}
-use lib.ListN.{getD, take}
+use lib.ListN.{getD, take, replicate}
 use Rattle.spec.specs.declared.AccessKind.{AccessKind}
 use Rattle.spec.specs.declared.AccessKind.the-variants.{ReadWrite, WriteRead, WriteWrite, ReadAdd, AddRead, WriteAdd, AddWrite}
 use Rattle.spec.specs.declared.Verdict.{Verdict}
@@ -19,7 +19,7 @@ use Rattle.spec.specs.declared.Value.the-variants as value
 use Rattle.refusals.specs.Words.{refusalWords}
 use Rattle.spec.specs.Table.{rowsOf}
 use Rattle.spec.specs.AllRuns.{Demand3}
-use Rattle.spec.specs.Report.{Line, headLines, barriersLine}
+use Rattle.spec.specs.Report.{Line, headLines, intervalLines}
 
 -- A length with a refusal's number and place beside it; 0, and two zeros, where there is none.
 unfoldable pub lengthIn : Written → ℕ
@@ -55,16 +55,19 @@ valueCode (value.Verdict v) = verdictCode v
 valueCode (value.Kind k) = kindCode k
 valueCode value.Report = 0
 
--- An outcome: a word for each line of the report's head, in their order, and one for its barriers.
+-- An outcome: a word for each line of the report's head, in their order, and then one for each line about its intervals.
+abbrev pub wordCount : ℕ
+wordCount = 9
+
 unfoldable pub outcomeWords : Outcome → List ℕ
-outcomeWords o = map (λ (l : Line). valueCode (l .value)) (headLines o ++ (barriersLine o ∷ []))
+outcomeWords o = map (λ (l : Line). valueCode (l .value)) (headLines o ++ intervalLines o)
 
 unfoldable pub ranIn : Answer → Bool
 ranIn (answer.Refused why) = false
 ranIn (answer.Ran o) = true
 
 unfoldable pub outcomeIn : Answer → List ℕ
-outcomeIn (answer.Refused why) = 0 ∷ 0 ∷ 0 ∷ 0 ∷ 0 ∷ 0 ∷ 0 ∷ 0 ∷ []
+outcomeIn (answer.Refused why) = replicate wordCount 0
 outcomeIn (answer.Ran o) = outcomeWords o
 
 unfoldable pub whyIn : Answer → List ℕ
@@ -89,6 +92,7 @@ outcomeFrom ws =
       row = getD ws 1 0;
       rows = getD ws 6 0;
       barriers = getD ws 7 0;
+      conflicts = getD ws 8 0;
     }
 
 -- Demand 3 of a bare launch, of the words that its caller is handed: the flag that it ran, the outcome's words, the cells and the step counts that are left.

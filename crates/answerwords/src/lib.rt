@@ -45,13 +45,16 @@ fn value_code(value: Value) -> u32
     }
 }
 
-pub fn outcome_words(outcome: Outcome) -> [u32; 8]
+// How many words an outcome has.
+pub const WORDS: usize = 9;
+
+pub fn outcome_words(outcome: Outcome) -> [u32; WORDS]
     ensures { λ r. ⌜ r ≡ outcomeWords outcome ⌝ }
 {
     let values = reportvalues::run_values(outcome);
-    let mut words = [0u32; 8];
+    let mut words = [0u32; WORDS];
     let mut i = 0;
-    while i < 8 {
+    while i < WORDS {
         words[i] = value_code(values[i]);
         i += 1;
     }
@@ -100,7 +103,7 @@ fn verdict_from(code: u32, thread: u32, other: u32, kind: u32, at: u32) -> Verdi
     Verdict::Spent
 }
 
-pub fn outcome_from(words: &[u32; 8]) -> Outcome
+pub fn outcome_from(words: &[u32; WORDS]) -> Outcome
     ensures { λ r. ⌜ r ≡ outcomeFrom (now (words .entry)) ⌝ }
 {
     let verdict = verdict_from(words[0], words[2], words[3], words[4], words[5]);
@@ -109,6 +112,7 @@ pub fn outcome_from(words: &[u32; 8]) -> Outcome
         row: words[1],
         rows: words[6],
         barriers: words[7],
+        conflicts: words[8],
     }
 }
 

@@ -1,5 +1,5 @@
 -- An accepted launch that has been run over the front of its buffers, and reported. Assumes nothing.
-use mathlib.Core.Path.{_≡_, refl, ap, subst, _∙_}
+use mathlib.Core.Path.{_≡_, refl, ap, ap₂, subst, _∙_}
 use mathlib.Core.List.{List, _++_}
 use mathlib.Core.Option.{Option, none}
 use Prim.Native.Nat.{ℕ, _*_, _≤_}
@@ -13,9 +13,10 @@ use Rattle.spec.specs.declared.Written.the-variants.{Wrote}
 use Rattle.spec.specs.Table.{rowsOf}
 use Rattle.spec.specs.Log.{logWords}
 use Rattle.spec.specs.LockStep.{LockResult, lockstep, outcomeOf}
+use Rattle.spec.specs.Intervals.{intervalRecords, recordWords, conflictsOf}
 use Rattle.spec.specs.LaunchFile.{Launch}
 use Rattle.spec.specs.Report.{runReport, reportOf}
-use Rattle.spec.specs.Entries.{over, launchRun, launchReport, writerRefusal, writerAnswer, writerBuffer, writtenOf, keptIf}
+use Rattle.spec.specs.Entries.{over, launchRun, launchIntervals, launchOutcome, launchReport, writerRefusal, writerAnswer, writerBuffer, writtenOf, keptIf}
 use Rattle.spec.proofs.Laws.{front-of}
 use Rattle.allruns.proofs.LockInvariants.{steps-size}
 use Rattle.layout.specs.Running.{RunIs}
@@ -48,20 +49,21 @@ counts-front counts steps behind e l = subst (λ (k : ℕ). take k counts ≡ st
 ap₃ : {o o′ : Outcome} {steps steps′ cells cells′ : List ℕ} → o ≡ o′ → steps ≡ steps′ → cells ≡ cells′ → runReport o steps cells ≡ runReport o′ steps′ cells′
 ap₃ p q r = λ i. runReport (p i) (q i) (r i)
 
-module _ (table ends : List ℕ) (threads limit : ℕ) (words cells log output : List ℕ) (asks : Asks table ends threads limit words cells log output) where
+module _ (table ends : List ℕ) (threads limit : ℕ) (words cells log records output : List ℕ)
+    (asks : Asks table ends threads limit words cells log records output) where
   pub placed-length : (placed : List ℕ) → placed ≡ over words cells → length placed ≡ length cells
   placed-length placed p = ap length p ∙ over-length words cells (omega (arith, asks .fewCells, asks .cellsLent))
 
   -- All counts are there.
-  pub counts-long : (memory : List ℕ) {o : Outcome} {ys zs counts : List ℕ} → RunIs (lockstep (rowsOf table) threads memory limit) o ys zs counts
-      → length counts ≡ 32
+  pub counts-long : (memory : List ℕ) {o : Outcome} {ys zs ws counts : List ℕ}
+      → RunIs (lockstep (rowsOf table) threads memory limit) (intervalRecords (rowsOf table) threads memory limit) records o ys zs ws counts → length counts ≡ 32
   counts-long memory run =
       ap length (run .counts-are)
       ∙ over-length _ (replicate 32 0) (omega (arith, steps-size (rowsOf table) threads memory limit, asks .fewThreads, length-replicate {A = ℕ} 32 0))
       ∙ length-replicate {A = ℕ} 32 0
 
   -- The buffers: the words placed, the fronts and the step counts that the run gave back, the report written.
-  module _ (placed ys zs counts out : List ℕ) (o : Outcome) (r : Written) (p : placed ≡ over words cells) (ly : length ys ≡ length words)
+  module _ (placed ys zs ws counts out : List ℕ) (o : Outcome) (r : Written) (p : placed ≡ over words cells) (ly : length ys ≡ length words)
       (lz : length zs ≡ logPerCell * length words) where
     abbrev launch : Launch
     launch = launchOf table threads limit words
@@ -72,13 +74,16 @@ module _ (table ends : List ℕ) (threads limit : ℕ) (words cells log output :
     abbrev steps : List ℕ
     steps = take threads counts
 
-    pub reported : RunIs (lockstep (rowsOf table) threads (take (length words) placed) limit) o ys zs counts
+    pub reported : RunIs (lockstep (rowsOf table) threads (take (length words) placed) limit)
+        (intervalRecords (rowsOf table) threads (take (length words) placed) limit) records o ys zs ws counts
         → r ≡ writerAnswer (ran o) steps front output → out ≡ writerBuffer (ran o) steps front output → FitsOutput (ran o) steps front
-        → ReportedLaunch launch cells log output r (ys ++ drop (length words) placed) (zs ++ drop (logPerCell * length words) log) out
-    unfolding launchRun launchReport
+        → ReportedLaunch launch cells log records output r (ys ++ drop (length words) placed) (zs ++ drop (logPerCell * length words) log) ws out
+    unfolding launchRun launchIntervals launchOutcome launchReport
     reported run answer buffer fits =
         let same : lockstep (rowsOf table) threads (take (length words) placed) limit ≡ launchRun launch = ap
         (λ (w : List ℕ). lockstep (rowsOf table) threads w limit) (front-of words cells placed p) in
+        let records-same : intervalRecords (rowsOf table) threads (take (length words) placed) limit ≡ launchIntervals launch = ap
+        (λ (w : List ℕ). intervalRecords (rowsOf table) threads w limit) (front-of words cells placed p) in
         let kept : front ≡ ys = front-kept (length words) ys _ ly in
         let few : length front ≡ length words = ap length kept ∙ ly in
         let ran-steps : steps ≡ launchRun launch .state .steps = counts-front counts (launchRun launch .state .steps) (replicate 32 0)
@@ -86,7 +91,7 @@ module _ (table ends : List ℕ) (threads limit : ℕ) (words cells log output :
         let every : length steps ≡ threads = ap length ran-steps ∙ steps-size (rowsOf table) threads words limit in
         let none = accepted o steps front output (omega (arith, every, asks .someThread)) (omega (arith, every, asks .fewThreads))
         (omega (arith, few, asks .someCell)) (omega (arith, few, asks .fewCells)) (asks .outputLent) fits in
-        let whole : runReport o steps front ≡ launchReport launch = ap₃ (run .outcome-is ∙ ap outcomeOf same) ran-steps
+        let whole : runReport o steps front ≡ launchReport launch = ap₃ (run .outcome-is ∙ ap₂ (λ x is. outcomeOf x (conflictsOf is)) same records-same) ran-steps
         (kept ∙ run .cells-are ∙ ap (λ (x : LockResult). x .state .cells) same) in
         record {
           answered = answer ∙ wrote o steps front output none ∙ ap (λ (w : List ℕ). Wrote (length w)) whole;
@@ -94,5 +99,6 @@ module _ (table ends : List ℕ) (threads limit : ℕ) (words cells log output :
               ∙ ap (λ (w : List ℕ). over w cells) (run .cells-are ∙ ap (λ (x : LockResult). x .state .cells) same);
           log-left = given-back (logPerCell * length words) zs log lz
               ∙ ap (λ (w : List ℕ). over w log) (run .log-is ∙ ap (λ (x : LockResult). logWords (x .state .log)) same);
+          records-left = run .records-are ∙ ap (λ is. over (recordWords is) records) records-same;
           report-written = buffer ∙ written o steps front output none ∙ ap (λ (w : List ℕ). over w output) whole;
         }

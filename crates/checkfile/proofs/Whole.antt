@@ -18,7 +18,9 @@ use Rattle.spec.specs.TableCheck.{tableRefusal}
 use Rattle.spec.specs.Log.{logWords}
 use Rattle.spec.specs.LaunchFile.{Launch, Checked, Read, stop, read, refused, accepted, unlessRefused, checkedTable, fileLaunch}
 use Rattle.spec.specs.Entries.{fileLent, andState, fileChecked, launchRun, launchReport, reportLength, ifAccepted, fileAnswer, fileCellsAfter}
-use Rattle.spec.specs.Entries.{fileLogAfter, fileOutputAfter, checkedRefusal, over, checkPrints}
+use Rattle.spec.specs.Entries.{fileLogAfter, fileRecordsAfter, fileOutputAfter, checkedRefusal, over, checkPrints, launchIntervals}
+use Rattle.spec.specs.Limits.{recordsLent}
+use Rattle.spec.specs.Intervals.{recordWords}
 use Rattle.spec.specs.Demands.{ReportDemand3, FileReadable, OfWritten}
 use Rattle.spec.proofs.Laws.{front-of}
 use Rattle.structure.proofs.Refusals.{unless-none, orElse-none}
@@ -105,27 +107,34 @@ module _ (file : List ℕ) (p : Parsed) (h : ParsedIs file p) where
     pub whole-rows : (length (tableBytes p) % 4 ≡ 0) × (length (tableBytes p) ≤ 4 * 256)
     whole-rows = (omega (arith, table-length), omega (arith, table-length, of-file .within .fewRows))
 
-pub lent-is : (held logged room : ℕ) → fileLent held logged room ≡ none → (held ≡ 1024) × ((logged ≡ 3072) × (17408 ≤ room))
+pub lent-is : (held logged recorded room : ℕ) → fileLent held logged recorded room ≡ none
+    → (held ≡ 1024) × (logged ≡ 3072) × (recordsLent ≤ recorded) × (17408 ≤ room)
 unfolding fileLent first
-lent-is held logged room e =
+lent-is held logged recorded room e =
     let a = orElse-none _ _ .0 e in
     let b = orElse-none _ _ .0 (a .1) in
     let c = orElse-none _ _ .0 (b .1) in
-    (eqb-true _ _ (unless-none _ _ .0 (a .0)), (eqb-true _ _ (unless-none _ _ .0 (b .0)), leb-true _ _ (unless-none _ _ .0 (c .0))))
+    let d = orElse-none _ _ .0 (c .1) in (
+      eqb-true _ _ (unless-none _ _ .0 (a .0)),
+      eqb-true _ _ (unless-none _ _ .0 (b .0)),
+      leb-true _ _ (unless-none _ _ .0 (c .0)),
+      leb-true _ _ (unless-none _ _ .0 (d .0)),
+    )
 
-module _ (file cells log output : List ℕ) where
+module _ (file cells log records output : List ℕ) where
   -- The answer, by its case and by number and place, the buffers, and what may be read from the report.
-  abbrev pub Entry : Written → (cells′ log′ output′ : List ℕ) → Type 0
-  Entry r cells′ log′ output′ =
-      (r ≡ fileAnswer file cells log output)
-      × ((toldIn r ≡ told (checkedRefusal (fileChecked file cells log output)))
-      × ((cells′ ≡ fileCellsAfter file cells log output)
-      × ((log′ ≡ fileLogAfter file cells log output)
-      × ((output′ ≡ fileOutputAfter file cells log output)
-      × (OfWritten (FileReadable file) r output′ × OfWritten (ReportDemand3 file) r output′)))))
+  abbrev pub Entry : Written → (cells′ log′ records′ output′ : List ℕ) → Type 0
+  Entry r cells′ log′ records′ output′ =
+      (r ≡ fileAnswer file cells log records output)
+      × ((toldIn r ≡ told (checkedRefusal (fileChecked file cells log records output)))
+      × ((cells′ ≡ fileCellsAfter file cells log records output)
+      × ((log′ ≡ fileLogAfter file cells log records output)
+      × ((records′ ≡ fileRecordsAfter file cells log records output)
+      × ((output′ ≡ fileOutputAfter file cells log records output)
+      × (OfWritten (FileReadable file) r output′ × OfWritten (ReportDemand3 file) r output′))))))
 
   abbrev byState : Option Refusal
-  byState = fileLent (length cells) (length log) (length output)
+  byState = fileLent (length cells) (length log) (length records) (length output)
 
   told-in : (x : Checked Launch) → toldIn (reportLength x) ≡ told (checkedRefusal x)
   unfolding reportLength toldIn told checkedRefusal
@@ -140,61 +149,63 @@ module _ (file cells log output : List ℕ) where
   checked-launch (accepted l) (some why) launch e = absurd (Option·none-ne-some why (sym (ap checkedRefusal e)))
 
   -- What is written is what `check` prints.
-  of-written : (P : List ℕ → Type 0) → P (checkPrints file) → OfWritten P (fileAnswer file cells log output) (fileOutputAfter file cells log output)
+  of-written : (P : List ℕ → Type 0) → P (checkPrints file) → OfWritten P (fileAnswer file cells log records output) (fileOutputAfter file cells log records output)
   unfolding fileAnswer fileOutputAfter fileChecked reportLength ifAccepted
-  of-written P h = by (fileChecked file cells log output) refl
+  of-written P h = by (fileChecked file cells log records output) refl
     where
-      by : (x : Checked Launch) → fileChecked file cells log output ≡ x → OfWritten P (reportLength x) (ifAccepted x output launchReport)
+      by : (x : Checked Launch) → fileChecked file cells log records output ≡ x → OfWritten P (reportLength x) (ifAccepted x output launchReport)
       by (refused why) e = tt
       by (accepted launch) e =
           rw (front-of (launchReport launch) output (over (launchReport launch) output) refl)
           (subst P (launch-printed file launch (checked-launch (fileLaunch file) byState launch e)) h)
 
-  entry : (r : Written) (cells′ log′ output′ : List ℕ) → r ≡ fileAnswer file cells log output → cells′ ≡ fileCellsAfter file cells log output
-      → log′ ≡ fileLogAfter file cells log output → output′ ≡ fileOutputAfter file cells log output → Entry r cells′ log′ output′
+  entry : (r : Written) (cells′ log′ records′ output′ : List ℕ) → r ≡ fileAnswer file cells log records output → cells′ ≡ fileCellsAfter file cells log records output
+      → log′ ≡ fileLogAfter file cells log records output → records′ ≡ fileRecordsAfter file cells log records output → output′ ≡ fileOutputAfter file cells log records output → Entry r cells′ log′ records′ output′
   unfolding fileAnswer
-  entry r cells′ log′ output′ a c l o =
+  entry r cells′ log′ records′ output′ a c l w o =
       let written : (P : List ℕ → Type 0) → P (checkPrints file) → OfWritten P r output′ = λ P h. rw (a, o) (of-written P h) in (
         a,
         (
-          ap toldIn a ∙ told-in (fileChecked file cells log output),
-          (c, (l, (o, (written (FileReadable file) (file-readable file), written (ReportDemand3 file) (report-demand3 file))))),
+          ap toldIn a ∙ told-in (fileChecked file cells log records output),
+          (c, (l, (w, (o, (written (FileReadable file) (file-readable file), written (ReportDemand3 file) (report-demand3 file)))))),
         ),
       )
 
-  turned-back : (why : Refusal) → fileChecked file cells log output ≡ refused why → Entry (written.Refused why) cells log output
-  unfolding fileAnswer fileCellsAfter fileLogAfter fileOutputAfter reportLength ifAccepted
+  turned-back : (why : Refusal) → fileChecked file cells log records output ≡ refused why → Entry (written.Refused why) cells log records output
+  unfolding fileAnswer fileCellsAfter fileLogAfter fileRecordsAfter fileOutputAfter reportLength ifAccepted
   turned-back why e =
-      entry (written.Refused why) cells log output (sym (ap reportLength e))
+      entry (written.Refused why) cells log records output (sym (ap reportLength e))
       (sym (ap (λ x. ifAccepted x cells (λ launch. launchRun launch .state .cells)) e))
-      (sym (ap (λ x. ifAccepted x log (λ launch. logWords (launchRun launch .state .log))) e)) (sym (ap (λ x. ifAccepted x output launchReport) e))
+      (sym (ap (λ x. ifAccepted x log (λ launch. logWords (launchRun launch .state .log))) e))
+      (sym (ap (λ x. ifAccepted x records (λ launch. recordWords (launchIntervals launch))) e)) (sym (ap (λ x. ifAccepted x output launchReport) e))
 
   -- From the input, and from the state.
-  pub file-refuses : (why : Refusal) → fileLaunch file ≡ refused why → Entry (written.Refused why) cells log output
+  pub file-refuses : (why : Refusal) → fileLaunch file ≡ refused why → Entry (written.Refused why) cells log records output
   unfolding fileChecked andState
   file-refuses why e = turned-back why (ap (λ x. andState x byState) e)
 
-  pub state-refuses : (launch : Launch) (why : Refusal) → fileLaunch file ≡ accepted launch → byState ≡ some why → Entry (written.Refused why) cells log output
+  pub state-refuses : (launch : Launch) (why : Refusal) → fileLaunch file ≡ accepted launch → byState ≡ some why → Entry (written.Refused why) cells log records output
   unfolding fileChecked andState unlessRefused
   state-refuses launch why e q = turned-back why (ap₂ andState e q)
 
-  pub ran : (launch : Launch) (r : Written) (cells′ log′ output′ : List ℕ) → fileLaunch file ≡ accepted launch → byState ≡ none
-      → ReportedLaunch launch cells log output r cells′ log′ output′ → Entry r cells′ log′ output′
-  unfolding fileChecked andState unlessRefused fileAnswer fileCellsAfter fileLogAfter fileOutputAfter reportLength ifAccepted
-  ran launch r cells′ log′ output′ e q d =
-      let taken : fileChecked file cells log output ≡ accepted launch = ap₂ andState e q in
-      entry r cells′ log′ output′ (d .answered ∙ sym (ap reportLength taken))
+  pub ran : (launch : Launch) (r : Written) (cells′ log′ records′ output′ : List ℕ) → fileLaunch file ≡ accepted launch → byState ≡ none
+      → ReportedLaunch launch cells log records output r cells′ log′ records′ output′ → Entry r cells′ log′ records′ output′
+  unfolding fileChecked andState unlessRefused fileAnswer fileCellsAfter fileLogAfter fileRecordsAfter fileOutputAfter reportLength ifAccepted
+  ran launch r cells′ log′ records′ output′ e q d =
+      let taken : fileChecked file cells log records output ≡ accepted launch = ap₂ andState e q in
+      entry r cells′ log′ records′ output′ (d .answered ∙ sym (ap reportLength taken))
       (d .cells-left ∙ sym (ap (λ x. ifAccepted x cells (λ l. launchRun l .state .cells)) taken))
       (d .log-left ∙ sym (ap (λ x. ifAccepted x log (λ l. logWords (launchRun l .state .log))) taken))
+      (d .records-left ∙ sym (ap (λ x. ifAccepted x records (λ l. recordWords (launchIntervals l))) taken))
       (d .report-written ∙ sym (ap (λ x. ifAccepted x output launchReport) taken))
 
   -- What running the launch asks.
   pub asked : (p : Parsed) (h : ParsedIs file p) (e : p .answer ≡ admission.Accepted) (loopEnds : List ℕ) → tableRefusal (rowsOf (tableBytes p)) ≡ none
       → ((i : ℕ) → i < 256 → getD loopEnds i 0 ≡ endAt (rowsOf (tableBytes p)) i) → byState ≡ none
-      → Asks (tableBytes p) loopEnds (p .launch .threads) (p .launch .limit) (cellWords p) cells log output
+      → Asks (tableBytes p) loopEnds (p .launch .threads) (p .launch .limit) (cellWords p) cells log records output
   asked p h e loopEnds t f q =
       let w = of-file file p h e .within in
-      let l = lent-is (length cells) (length log) (length output) q in
+      let l = lent-is (length cells) (length log) (length records) (length output) q in
       record {
         checked = runnable (tableBytes p) loopEnds (whole-rows file p h e .1) t f;
         someThread = w .someThread;
@@ -203,6 +214,7 @@ module _ (file cells log output : List ℕ) where
         someCell = omega (arith, words-length file p h e, w .someCell);
         fewCells = omega (arith, words-length file p h e, w .fewCells);
         cellsLent = l .0;
-        logLent = l .1 .0;
-        outputLent = l .1 .1;
+        logLent = l .1;
+        recordsLent = l .2;
+        outputLent = l .3;
       }

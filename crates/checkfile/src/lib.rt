@@ -6,7 +6,7 @@ ghost use mathlib.Core.Path.{_≡_};
 ghost use Prim.Native.Nat.{_≤_};
 ghost use lib.ListN.{length};
 ghost use Rattle.spec.specs.Answers.{told, toldIn};
-ghost use Rattle.spec.specs.Entries.{over, checkedRefusal, fileChecked, fileAnswer, fileCellsAfter, fileLogAfter, fileOutputAfter};
+ghost use Rattle.spec.specs.Entries.{over, checkedRefusal, fileChecked, fileAnswer, fileCellsAfter, fileLogAfter, fileRecordsAfter, fileOutputAfter};
 ghost use Rattle.spec.specs.Demands.{ReportDemand3, FileReadable, OfWritten};
 ghost use Rattle.checkfile.specs.Reported.{Asks, Reported};
 
@@ -31,11 +31,12 @@ fn run_launch(
     words: &[u32],
     cells: &mut [u32],
     log: &mut [u32],
+    records: &mut [u32],
     output: &mut [u8],
 ) -> Written
-    requires { ⌜ Asks (now table) (now ends) threads limit (now words) (now cells) (now log) (now output) ⌝ }
-    ensures { λ r. ⌜ Reported (now (table .entry)) threads limit (now (words .entry)) (now (cells .entry)) (now (log .entry)) (now (output .entry)) r
-        (now (cells .exit)) (now (log .exit)) (now (output .exit)) ⌝ }
+    requires { ⌜ Asks (now table) (now ends) threads limit (now words) (now cells) (now log) (now records) (now output) ⌝ }
+    ensures { λ r. ⌜ Reported (now (table .entry)) threads limit (now (words .entry)) (now (cells .entry)) (now (log .entry)) (now (records .entry))
+        (now (output .entry)) r (now (cells .exit)) (now (log .exit)) (now (records .exit)) (now (output .exit)) ⌝ }
 {
     let count = words.len();
     let logged = 3 * count;
@@ -49,6 +50,7 @@ fn run_launch(
         limit,
         &mut cells[..count],
         &mut log[..logged],
+        records,
         &mut steps,
     );
     report::write_report(
@@ -59,14 +61,21 @@ fn run_launch(
     )
 }
 
-// The entry for whoever has a launch file. The lent cells are 1,024 words, the log 3,072, the output 17,408 bytes or
-// more. A refusal leaves all three as they were lent.
-pub fn check_file(file: &[u8], cells: &mut [u32], log: &mut [u32], output: &mut [u8]) -> Written
-    ensures answer { λ r. ⌜ r ≡ fileAnswer (now (file .entry)) (now (cells .entry)) (now (log .entry)) (now (output .entry)) ⌝ }
-    ensures refusal { λ r. ⌜ toldIn r ≡ told (checkedRefusal (fileChecked (now (file .entry)) (now (cells .entry)) (now (log .entry)) (now (output .entry)))) ⌝ }
-    ensures cells { λ _. ⌜ now (cells .exit) ≡ fileCellsAfter (now (file .entry)) (now (cells .entry)) (now (log .entry)) (now (output .entry)) ⌝ }
-    ensures log { λ _. ⌜ now (log .exit) ≡ fileLogAfter (now (file .entry)) (now (cells .entry)) (now (log .entry)) (now (output .entry)) ⌝ }
-    ensures output { λ _. ⌜ now (output .exit) ≡ fileOutputAfter (now (file .entry)) (now (cells .entry)) (now (log .entry)) (now (output .entry)) ⌝ }
+// The entry for whoever has a launch file. The lent cells are 1,024 words, the log 3,072, the records 3,075 or more, the output
+// 17,408 bytes or more. A refusal leaves all four as they were lent.
+pub fn check_file(
+    file: &[u8],
+    cells: &mut [u32],
+    log: &mut [u32],
+    records: &mut [u32],
+    output: &mut [u8],
+) -> Written
+    ensures answer { λ r. ⌜ r ≡ fileAnswer (now (file .entry)) (now (cells .entry)) (now (log .entry)) (now (records .entry)) (now (output .entry)) ⌝ }
+    ensures refusal { λ r. ⌜ toldIn r ≡ told (checkedRefusal (fileChecked (now (file .entry)) (now (cells .entry)) (now (log .entry)) (now (records .entry)) (now (output .entry)))) ⌝ }
+    ensures cells { λ _. ⌜ now (cells .exit) ≡ fileCellsAfter (now (file .entry)) (now (cells .entry)) (now (log .entry)) (now (records .entry)) (now (output .entry)) ⌝ }
+    ensures log { λ _. ⌜ now (log .exit) ≡ fileLogAfter (now (file .entry)) (now (cells .entry)) (now (log .entry)) (now (records .entry)) (now (output .entry)) ⌝ }
+    ensures records { λ _. ⌜ now (records .exit) ≡ fileRecordsAfter (now (file .entry)) (now (cells .entry)) (now (log .entry)) (now (records .entry)) (now (output .entry)) ⌝ }
+    ensures output { λ _. ⌜ now (output .exit) ≡ fileOutputAfter (now (file .entry)) (now (cells .entry)) (now (log .entry)) (now (records .entry)) (now (output .entry)) ⌝ }
     ensures reads { λ r. ⌜ OfWritten (FileReadable (now (file .entry))) r (now (output .exit)) ⌝ }
     ensures runs { λ r. ⌜ OfWritten (ReportDemand3 (now (file .entry))) r (now (output .exit)) ⌝ }
 {
@@ -88,7 +97,7 @@ pub fn check_file(file: &[u8], cells: &mut [u32], log: &mut [u32], output: &mut 
         Admission::Refused(why) => return Written::Refused(why),
         Admission::Accepted => {}
     }
-    match admission::lent_for_file(cells.len(), log.len(), output.len()) {
+    match admission::lent_for_file(cells.len(), log.len(), records.len(), output.len()) {
         Admission::Refused(why) => return Written::Refused(why),
         Admission::Accepted => {}
     }
@@ -100,6 +109,7 @@ pub fn check_file(file: &[u8], cells: &mut [u32], log: &mut [u32], output: &mut 
         &words[..count],
         cells,
         log,
+        records,
         output,
     )
 }

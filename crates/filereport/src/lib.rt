@@ -35,7 +35,8 @@ pub fn report_file(file: &[u8], output: &mut [u8; 17408]) -> usize
 {
     let mut cells: [u32; 1024] = [0; 1024];
     let mut log: [u32; 3072] = [0; 3072];
-    match checkfile::check_file(file, &mut cells, &mut log, output) {
+    let mut records: [u32; 3075] = [0; 3075];
+    match checkfile::check_file(file, &mut cells, &mut log, &mut records, output) {
         Written::Wrote(size) => size,
         Written::Refused(why) => report_refusal(why, output),
     }

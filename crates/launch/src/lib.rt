@@ -1,13 +1,14 @@
-// The bare launch: a table, its launch's numbers, and lent cells, log and step counts.
+// The bare launch: a table, its launch's numbers, and lent cells, log, records and step counts.
 use admission::Admission;
 use spec::Answer;
 ghost use mathlib.Core.Path.{_≡_};
 ghost use Rattle.spec.specs.Answers.{told, toldBy};
-ghost use Rattle.spec.specs.Entries.{bareRefusal, bareAnswer, bareCells, bareLog, bareSteps};
+ghost use Rattle.spec.specs.Entries.{bareRefusal, bareAnswer, bareCells, bareLog, bareRecords, bareSteps};
 ghost use Rattle.spec.specs.Demands.{BareDemand3};
 
 // The entry for whoever has a table without a file: `count` is the number of cells, which are lent in `cells`
-// with the launch's words. `steps` gets the steps of each thread, 0 behind the last one. A refusal leaves all three as they were lent.
+// with the launch's words. `records` gets three words for each barrier interval: the row due at its start, its rows, its cost; what stands behind them
+// is kept. `steps` gets the steps of each thread, 0 behind the last one. A refusal leaves all four as they were lent.
 pub fn bare_launch(
     table: &[u8],
     threads: u32,
@@ -15,13 +16,15 @@ pub fn bare_launch(
     limit: u32,
     cells: &mut [u32],
     log: &mut [u32],
+    records: &mut [u32],
     steps: &mut [u32; 32],
 ) -> Answer
-    ensures answer { λ r. ⌜ r ≡ bareAnswer (now (table .entry)) threads count limit (now (cells .entry)) (now (log .entry)) ⌝ }
-    ensures refusal { λ r. ⌜ toldBy r ≡ told (bareRefusal (now (table .entry)) threads count limit (now (cells .entry)) (now (log .entry))) ⌝ }
-    ensures cells { λ _. ⌜ now (cells .exit) ≡ bareCells (now (table .entry)) threads count limit (now (cells .entry)) (now (log .entry)) ⌝ }
-    ensures log { λ _. ⌜ now (log .exit) ≡ bareLog (now (table .entry)) threads count limit (now (cells .entry)) (now (log .entry)) ⌝ }
-    ensures steps { λ _. ⌜ now (steps .exit) ≡ bareSteps (now (table .entry)) threads count limit (now (cells .entry)) (now (log .entry)) (now (steps .entry)) ⌝ }
+    ensures answer { λ r. ⌜ r ≡ bareAnswer (now (table .entry)) threads count limit (now (cells .entry)) (now (log .entry)) (now (records .entry)) ⌝ }
+    ensures refusal { λ r. ⌜ toldBy r ≡ told (bareRefusal (now (table .entry)) threads count limit (now (cells .entry)) (now (log .entry)) (now (records .entry))) ⌝ }
+    ensures cells { λ _. ⌜ now (cells .exit) ≡ bareCells (now (table .entry)) threads count limit (now (cells .entry)) (now (log .entry)) (now (records .entry)) ⌝ }
+    ensures log { λ _. ⌜ now (log .exit) ≡ bareLog (now (table .entry)) threads count limit (now (cells .entry)) (now (log .entry)) (now (records .entry)) ⌝ }
+    ensures records { λ _. ⌜ now (records .exit) ≡ bareRecords (now (table .entry)) threads count limit (now (cells .entry)) (now (log .entry)) (now (records .entry)) ⌝ }
+    ensures steps { λ _. ⌜ now (steps .exit) ≡ bareSteps (now (table .entry)) threads count limit (now (cells .entry)) (now (log .entry)) (now (records .entry)) (now (steps .entry)) ⌝ }
     ensures runs { λ r. ⌜ BareDemand3 (now (table .entry)) threads limit (now (cells .entry)) r (now (cells .exit)) (now (steps .exit)) ⌝ }
 {
     match admission::numbers(table.len(), threads, count, limit) {
@@ -35,9 +38,9 @@ pub fn bare_launch(
         Admission::Refused(why) => return Answer::Refused(why),
         Admission::Accepted => {}
     }
-    match admission::lent(count, cells.len(), log.len()) {
+    match admission::lent(count, cells.len(), log.len(), records.len()) {
         Admission::Refused(why) => return Answer::Refused(why),
         Admission::Accepted => {}
     }
-    Answer::Ran(run::run(table, &ends, threads, limit, cells, log, steps))
+    Answer::Ran(run::run(table, &ends, threads, limit, cells, log, records, steps))
 }

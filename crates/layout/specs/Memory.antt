@@ -146,6 +146,10 @@ AccessOne op t d a regs cells log r regs′ cells′ log′ =
     (n : ℕ) (m : Mem) (x : Row) → opOf op ≡ MEM m → t < n → x .d ≡ d → x .a ≡ a
     → OneTurn (accessTurn (shapeBy n cells) m x) n t regs cells log r regs′ cells′ log′
 
+-- A cell that an access was made of is one of the cells.
+abbrev pub Inside : (x : ℕ) → (cells : List ℕ) → Access → Type 0
+Inside x cells r = r ≡ Done → x < length cells
+
 abbrev pub AccessAll : (op n mask d a : ℕ) → (regs cells log : List ℕ) → Turns → (regs′ cells′ log′ : List ℕ) → Type 0
 AccessAll op n mask d a regs cells log r regs′ cells′ log′ =
     (m : Mem) (x : Row) → opOf op ≡ MEM m → x .d ≡ d → x .a ≡ a
@@ -180,3 +184,7 @@ pub record CellNumber (op d a t : ℕ) (regs : List ℕ) (x : ℕ) : Type 0 wher
   pub register : ℕ
   pub in-register : CellRegister op d a register
   pub word : x ≡ getD regs (register * 32 + t) 0
+
+-- The cell of thread t in an access row, by the registers that the row finds.
+unfoldable pub cellIn : (op d a : ℕ) → (regs : List ℕ) → (t : ℕ) → ℕ
+cellIn op d a regs t = getD regs (cond (eqb op 16) a d * 32 + t) 0

@@ -12,6 +12,7 @@ use Rattle.spec.specs.TableCheck.{tableRefusal}
 use Rattle.spec.specs.Limits.{logPerCell}
 use Rattle.spec.specs.Log.{logWords}
 use Rattle.spec.specs.LockStep.{LockState, runRow, LockResult, outcomeOf}
+use Rattle.spec.specs.Intervals.{Interval, recordWords, conflictsOf}
 use Rattle.spec.specs.Entries.{over}
 use Rattle.layout.specs.declared.State.{State}
 use Rattle.layout.specs.declared.Next.{Next}
@@ -70,11 +71,13 @@ pub record Steps (table : List ℕ) (n : ℕ) (s : State) (regs cells log saved 
   pub saved-are : saved′ ≡ savedAfter (getD table (s .row * 4) 0) s saved openers
   pub openers-are : openers′ ≡ openersAfter (getD table (s .row * 4) 0) s openers
 
--- What the run comes to: the answer, the cells, the log and the step counts are those of the definition's result o.
-pub record RunIs (o : LockResult) (r : Outcome) (cells log counts : List ℕ) : Type 0 where
-  pub outcome-is : r ≡ outcomeOf o
+-- What the run comes to: the answer, the cells, the log and the step counts are those of the definition's result o, and the lent list holds the records
+-- of its intervals.
+pub record RunIs (o : LockResult) (intervals : List Interval) (lent : List ℕ) (r : Outcome) (cells log records counts : List ℕ) : Type 0 where
+  pub outcome-is : r ≡ outcomeOf o (conflictsOf intervals)
   pub cells-are : cells ≡ o .state .cells
   pub log-is : log ≡ logWords (o .state .log)
+  pub records-are : records ≡ over (recordWords intervals) lent
   pub counts-are : counts ≡ over (o .state .steps) (replicate 32 0)
 
 -- The state at the start, with the mask of all threads.
@@ -82,5 +85,5 @@ abbrev pub startState : (all : ℕ) → State
 startState all = record { reach = 0; row = 0; mask = all; depth = 0; rows = 0; since = 0; barriers = 0 }
 
 -- The answer of a run that has ended in this state.
-abbrev pub endedAs : Verdict → State → Outcome
-endedAs v s = record { verdict = v; row = s .row; rows = s .rows; barriers = s .barriers }
+abbrev pub endedAs : Verdict → State → (conflicts : ℕ) → Outcome
+endedAs v s conflicts = record { verdict = v; row = s .row; rows = s .rows; barriers = s .barriers; conflicts = conflicts }

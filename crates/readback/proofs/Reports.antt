@@ -1,10 +1,11 @@
 -- What is read from the report of a run, and of a refusal. Assumes nothing.
 use mathlib.Core.Path.{_≡_, refl, sym, ap, ap₂, _∙_}
 use mathlib.Core.List.{List, [], _∷_, _++_, map, append-assoc, append-nil, map-append}
-use mathlib.Core.Bool.{Bool, true, false, cond, false≢true, _&&_, _||_, and-true, and-false}
+use mathlib.Core.Bool.{Bool, true, false, cond, not, false≢true, _&&_, _||_, and-true, and-false, and-eq-true-iff}
 use mathlib.Core.Option.{Option, some}
 use Prim.Native.Nat.{ℕ}
 use Prim.Native.String.{String}
+use borrow.Author.Tests.{not-true}
 use lib.ListN.{take}
 use Rattle.spec.specs.declared.Outcome.{Outcome}
 use Rattle.spec.specs.declared.Subject.{Subject}
@@ -14,7 +15,7 @@ use Rattle.spec.specs.declared.Verdict.{Verdict}
 use Rattle.spec.specs.declared.Verdict.the-variants.{Passed, Race, Outside, Diverged, Spent}
 use Rattle.spec.specs.Lists.{anyOf, every, equalList}
 use Rattle.spec.specs.Text.{text, decimal, equals}
-use Rattle.spec.specs.Report.{Line, _is_, verdictText, valueText, bytesOf, headWith, headLines, barriersLine, eachLine, endLine, runLines, runReport}
+use Rattle.spec.specs.Report.{Line, _is_, verdictText, valueText, bytesOf, headWith, headLines, intervalLines, eachLine, endLine, runLines, runReport}
 use Rattle.spec.specs.Report.{refusalLines, refusalReport, reportOf}
 use Rattle.spec.specs.Reading.{linesIn, isLine, hasLine, isFirst, beginsWith, numberIn, numbersAt, EndsOnce, isPassed, hasPassed, installs, Readable}
 use Rattle.readback.proofs.Numbers.{every-append, number-back}
@@ -22,13 +23,17 @@ use Rattle.readback.proofs.Clean.{noNewline}
 use Rattle.readback.proofs.Back.{inKey, keyed, lineText, lines-back, saidBy, numbers-back}
 use Rattle.readback.proofs.Ends.{cut-off}
 
--- The lines of a run's report behind its head, up to the last, and then these. The line of the barriers is a key with one number.
-abbrev behind : Outcome → (steps cells : List ℕ) → List Line → List Line
-behind o steps cells last =
-    eachLine (text "steps") steps ++ (eachLine (text "barriers") (o .barriers ∷ []) ++ (eachLine (text "cell") cells ++ last))
+-- The lines of a run's report behind its head, up to the last: each key with its numbers, of which the keys about intervals have one each.
+abbrev keyNumbers : Outcome → (steps cells : List ℕ) → List (String × List ℕ)
+keyNumbers o steps cells = ("steps", steps) ∷ ("barriers", o .barriers ∷ []) ∷ ("conflicts", o .conflicts ∷ []) ∷ ("cell", cells) ∷ []
 
-run-lines : (o : Outcome) (steps cells : List ℕ) → runLines o steps cells ≡ headLines o ++ behind o steps cells (endLine ∷ [])
-unfolding runLines barriersLine eachLine _is_
+-- Such lines, and then these.
+unfoldable linesOf : List (String × List ℕ) → List Line → List Line
+linesOf [] rest = rest
+linesOf (k ∷ ks) rest = eachLine (text (k .0)) (k .1) ++ linesOf ks rest
+
+run-lines : (o : Outcome) (steps cells : List ℕ) → runLines o steps cells ≡ headLines o ++ linesOf (keyNumbers o steps cells) (endLine ∷ [])
+unfolding runLines intervalLines eachLine _is_ linesOf
 run-lines o steps cells = refl
 
 -- The keys of reports are such that each line is read as it was written.
@@ -46,12 +51,19 @@ unfolding every keyed eachLine
 each-keyed key k [] rest e = e
 each-keyed key k (n ∷ ns) rest e = rw k (each-keyed key k ns rest e)
 
+all-keyed : (ks : List (String × List ℕ)) → every (λ k. every inKey (text (k .0))) ks ≡ true → (rest : List Line) → every keyed rest ≡ true
+    → every keyed (linesOf ks rest) ≡ true
+unfolding every linesOf
+all-keyed [] h rest e = e
+all-keyed (k ∷ ks) h rest e =
+    let t = and-eq-true-iff (every inKey (text (k .0))) _ .0 h in
+    each-keyed (k .0) (t .0) (k .1) _ (all-keyed ks (t .1) rest e)
+
 run-keyed : (o : Outcome) (steps cells : List ℕ) → every keyed (runLines o steps cells) ≡ true
 unfolding every inKey noNewline text
 run-keyed o steps cells =
     ap (every keyed) (run-lines o steps cells)
-    ∙ every-append keyed (headLines o) _ (head-keyed o)
-    (each-keyed "steps" refl steps _ (each-keyed "barriers" refl (o .barriers ∷ []) _ (each-keyed "cell" refl cells _ end-keyed)))
+    ∙ every-append keyed (headLines o) _ (head-keyed o) (all-keyed (keyNumbers o steps cells) refl _ end-keyed)
 
 refusal-keyed : (number place : ℕ) → every keyed (refusalLines number place) ≡ true
 unfolding every keyed inKey noNewline refusalLines endLine _is_ text
@@ -66,22 +78,32 @@ any-append p (x ∷ xs) ys = by (p x) (any-append p xs ys)
     by true e = refl
     by false e = e
 
--- A test that no line with this key and a number passes. Where the keys of a run's report are such, only the head and the last line can pass it.
-abbrev NoNumber : (p : List ℕ → Bool) → (key : String) → Type 0
-NoNumber p key = (n : ℕ) → p (lineText (key is value.Number n)) ≡ false
+-- A test that no line with one of these keys and a number passes. Where the keys of a run's report are such, only the head and the last line can pass it.
+abbrev failing : (p : List ℕ → Bool) → (n : ℕ) → (key : String) → Bool
+failing p n key = not (p (lineText (key is value.Number n)))
+
+abbrev NoNumber : (p : List ℕ → Bool) → List (String × List ℕ) → Type 0
+NoNumber p ks = (n : ℕ) → every (λ k. failing p n (k .0)) ks ≡ true
 
 module _ (p : List ℕ → Bool) where
-  each-fails : (key : String) → NoNumber p key → (ns : List ℕ) (rest : List Line) → anyOf p (map lineText (eachLine (text key) ns ++ rest)) ≡ anyOf p (map lineText rest)
+  each-fails : (key : String) → ((n : ℕ) → failing p n key ≡ true) → (ns : List ℕ) (rest : List Line)
+      → anyOf p (map lineText (eachLine (text key) ns ++ rest)) ≡ anyOf p (map lineText rest)
   unfolding anyOf eachLine _is_
   each-fails key fails [] rest = refl
-  each-fails key fails (n ∷ ns) rest = rw (fails n) (each-fails key fails ns rest)
+  each-fails key fails (n ∷ ns) rest = rw (not-true (p (lineText (key is value.Number n))) (fails n)) (each-fails key fails ns rest)
 
-  any-line : NoNumber p "steps" → NoNumber p "barriers" → NoNumber p "cell" → (o : Outcome) (steps cells : List ℕ) (last : List Line)
-      → anyOf p (map lineText (headLines o ++ behind o steps cells last)) ≡ (anyOf p (map lineText (headLines o)) || anyOf p (map lineText last))
-  any-line s b c o steps cells last =
-      ap (anyOf p) (map-append lineText (headLines o) (behind o steps cells last)) ∙ any-append p (map lineText (headLines o)) _
-      ∙ ap (λ x. anyOf p (map lineText (headLines o)) || x)
-      (each-fails "steps" s steps _ ∙ each-fails "barriers" b (o .barriers ∷ []) _ ∙ each-fails "cell" c cells last)
+  all-fail : (ks : List (String × List ℕ)) → NoNumber p ks → (rest : List Line) → anyOf p (map lineText (linesOf ks rest)) ≡ anyOf p (map lineText rest)
+  unfolding linesOf every
+  all-fail [] fails rest = refl
+  all-fail (k ∷ ks) fails rest =
+      each-fails (k .0) (λ n. and-eq-true-iff (failing p n (k .0)) _ .0 (fails n) .0) (k .1) _
+      ∙ all-fail ks (λ n. and-eq-true-iff (failing p n (k .0)) _ .0 (fails n) .1) rest
+
+  any-line : (o : Outcome) (ks : List (String × List ℕ)) → NoNumber p ks → (rest : List Line)
+      → anyOf p (map lineText (headLines o ++ linesOf ks rest)) ≡ (anyOf p (map lineText (headLines o)) || anyOf p (map lineText rest))
+  any-line o ks fails rest =
+      ap (anyOf p) (map-append lineText (headLines o) (linesOf ks rest)) ∙ any-append p (map lineText (headLines o)) _
+      ∙ ap (λ x. anyOf p (map lineText (headLines o)) || x) (all-fail ks fails rest)
 
 -- Lines that end in `end=report`, which is none of those before.
 ends-once : (ls : List Line) → every keyed (ls ++ (endLine ∷ [])) ≡ true → anyOf (isLine "end=report") (map lineText ls) ≡ false
@@ -96,17 +118,17 @@ ends-once ls e f =
     }
 
 run-ends : (o : Outcome) (steps cells : List ℕ) → EndsOnce (runReport o steps cells)
-unfolding runReport anyOf isLine equalList lineText headLines headWith _is_ text
+unfolding runReport anyOf isLine equalList lineText headLines headWith _is_ text linesOf every
 run-ends o steps cells = rw (sym same) (ends-once front (ap (every keyed) same ∙ run-keyed o steps cells) no-end)
   where
     front : List Line
-    front = headLines o ++ behind o steps cells []
+    front = headLines o ++ linesOf (keyNumbers o steps cells) []
 
     same : front ++ (endLine ∷ []) ≡ runLines o steps cells
     same = simp append-assoc (sym (run-lines o steps cells))
 
     no-end : anyOf (isLine "end=report") (map lineText front) ≡ false
-    no-end = any-line (isLine "end=report") (λ n. refl) (λ n. refl) (λ n. refl) o steps cells []
+    no-end = any-line (isLine "end=report") o (keyNumbers o steps cells) (λ n. refl) []
 
 refusal-ends : (number place : ℕ) → EndsOnce (refusalReport number place)
 unfolding refusalReport refusalLines anyOf isLine equalList lineText _is_ text
@@ -145,10 +167,10 @@ or-none false = refl
 
 -- `verdict=passed` stands nowhere else.
 anywhere : (o : Outcome) (steps cells : List ℕ) → hasLine "verdict=passed" (runReport o steps cells) ≡ isPassed (o .verdict)
-unfolding hasLine headLines headWith endLine _is_ anyOf isLine equalList lineText valueText verdictLine text
+unfolding hasLine headLines headWith endLine _is_ anyOf isLine equalList lineText valueText verdictLine text every
 anywhere o steps cells =
     ap (anyOf (isLine "verdict=passed")) (run-read o steps cells ∙ ap (map lineText) (run-lines o steps cells))
-    ∙ any-line (isLine "verdict=passed") (λ n. refl) (λ n. refl) (λ n. refl) o steps cells (endLine ∷ [])
+    ∙ any-line (isLine "verdict=passed") o (keyNumbers o steps cells) (λ n. refl) (endLine ∷ [])
     ∙ or-none _ ∙ or-none _ ∙ passed-line (o .verdict)
 
 -- A loader's decision, by where `end=report` stands.
@@ -225,36 +247,44 @@ each-said key own (n ∷ ns) rest = by (equalList (text own) (text key)) (each-s
     by true e = ap₂ (λ (x : Option ℕ) (xs : List (Option ℕ)). x ∷ xs) (number-back n) e
     by false e = e
 
+-- All that such lines say under a key, and then these.
+unfoldable saidUnder : String → List (String × List ℕ) → List (Option ℕ) → List (Option ℕ)
+saidUnder key [] rest = rest
+saidUnder key (k ∷ ks) rest = cond (equalList (text (k .0)) (text key)) (map some (k .1)) [] ++ saidUnder key ks rest
+
+all-said : (key : String) (ks : List (String × List ℕ)) (rest : List Line) → saidBy key (linesOf ks rest) ≡ saidUnder key ks (saidBy key rest)
+unfolding linesOf saidUnder
+all-said key [] rest = refl
+all-said key (k ∷ ks) rest =
+    each-said key (k .0) (k .1) _ ∙ ap (λ xs. cond (equalList (text (k .0)) (text key)) (map some (k .1)) [] ++ xs) (all-said key ks rest)
+
 module _ (key : String) (o : Outcome) (steps cells : List ℕ) where
-  abbrev saidUnder : (own : String) → (ns : List ℕ) → List (Option ℕ)
-  saidUnder own ns = cond (equalList (text own) (text key)) (map some ns) []
+  behind-said : saidBy key (linesOf (keyNumbers o steps cells) (endLine ∷ [])) ≡ saidUnder key (keyNumbers o steps cells) (saidBy key (endLine ∷ []))
+  behind-said = all-said key (keyNumbers o steps cells) (endLine ∷ [])
 
-  behind-said : saidBy key (behind o steps cells (endLine ∷ []))
-      ≡ saidUnder "steps" steps ++ (saidUnder "barriers" (o .barriers ∷ []) ++ (saidUnder "cell" cells ++ saidBy key (endLine ∷ [])))
-  behind-said =
-      each-said key "steps" steps _
-      ∙ ap (λ xs. saidUnder "steps" steps ++ xs)
-      (each-said key "barriers" (o .barriers ∷ []) _ ∙ ap (λ xs. saidUnder "barriers" (o .barriers ∷ []) ++ xs) (each-said key "cell" cells (endLine ∷ [])))
-
-  said-in : numbersAt key (runReport o steps cells) ≡ saidBy key (headLines o ++ behind o steps cells (endLine ∷ []))
+  said-in : numbersAt key (runReport o steps cells) ≡ saidBy key (headLines o ++ linesOf (keyNumbers o steps cells) (endLine ∷ []))
   unfolding runReport
   said-in = numbers-back key (runLines o steps cells) (run-keyed o steps cells) ∙ ap (saidBy key) (run-lines o steps cells)
 
 module _ (o : Outcome) (steps cells : List ℕ) where
   pub rows-read : numbersAt "rows" (runReport o steps cells) ≡ some (o .rows) ∷ []
-  unfolding headLines headWith endLine saidBy _is_ equalList text valueText
+  unfolding headLines headWith endLine saidBy saidUnder _is_ equalList text valueText
   rows-read =
       said-in "rows" o steps cells
       ∙ ap₂ (λ (x : Option ℕ) (xs : List (Option ℕ)). x ∷ xs) (number-back (o .rows)) (behind-said "rows" o steps cells)
 
   pub steps-read : numbersAt "steps" (runReport o steps cells) ≡ map some steps
-  unfolding headLines headWith endLine saidBy _is_ equalList text valueText
+  unfolding headLines headWith endLine saidBy saidUnder _is_ equalList text valueText
   steps-read = said-in "steps" o steps cells ∙ behind-said "steps" o steps cells ∙ append-nil (map some steps)
 
   pub barriers-read : numbersAt "barriers" (runReport o steps cells) ≡ some (o .barriers) ∷ []
-  unfolding headLines headWith endLine saidBy _is_ equalList text valueText
+  unfolding headLines headWith endLine saidBy saidUnder _is_ equalList text valueText
   barriers-read = said-in "barriers" o steps cells ∙ behind-said "barriers" o steps cells
 
+  pub conflicts-read : numbersAt "conflicts" (runReport o steps cells) ≡ some (o .conflicts) ∷ []
+  unfolding headLines headWith endLine saidBy saidUnder _is_ equalList text valueText
+  conflicts-read = said-in "conflicts" o steps cells ∙ behind-said "conflicts" o steps cells
+
   pub cells-read : numbersAt "cell" (runReport o steps cells) ≡ map some cells
-  unfolding headLines headWith endLine saidBy _is_ equalList text valueText
+  unfolding headLines headWith endLine saidBy saidUnder _is_ equalList text valueText
   cells-read = said-in "cell" o steps cells ∙ behind-said "cell" o steps cells ∙ append-nil (map some cells)

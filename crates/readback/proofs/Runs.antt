@@ -12,15 +12,16 @@ use Rattle.spec.specs.declared.Subject.the-variants as subject
 use Rattle.spec.specs.declared.Verdict.the-variants.{Passed, Spent}
 use Rattle.spec.specs.Answers.{refusalNumber, refusalPlace}
 use Rattle.spec.specs.LockStep.{LockResult, outcomeOf}
+use Rattle.spec.specs.Intervals.{conflictsOf}
 use Rattle.spec.specs.AllRuns.{Demand3}
 use Rattle.spec.specs.LaunchFile.{Launch, Checked, refused, accepted, fileLaunch}
 use Rattle.spec.specs.Report.{reportOf}
 use Rattle.spec.specs.Reading.{beginsWith, numbersAt, isPassed, hasPassed, Readable}
-use Rattle.spec.specs.Entries.{launchRun, launchReport, printed, checkPrints, subjectOf}
+use Rattle.spec.specs.Entries.{launchRun, launchIntervals, launchOutcome, launchReport, printed, checkPrints, subjectOf}
 use Rattle.spec.specs.Demands.{RunsEndWell, countedIn, PassedReport, ReportDemand3, FileReadable}
 use Rattle.allruns.proofs.Launches.{launch-demand3}
 use Rattle.readback.proofs.Reports.{readable, begins-passed, begins-spent, spent-begins, only-passed, is-passed}
-use Rattle.readback.proofs.Reports.{steps-read, barriers-read, rows-read, cells-read}
+use Rattle.readback.proofs.Reports.{steps-read, barriers-read, conflicts-read, rows-read, cells-read}
 
 pub file-readable : (file : List ℕ) → FileReadable file (checkPrints file)
 unfolding checkPrints
@@ -30,7 +31,7 @@ file-readable file = by (fileLaunch file)
     by (refused why) = unfold subjectOf printed reportOf in (readable (subject.Refused (refusalNumber why) (refusalPlace why)) [] [])
     by (accepted launch) =
         let run = launchRun launch in
-        unfold subjectOf printed launchReport reportOf in (readable (subject.Ran (outcomeOf run)) (run .state .steps) (run .state .cells))
+        unfold subjectOf printed launchReport reportOf in (readable (subject.Ran (launchOutcome launch)) (run .state .steps) (run .state .cells))
 
 -- An accepted launch.
 module _ (file : List ℕ) (launch : Launch) (e : fileLaunch file ≡ accepted launch) where
@@ -38,7 +39,7 @@ module _ (file : List ℕ) (launch : Launch) (e : fileLaunch file ≡ accepted l
   run = launchRun launch
 
   abbrev outcome : Outcome
-  outcome = outcomeOf run
+  outcome = launchOutcome launch
 
   demand : Demand3 (launch .table) (launch .threads) (launch .cells) (launch .limit) outcome (run .state .steps) (run .state .cells)
   demand = launch-demand3 file launch e
@@ -83,6 +84,11 @@ module _ (file : List ℕ) (launch : Launch) (e : fileLaunch file ≡ accepted l
   spent : beginsWith "verdict=spent" (launchReport launch) ≡ true → numbersAt "rows" (launchReport launch) ≡ some (launch .limit) ∷ []
   unfolding launchReport
   spent b = rows-read outcome (run .state .steps) (run .state .cells) ∙ ap (λ n. some n ∷ []) (demand .spent (begins-spent outcome (run .state .steps) (run .state .cells) b))
+
+-- Under every verdict the `conflicts=` line says what the rows of all intervals cost.
+pub conflicts-said : (launch : Launch) → numbersAt "conflicts" (launchReport launch) ≡ some (conflictsOf (launchIntervals launch)) ∷ []
+unfolding launchReport launchOutcome outcomeOf
+conflicts-said launch = conflicts-read (launchOutcome launch) (launchRun launch .state .steps) (launchRun launch .state .cells)
 
 -- What is printed for an accepted file is its launch's report; what is printed for any other does not begin with `verdict=passed`.
 pub launch-printed : (file : List ℕ) (launch : Launch) → fileLaunch file ≡ accepted launch → checkPrints file ≡ launchReport launch

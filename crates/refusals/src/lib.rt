@@ -24,5 +24,6 @@ pub fn words(why: Refusal) -> [u32; 2]
         Refusal::ReportTooLong(place) => [22, place],
         Refusal::ReportLines => [23, 0],
         Refusal::OutputLength => [24, 0],
+        Refusal::RecordsLength => [30, 0],
     }
 }

@@ -1,4 +1,4 @@
--- The report of a run as the parts that the writer writes: the head, the steps, the barriers, the cells, the last line. Assumes nothing.
+-- The report of a run as the parts that the writer writes: the head, the steps, the lines about intervals, the cells, the last line. Assumes nothing.
 use mathlib.Core.Path.{_≡_, refl, sym, ap, _∙_}
 use mathlib.Core.List.{List, [], _∷_, _++_, append-assoc}
 use Prim.Native.Nat.{ℕ, _+_}
@@ -7,13 +7,13 @@ use lib.ListN.{length, length-append}
 use Rattle.spec.specs.declared.Outcome.{Outcome}
 use Rattle.spec.specs.declared.Value.{Value}
 use Rattle.spec.specs.Text.{text}
-use Rattle.spec.specs.Report.{Line, bytesOf, eachLine, headLines, barriersLine, endLine, runLines, runReport, refusalReport, reportOf}
+use Rattle.spec.specs.Report.{Line, bytesOf, eachLine, headLines, intervalLines, endLine, runLines, runReport, refusalReport, reportOf}
 use Rattle.spec.specs.Entries.{over}
 use Rattle.report.specs.Subjects.{refused}
-use Rattle.reporttable.specs.Numbered.{headCount, barriersNumber, refusedNumber, endNumber, tableLines}
+use Rattle.reporttable.specs.Numbered.{headCount, intervalsNumber, refusedNumber, endNumber, tableLines}
 use Rattle.reporttable.proofs.Numbered.{bytes-append}
 use Rattle.reportvalues.specs.Values.{runValues, refusalValues}
-use Rattle.reportvalues.proofs.Lines.{head-listed, barriers-listed, end-listed, refusal-listed}
+use Rattle.reportvalues.proofs.Lines.{head-listed, intervals-listed, end-listed, refusal-listed}
 use Rattle.reportlines.proofs.Writing.{Stands, started}
 
 abbrev pub head : List Value → List ℕ
@@ -22,8 +22,8 @@ head values = bytesOf (tableLines values 0 headCount)
 abbrev pub stepsPart : List ℕ → List ℕ
 stepsPart steps = bytesOf (eachLine (text "steps") steps)
 
-abbrev pub barriersPart : List Value → List ℕ
-barriersPart values = bytesOf (tableLines values barriersNumber 1)
+abbrev pub intervalsPart : List Value → List ℕ
+intervalsPart values = bytesOf (tableLines values intervalsNumber 2)
 
 abbrev pub cellsPart : List ℕ → List ℕ
 cellsPart cells = bytesOf (eachLine (text "cell") cells)
@@ -35,41 +35,41 @@ last values = bytesOf (tableLines values endNumber 1)
 abbrev pub toSteps : List Value → (steps : List ℕ) → List ℕ
 toSteps values steps = head values ++ stepsPart steps
 
-abbrev pub toBarriers : List Value → (steps : List ℕ) → List ℕ
-toBarriers values steps = toSteps values steps ++ barriersPart values
+abbrev pub toIntervals : List Value → (steps : List ℕ) → List ℕ
+toIntervals values steps = toSteps values steps ++ intervalsPart values
 
 abbrev pub toCells : List Value → (steps cells : List ℕ) → List ℕ
-toCells values steps cells = toBarriers values steps ++ cellsPart cells
+toCells values steps cells = toIntervals values steps ++ cellsPart cells
 
 -- Their lengths.
 pub to-steps : (values : List Value) (steps : List ℕ) → length (toSteps values steps) ≡ length (head values) + length (stepsPart steps)
 to-steps values steps = length-append (head values) (stepsPart steps)
 
-pub to-barriers : (values : List Value) (steps : List ℕ)
-    → length (toBarriers values steps) ≡ length (head values) + length (stepsPart steps) + length (barriersPart values)
-to-barriers values steps = omega (arith, to-steps values steps, length-append (toSteps values steps) (barriersPart values))
+pub to-intervals : (values : List Value) (steps : List ℕ)
+    → length (toIntervals values steps) ≡ length (head values) + length (stepsPart steps) + length (intervalsPart values)
+to-intervals values steps = omega (arith, to-steps values steps, length-append (toSteps values steps) (intervalsPart values))
 
 pub to-cells : (values : List Value) (steps cells : List ℕ)
-    → length (toCells values steps cells) ≡ length (head values) + length (stepsPart steps) + length (barriersPart values) + length (cellsPart cells)
-to-cells values steps cells = omega (arith, to-barriers values steps, length-append (toBarriers values steps) (cellsPart cells))
+    → length (toCells values steps cells) ≡ length (head values) + length (stepsPart steps) + length (intervalsPart values) + length (cellsPart cells)
+to-cells values steps cells = omega (arith, to-intervals values steps, length-append (toIntervals values steps) (cellsPart cells))
 
 -- The lines of a report, part by part, as bytes.
-bytes-of-parts : (h s b c l : List Line) → bytesOf (h ++ (s ++ (b ++ (c ++ l)))) ≡ (((bytesOf h ++ bytesOf s) ++ bytesOf b) ++ bytesOf c) ++ bytesOf l
-bytes-of-parts h s b c l =
-    ap bytesOf (sym (append-assoc h s (b ++ (c ++ l))) ∙ sym (append-assoc (h ++ s) b (c ++ l)) ∙ sym (append-assoc ((h ++ s) ++ b) c l))
-    ∙ bytes-append (((h ++ s) ++ b) ++ c) l
-    ∙ ap (λ (x : List ℕ). x ++ bytesOf l) (bytes-append ((h ++ s) ++ b) c
-    ∙ ap (λ (x : List ℕ). x ++ bytesOf c) (bytes-append (h ++ s) b ∙ ap (λ (x : List ℕ). x ++ bytesOf b) (bytes-append h s)))
+bytes-of-parts : (h s i c l : List Line) → bytesOf (h ++ (s ++ (i ++ (c ++ l)))) ≡ (((bytesOf h ++ bytesOf s) ++ bytesOf i) ++ bytesOf c) ++ bytesOf l
+bytes-of-parts h s i c l =
+    ap bytesOf (sym (append-assoc h s (i ++ (c ++ l))) ∙ sym (append-assoc (h ++ s) i (c ++ l)) ∙ sym (append-assoc ((h ++ s) ++ i) c l))
+    ∙ bytes-append (((h ++ s) ++ i) ++ c) l
+    ∙ ap (λ (x : List ℕ). x ++ bytesOf l) (bytes-append ((h ++ s) ++ i) c
+    ∙ ap (λ (x : List ℕ). x ++ bytesOf c) (bytes-append (h ++ s) i ∙ ap (λ (x : List ℕ). x ++ bytesOf i) (bytes-append h s)))
 
 module _ (o : Outcome) (steps cells : List ℕ) (values : List Value) (e : values ≡ runValues o) where
   pub run-parts : toCells values steps cells ++ last values ≡ runReport o steps cells
   unfolding runReport runLines
   run-parts =
-      rw (e, head-listed o, barriers-listed o, end-listed o)
-      (sym (bytes-of-parts (headLines o) (eachLine (text "steps") steps) (barriersLine o ∷ []) (eachLine (text "cell") cells) (endLine ∷ [])))
+      rw (e, head-listed o, intervals-listed o, end-listed o)
+      (sym (bytes-of-parts (headLines o) (eachLine (text "steps") steps) (intervalLines o) (eachLine (text "cell") cells) (endLine ∷ [])))
 
   pub run-size :
-      length (head values) + length (stepsPart steps) + length (barriersPart values) + length (cellsPart cells) + length (last values)
+      length (head values) + length (stepsPart steps) + length (intervalsPart values) + length (cellsPart cells) + length (last values)
       ≡ length (runReport o steps cells)
   run-size = omega (arith, ap length run-parts, to-cells values steps cells, length-append (toCells values steps cells) (last values))
 

@@ -22,12 +22,12 @@ fn run_length(outcome: Outcome, steps: &[u32], cells: &[u32]) -> usize
     let values = reportvalues::run_values(outcome);
     reporttable::lines_length(values, 0, reporttable::HEAD)
         + reporttable::each_length(b"steps", steps)
-        + reporttable::lines_length(values, reporttable::BARRIERS, 1)
+        + reporttable::lines_length(values, reporttable::INTERVALS, 2)
         + reporttable::each_length(b"cell", cells)
         + reporttable::lines_length(values, reporttable::END, 1)
 }
 
-// The head, the steps, the barriers, the cells, and the last line of the table.
+// The head, the steps, the lines about intervals, the cells, and the last line of the table.
 fn write_run(outcome: Outcome, steps: &[u32], cells: &[u32], out: &mut [u8]) -> usize
     requires { ⌜ length (runReport outcome (now steps) (now cells)) ≤ length (now out) ⌝ }
     ensures long { λ r. ⌜ r ≡ length (runReport outcome (now (steps .entry)) (now (cells .entry))) ⌝ }
@@ -36,7 +36,7 @@ fn write_run(outcome: Outcome, steps: &[u32], cells: &[u32], out: &mut [u8]) -> 
     let values = reportvalues::run_values(outcome);
     let headed = reporttable::lines_at(values, 0, reporttable::HEAD, out, 0);
     let stepped = reporttable::each_at(b"steps", steps, out, headed);
-    let next = reporttable::lines_at(values, reporttable::BARRIERS, 1, out, stepped);
+    let next = reporttable::lines_at(values, reporttable::INTERVALS, 2, out, stepped);
     let last = reporttable::each_at(b"cell", cells, out, next);
     reporttable::lines_at(values, reporttable::END, 1, out, last)
 }

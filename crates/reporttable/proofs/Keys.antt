@@ -9,26 +9,26 @@ use Rattle.spec.specs.Lists.{every}
 use Rattle.spec.specs.Text.{text}
 use Rattle.spec.specs.declared.Value.{Value}
 use Rattle.spec.specs.declared.Value.the-variants as value
-use Rattle.spec.specs.Report.{_is_, headWith, headLines, barriersLine, endLine, refusalLines, valueText, keyLine, lineBytes}
+use Rattle.spec.specs.Report.{_is_, headWith, headLines, intervalLines, endLine, refusalLines, valueText, keyLine, lineBytes}
 use Rattle.stringtable.proofs.Strings.{joined, startsFrom, partOf, IsPart, part-size, string-at, isWithin, at-most}
 use Rattle.reportlines.proofs.Lines.{line-size}
 use Rattle.reporttable.specs.Numbered.{keys, keyCount, tableLine}
 
 -- The code's constants are what these compute to.
 unfoldable pub keyBytes : List ℕ
-unfolding keys headLines headWith barriersLine refusalLines endLine _is_ joined text
+unfolding keys headLines headWith intervalLines refusalLines endLine _is_ joined text
 keyBytes = joined keys
 
 unfoldable pub starts : List ℕ
-unfolding keys headLines headWith barriersLine refusalLines endLine _is_ startsFrom text
+unfolding keys headLines headWith intervalLines refusalLines endLine _is_ startsFrom text
 starts = startsFrom 0 keys
 
 many : length keys ≡ keyCount
-unfolding keys headLines headWith barriersLine refusalLines
+unfolding keys headLines headWith intervalLines refusalLines
 many = refl
 
 all-short : every (isWithin 20) keys ≡ true
-unfolding every isWithin keys headLines headWith barriersLine refusalLines endLine _is_ text
+unfolding every isWithin keys headLines headWith intervalLines refusalLines endLine _is_ text
 all-short = refl
 
 pub key-at : (i : ℕ) → i < keyCount → IsPart keyBytes (getD starts i 0) (getD starts (i + 1) 0) (getD keys i [])

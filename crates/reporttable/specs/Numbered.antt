@@ -6,35 +6,35 @@ use Rattle.spec.specs.declared.Outcome.{Outcome}
 use Rattle.spec.specs.declared.Verdict.the-variants.{Passed}
 use Rattle.spec.specs.declared.Value.{Value}
 use Rattle.spec.specs.declared.Value.the-variants as value
-use Rattle.spec.specs.Report.{Line, headLines, barriersLine, refusalLines}
+use Rattle.spec.specs.Report.{Line, headLines, intervalLines, refusalLines}
 
 -- n lines, from one on.
 unfoldable pub linesFrom : (ℕ → Line) → (from n : ℕ) → List Line
 linesFrom line from zero = []
 linesFrom line from (suc n) = line from ∷ linesFrom line (suc from) n
 
--- The keys of a run's head and of its barriers, which are the same whatever the outcome, and then a refusal's.
+-- The keys of a run's head and of the lines about its intervals, which are the same whatever the outcome, and then a refusal's.
 abbrev pub someOutcome : Outcome
-someOutcome = record { verdict = Passed; row = 0; rows = 0; barriers = 0 }
+someOutcome = record { verdict = Passed; row = 0; rows = 0; barriers = 0; conflicts = 0 }
 
 unfoldable pub keys : List (List ℕ)
-keys = map (λ (l : Line). l .key) (headLines someOutcome ++ (barriersLine someOutcome ∷ refusalLines 0 0))
+keys = map (λ (l : Line). l .key) (headLines someOutcome ++ (intervalLines someOutcome ++ refusalLines 0 0))
 
--- How many they are, how many of them are the head's, and the numbers of the barriers, of a refusal's first line and of the last one.
+-- How many they are, how many of them are the head's, and the numbers of the first one about intervals, of a refusal's first line and of the last one.
 abbrev pub keyCount : ℕ
-keyCount = 11
+keyCount = 12
 
 abbrev pub headCount : ℕ
 headCount = 7
 
-abbrev pub barriersNumber : ℕ
-barriersNumber = 7
+abbrev pub intervalsNumber : ℕ
+intervalsNumber = 7
 
 abbrev pub refusedNumber : ℕ
-refusedNumber = 8
+refusedNumber = 9
 
 abbrev pub endNumber : ℕ
-endNumber = 10
+endNumber = 11
 
 -- Line i of the table, where the lines have these values.
 unfoldable pub tableLine : List Value → ℕ → Line

@@ -7,23 +7,24 @@ ghost use Rattle.spec.specs.Report.{bytesOf, eachLine};
 ghost use Rattle.reportlines.specs.Places.{overFrom};
 ghost use Rattle.reporttable.specs.Numbered.{keyCount, tableLines};
 
-// How many lines the table has. The first HEAD are a run's, before its steps; then come its barriers and a refusal's, of which the last one ends a run's report too.
-pub const COUNT: usize = 11;
+// How many lines the table has. The first HEAD are a run's, before its steps; then come the two about its intervals, and a refusal's, of which the last one ends a
+// run's report too.
+pub const COUNT: usize = 12;
 
 pub const HEAD: usize = 7;
 
-pub const BARRIERS: usize = 7;
+pub const INTERVALS: usize = 7;
 
-pub const REFUSED: usize = 8;
+pub const REFUSED: usize = 9;
 
-pub const PLACE: usize = 9;
+pub const PLACE: usize = 10;
 
-pub const END: usize = 10;
+pub const END: usize = 11;
 
 // The keys, one behind the other: key i starts at STARTS[i] and ends where the next one starts.
-const KEYS: [u8; 54] = *b"verdictrowthreadotherkindatrowsbarriersrefusedplaceend";
+const KEYS: [u8; 63] = *b"verdictrowthreadotherkindatrowsbarriersconflictsrefusedplaceend";
 
-const STARTS: [usize; 12] = [0, 7, 10, 16, 21, 25, 27, 31, 39, 46, 51, 54];
+const STARTS: [usize; 13] = [0, 7, 10, 16, 21, 25, 27, 31, 39, 48, 55, 60, 63];
 
 // The length of n lines of the table.
 pub fn lines_length(values: [Value; COUNT], from: usize, n: usize) -> usize

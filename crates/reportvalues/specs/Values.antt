@@ -5,14 +5,14 @@ use lib.ListN.{replicate}
 use Rattle.spec.specs.declared.Outcome.{Outcome}
 use Rattle.spec.specs.declared.Value.{Value}
 use Rattle.spec.specs.declared.Value.the-variants as value
-use Rattle.spec.specs.Report.{Line, headLines, barriersLine, refusalLines}
+use Rattle.spec.specs.Report.{Line, headLines, intervalLines, refusalLines}
 use Rattle.reporttable.specs.Numbered.{refusedNumber}
 
 unfoldable pub valuesOf : List Line → List Value
 valuesOf ls = map (λ (l : Line). l .value) ls
 
 unfoldable pub runValues : Outcome → List Value
-runValues o = valuesOf (headLines o ++ (barriersLine o ∷ [])) ++ (value.Hyphen ∷ value.Hyphen ∷ value.Report ∷ [])
+runValues o = valuesOf (headLines o ++ intervalLines o) ++ (value.Hyphen ∷ value.Hyphen ∷ value.Report ∷ [])
 
 unfoldable pub refusalValues : (number place : ℕ) → List Value
 refusalValues number place = replicate refusedNumber value.Hyphen ++ valuesOf (refusalLines number place)

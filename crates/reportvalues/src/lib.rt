@@ -63,6 +63,7 @@ pub fn run_values(outcome: Outcome) -> [Value; reporttable::COUNT]
     let how = Value::Verdict(verdict);
     let rows = Value::Number(outcome.rows);
     let barriers = Value::Number(outcome.barriers);
+    let conflicts = Value::Number(outcome.conflicts);
     [
         how,
         row,
@@ -72,6 +73,7 @@ pub fn run_values(outcome: Outcome) -> [Value; reporttable::COUNT]
         at,
         rows,
         barriers,
+        conflicts,
         none,
         none,
         Value::Report,

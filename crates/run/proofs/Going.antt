@@ -8,7 +8,7 @@ use native.Mathlib.Omega.{arith}
 use native.Mathlib.Decide.{ℕ-discrete}
 use borrow.Author.Tests.{le-leb, lt-leb, eq-eqb, ne-eqb}
 use lib.ListN.{length, getD, replicate, length-replicate, getD-replicate}
-use Rattle.spec.specs.Limits.{logPerCell}
+use Rattle.spec.specs.Limits.{logPerCell, recordsLent}
 use Rattle.spec.specs.declared.Verdict.{Verdict}
 use Rattle.spec.specs.declared.Verdict.the-variants.{Passed, Spent}
 use Rattle.spec.specs.declared.Outcome.{Outcome}
@@ -19,6 +19,8 @@ use Rattle.spec.specs.Shape.{Shape, shapeOf}
 use Rattle.spec.specs.LockStep.{LockState, Step, continues, stops, topOpener, runRow, LockResult, resultOf, runFrom, initialState, lockstep, outcomeOf}
 use Rattle.spec.specs.LockStep.{advance, countSteps, endifRow, pop, topMask}
 use Rattle.spec.specs.Steps.{allStepped}
+use Rattle.spec.specs.Banks.{conflictCost}
+use Rattle.spec.specs.Intervals.{Interval, Intervals, rowCost, allOf, started, withRow, behind, intervalsAfter, intervalsFrom, recordsOf, intervalRecords}
 use Rattle.spec.specs.Entries.{over}
 use Rattle.spec.specs.Threads.{Group, machine, initialGroup}
 use Rattle.spec.specs.Runs.{after}
@@ -30,6 +32,7 @@ use Rattle.allruns.proofs.Simulation.{Frame}
 use Rattle.allruns.proofs.Rows.{Sim, Framed, fresh, again, savedOf, openersOf, framed-fresh, RowDone}
 use Rattle.allruns.proofs.BarrierRow.{row-done}
 use Rattle.allruns.proofs.LockRun.{start-sim}
+use Rattle.allruns.proofs.Counts.{Leaves, leaves-row, grown}
 use Rattle.masks.proofs.Words.{word-all}
 use Rattle.layout.specs.declared.State.{State}
 use Rattle.layout.specs.declared.Next.{Next}
@@ -43,12 +46,18 @@ use Rattle.layout.specs.Running.{RowAsks, Ready, Runnable, Steps, RunIs, startS
 use Rattle.layout.specs.Counting.{Roomy, Added, stepping, NextCounted, actedBefore, ThreadFits, Tally}
 use Rattle.stepcounts.proofs.RowSteps.{whoSteps, RowSteps, StoppedRow, row-steps}
 use Rattle.stepcounts.proofs.Tallies.{tally-start, tally-room, tally-row, tally-end, tally-fits, tally-stop-room, tally-stop}
-use Rattle.step.proofs.Tables.{row-inside, compute-op, mem-op}
+use Rattle.banks.specs.Counting.{Older}
+use Rattle.intervals.specs.Records.{inUse, begun, ended, released, recordsAfter, costsUpTo, RecordAsks, EndAsks}
+use Rattle.intervals.proofs.Ledger.{Ledger, ledger-start, ledger-asks, ledger-row, ledger-release, ledger-words, ledger-conflicts, ledger-ends}
+use Rattle.step.specs.Recording.{RowRecorded, cellDue}
+use Rattle.step.proofs.Tables.{row-inside, row-here, compute-op, mem-op}
 use Rattle.run.proofs.RowBytes.{row-asks}
+use Rattle.run.proofs.Recording.{intervals-start, intervals-row, intervals-end, intervals-spent, release-free, grown-one, plain-free, used-are, last}
+use Rattle.run.proofs.Recording.{row-went, row-stopped, behind-none, behind-more, after-none, after-more}
 
 -- Between two rows: the code's state stands for some state of the lock-step run, which is simulated by the threads' machine, and from which the rest of the run
 -- is the whole run.
-pub record Going (table : List ℕ) (n limit : ℕ) (cells₀ : List ℕ) (s : State) (regs cells log saved openers counts : List ℕ) : Type 0 where
+pub record Going (table : List ℕ) (n limit : ℕ) (cells₀ lent : List ℕ) (s : State) (regs cells log saved openers counts stamps records : List ℕ) : Type 0 where
   pub here : LockState
   pub frames : List Frame
   pub group : Group
@@ -60,6 +69,9 @@ pub record Going (table : List ℕ) (n limit : ℕ) (cells₀ : List ℕ) (s : S
   pub rows-most : s .rows ≤ limit
   pub since-few : s .since ≤ s .rows
   pub barriers-few : s .barriers ≤ s .rows
+  pub older : Older (s .rows + 1) stamps
+  pub ledger : Ledger (intervalRecords (rowsOf table) n cells₀ limit) lent (intervalsFrom (rowsOf table) (shapeBy n cells₀) (limit - s .rows) here)
+      (s .barriers) (s .rows) records
 
 start-regs : (n : ℕ) → n ≤ 32 → Regs n (replicate n (replicate 16 0)) (replicate 512 0)
 start-regs n l =
@@ -71,11 +83,11 @@ start-regs n l =
           ∙ sym (ap (λ x. getD x r 0) (getD-replicate n t (replicate 16 0) [] h) ∙ getD-replicate {A = ℕ} 16 r 0 0 q);
     }
 
-go-fresh : (table ends : List ℕ) (n limit m : ℕ) (cells log : List ℕ) → Runnable table ends → n ≤ 32 → m ≡ 2 ^ n - 1
-    → length log ≡ logPerCell * length cells → (log′ : List ℕ) → log′ ≡ replicate (length log) 0
-    → Going table n limit cells (startState m) (replicate 512 0) cells log′ (replicate 8 0) (replicate 8 0) (replicate 32 0)
-unfolding initialState lockstep shapeOf
-go-fresh table ends n limit m cells log A l em el log′ ez =
+go-fresh : (table ends : List ℕ) (n limit m : ℕ) (cells log lent : List ℕ) → Runnable table ends → n ≤ 32 → m ≡ 2 ^ n - 1
+    → length log ≡ logPerCell * length cells → recordsLent ≤ length lent → (log′ records : List ℕ) → log′ ≡ replicate (length log) 0 → records ≡ begun 0 0 0 lent
+    → Going table n limit cells lent (startState m) (replicate 512 0) cells log′ (replicate 8 0) (replicate 8 0) (replicate 32 0) (replicate 1024 0) records
+unfolding initialState lockstep shapeOf intervalRecords
+go-fresh table ends n limit m cells log lent A l em el eb log′ records ez er =
     record {
       here = initialState n cells;
       frames = [];
@@ -105,14 +117,17 @@ go-fresh table ends n limit m cells log A l em el log′ ez =
       rows-most = omega arith;
       since-few = omega arith;
       barriers-few = omega arith;
+      older = record { size = length-replicate {A = ℕ} 1024 0; below = λ i h. let z = getD-replicate {A = ℕ} 1024 i 0 0 h in omega arith };
+      ledger = ledger-start _ lent _ records eb er (intervals-start (rowsOf table) (shapeBy n cells) (limit - 0) (initialState n cells))
+          (ap (λ k. recordsOf 1024 (allOf (intervalsFrom (rowsOf table) (shapeBy n cells) k (initialState n cells)))) (let z : limit ≡ limit - 0 = omega arith in z));
     }
 
-pub go-start : (table ends : List ℕ) (n limit : ℕ) (cells log : List ℕ) (s : State) → Runnable table ends → n ≤ 32 → s ≡ startState (2 ^ n - 1)
-    → length log ≡ logPerCell * length cells → (log′ : List ℕ) → log′ ≡ replicate (length log) 0
-    → Going table n limit cells s (replicate 512 0) cells log′ (replicate 8 0) (replicate 8 0) (replicate 32 0)
-go-start table ends n limit cells log s A l es el log′ ez =
-    subst (λ x. Going table n limit cells x (replicate 512 0) cells log′ (replicate 8 0) (replicate 8 0) (replicate 32 0)) (sym es)
-    (go-fresh table ends n limit (2 ^ n - 1) cells log A l refl el log′ ez)
+pub go-start : (table ends : List ℕ) (n limit : ℕ) (cells log lent : List ℕ) (s : State) → Runnable table ends → n ≤ 32 → s ≡ startState (2 ^ n - 1)
+    → length log ≡ logPerCell * length cells → recordsLent ≤ length lent → (log′ records : List ℕ) → log′ ≡ replicate (length log) 0 → records ≡ begun 0 0 0 lent
+    → Going table n limit cells lent s (replicate 512 0) cells log′ (replicate 8 0) (replicate 8 0) (replicate 32 0) (replicate 1024 0) records
+go-start table ends n limit cells log lent s A l es el eb log′ records ez er =
+    subst (λ x. Going table n limit cells lent x (replicate 512 0) cells log′ (replicate 8 0) (replicate 8 0) (replicate 32 0) (replicate 1024 0) records) (sym es)
+    (go-fresh table ends n limit (2 ^ n - 1) cells log lent A l refl el eb log′ records ez er)
 
 -- How deep a row of an accepted table is.
 saved-length : (fs : List Frame) → length (savedOf fs) ≡ length (openersOf fs)
@@ -183,34 +198,42 @@ run-spent : (T : Table) (L : Shape) (z : LockState) → z .row < length T → ru
 unfolding runFrom
 run-spent T L z h = rw (lt-leb (length T) (z .row) h)
 
-ran-is : (n : ℕ) (o : LockResult) (v : Verdict) (z : LockState) (s : State) (r : Outcome) (regs cells log saved openers counts : List ℕ)
-    → record { verdict = v; state = z } ≡ o → r ≡ endedAs v s → Represents n z s regs cells log saved openers → counts ≡ over (z .steps) (replicate 32 0)
-    → RunIs o r cells log counts
-unfolding outcomeOf
-ran-is n o v z s r regs cells log saved openers counts eo er R ec =
-    subst (λ x. RunIs x r cells log counts) eo
-    (record {
-      outcome-is = er ∙ (λ i. record { verdict = v; row = R .row-is i; rows = R .rows-is i; barriers = R .barriers-is i });
-      cells-are = R .memory .cells-are;
-      log-is = R .memory .log-is .words-are;
-      counts-are = ec;
-    })
+-- The run is over in state s: its last interval is, and the records are those of the definition.
+module _ (n : ℕ) (o : LockResult) (whole : List Interval) (lent : List ℕ) (rest : Intervals) (v : Verdict) (z : LockState) (s : State)
+    (regs cells log saved openers records : List ℕ) (eo : record { verdict = v; state = z } ≡ o) (R : Represents n z s regs cells log saved openers)
+    (B : Ledger whole lent rest (s .barriers) (s .rows) records) (x : ℕ) (over-now : rest ≡ started x) where
+  ran-is : (r : Outcome) (counts records′ : List ℕ) → r ≡ endedAs v s (costsUpTo (inUse (s .barriers) + 1) records′)
+      → records′ ≡ ended (inUse (s .barriers)) (s .rows) records → counts ≡ over (z .steps) (replicate 32 0)
+      → RunIs o whole lent r cells log records′ counts
+  unfolding outcomeOf
+  ran-is r counts records′ er ew ec =
+      let conflicts = ap (costsUpTo (inUse (s .barriers) + 1)) ew ∙ ledger-conflicts whole lent rest (s .barriers) (s .rows) records B x over-now in
+      subst (λ q. RunIs q whole lent r cells log records′ counts) eo
+      (record {
+        outcome-is = er ∙ (λ i. record { verdict = v; row = R .row-is i; rows = R .rows-is i; barriers = R .barriers-is i; conflicts = conflicts i });
+        cells-are = R .memory .cells-are;
+        log-is = R .memory .log-is .words-are;
+        records-are = ew ∙ ledger-words whole lent rest (s .barriers) (s .rows) records B x over-now;
+        counts-are = ec;
+      })
+
+  ran-ends : recordsLent ≤ length records → s .rows ≤ 1000000 → EndAsks (s .barriers) (s .rows) records
+  ran-ends h l = ledger-ends whole lent rest (s .barriers) (s .rows) records B x over-now h l
 
 -- A row has stopped in state s′: there is room to count what was stepped, and the run is then the definition's.
-pub record Stops (o : LockResult) (v : Verdict) (s′ : State) (cells log counts : List ℕ) : Type 0 where
+pub record Stops (o : LockResult) (whole : List Interval) (lent : List ℕ) (v : Verdict) (s′ : State) (cells log counts records : List ℕ) : Type 0 where
   pub row : s′ .row ≤ 256
   pub fits : ThreadFits v
   pub room : Roomy (s′ .mask) 1 counts
   pub rest : (counts₁ : List ℕ) → Added (actedBefore v (s′ .mask)) 1 counts counts₁ → Roomy (s′ .mask) (s′ .since) counts₁
-  pub ran : (counts₁ counts₂ : List ℕ) (q : Outcome) → Added (actedBefore v (s′ .mask)) 1 counts counts₁ → q ≡ endedAs v s′
-      → Added (s′ .mask) (s′ .since) counts₁ counts₂ → RunIs o q cells log counts₂
+  pub ends : EndAsks (s′ .barriers) (s′ .rows) records
+  pub ran : (counts₁ counts₂ records′ : List ℕ) (q : Outcome) → Added (actedBefore v (s′ .mask)) 1 counts counts₁
+      → q ≡ endedAs v s′ (costsUpTo (inUse (s′ .barriers) + 1) records′) → records′ ≡ ended (inUse (s′ .barriers)) (s′ .rows) records
+      → Added (s′ .mask) (s′ .since) counts₁ counts₂ → RunIs o whole lent q cells log records′ counts₂
 
 abbrev enabledIn : Step → Mask
 enabledIn (continues z) = z .enabled
 enabledIn (stops v z) = z .enabled
-
-last : (k : ℕ) → 32 ≤ k → k ≤ 37 → (k ≡ 32 → ⊥) → (k ≡ 33 → ⊥) → (k ≡ 34 → ⊥) → (k ≡ 35 → ⊥) → (k ≡ 36 → ⊥) → k ≡ 37
-last k h l a b c d e = omega arith
 
 -- The threads that step in a row, by its byte.
 module _ (n k d a b : ℕ) (asks : RowAsks k d a b) (T : Table) (L : Shape) (x : Row) (z z′ : LockState) (s s′ : State)
@@ -264,8 +287,8 @@ module _ (n k d a b : ℕ) (asks : RowAsks k d a b) (T : Table) (L : Shape) (x :
       by (inr h) (inl l) = let m = mem-op k h (asks .accesses h l .0) in plain (MEM (m .0)) (m .1) l refl
       by (inr h) (inr l) = construct l
 
-module _ (table ends : List ℕ) (n limit : ℕ) (cells₀ : List ℕ) (s : State) (regs cells log saved openers : List ℕ)
-    (counts : List ℕ) (G : Going table n limit cells₀ s regs cells log saved openers counts) (A : Runnable table ends) where
+module _ (table ends : List ℕ) (n limit : ℕ) (cells₀ lent : List ℕ) (s : State) (regs cells log saved openers counts stamps records : List ℕ)
+    (G : Going table n limit cells₀ lent s regs cells log saved openers counts stamps records) (A : Runnable table ends) where
   abbrev T : Table
   T = rowsOf table
 
@@ -286,21 +309,49 @@ module _ (table ends : List ℕ) (n limit : ℕ) (cells₀ : List ℕ) (s : Stat
   threads-few : length (G .here .steps) ≤ 32
   threads-few = omega (arith, G .every, G .rep .memory .few)
 
-  pub go-passed : (r : Outcome) (counts′ : List ℕ) → length table / 4 ≤ s .row → r ≡ endedAs Passed s → Added (s .mask) (s .since) counts counts′
-      → RunIs (lockstep T n cells₀ limit) r cells log counts′
-  go-passed r counts′ h e C =
-      let l : length T ≤ G .here .row = omega (arith, rows-length table, G .rep .row-is) in
-      ran-is n (lockstep T n cells₀ limit) Passed (G .here) s r regs cells log saved openers counts′
-      (sym (run-end T L (limit - s .rows) (G .here) l) ∙ G .same) e (G .rep) (tally-end (G .here) s counts (G .tally) counts′ C threads-few)
+  -- the records of the whole run, and the intervals from here on
+  abbrev whole : List Interval
+  whole = intervalRecords T n cells₀ limit
 
-  pub go-spent : (r : Outcome) (counts′ : List ℕ) → s .row < length table / 4 → s .rows ≡ limit → r ≡ endedAs Spent s
-      → Added (s .mask) (s .since) counts counts′ → RunIs (lockstep T n cells₀ limit) r cells log counts′
-  go-spent r counts′ h m e C =
+  abbrev rest : Intervals
+  rest = intervalsFrom T L (limit - s .rows) (G .here)
+
+  -- an end of the run: the answer with the conflicts, the records and the counts
+  abbrev Ends : Verdict → Type 0
+  Ends v = (r : Outcome) (records′ counts′ : List ℕ) → r ≡ endedAs v s (costsUpTo (inUse (s .barriers) + 1) records′)
+      → records′ ≡ ended (inUse (s .barriers)) (s .rows) records → Added (s .mask) (s .since) counts counts′
+      → RunIs (lockstep T n cells₀ limit) whole lent r cells log records′ counts′
+
+  go-end : (v : Verdict) → record { verdict = v; state = G .here } ≡ lockstep T n cells₀ limit → rest ≡ started (G .here .row) → Ends v
+  go-end v eo er r records′ counts′ e w C =
+      ran-is n (lockstep T n cells₀ limit) whole lent rest v (G .here) s regs cells log saved openers records eo (G .rep) (G .ledger) (G .here .row) er r counts′ records′ e w
+      (tally-end (G .here) s counts (G .tally) counts′ C threads-few)
+
+  at-end : length table / 4 ≤ s .row → length T ≤ G .here .row
+  at-end h = omega (arith, rows-length table, G .rep .row-is)
+
+  passed-rest : length table / 4 ≤ s .row → rest ≡ started (G .here .row)
+  passed-rest h = intervals-end T L (limit - s .rows) (G .here) (at-end h)
+
+  spent-rest : s .rows ≡ limit → rest ≡ started (G .here .row)
+  spent-rest m = ap (λ j. intervalsFrom T L j (G .here)) (let z : limit - s .rows ≡ 0 = omega arith in z) ∙ intervals-spent T L (G .here)
+
+  pub go-passed : length table / 4 ≤ s .row → Ends Passed
+  go-passed h = go-end Passed (sym (run-end T L (limit - s .rows) (G .here) (at-end h)) ∙ G .same) (passed-rest h)
+
+  pub go-spent : s .row < length table / 4 → s .rows ≡ limit → Ends Spent
+  go-spent h m =
       let l : s .row < length T = omega (arith, rows-length table) in
       let k : limit - s .rows ≡ 0 = omega arith in
-      ran-is n (lockstep T n cells₀ limit) Spent (G .here) s r regs cells log saved openers counts′
-      (sym (run-spent T L (G .here) (at-row l)) ∙ ap (λ j. runFrom T L j (G .here)) (sym k) ∙ G .same) e (G .rep)
-      (tally-end (G .here) s counts (G .tally) counts′ C threads-few)
+      go-end Spent (sym (run-spent T L (G .here) (at-row l)) ∙ ap (λ j. runFrom T L j (G .here)) (sym k) ∙ G .same) (spent-rest m)
+
+  -- and what it asks of the records
+  pub go-ends : (length table / 4 ≤ s .row) ⊎ (s .rows ≡ limit) → limit ≤ 1000000 → recordsLent ≤ length records → EndAsks (s .barriers) (s .rows) records
+  go-ends o l h =
+      ledger-ends whole lent rest (s .barriers) (s .rows) records (G .ledger) (G .here .row) (⊎-elim passed-rest spent-rest o) h (omega (arith, G .rows-most))
+
+  pub go-asks : (s .rows ≡ limit → ⊥) → limit ≤ 1000000 → recordsLent ≤ length records → RecordAsks (s .barriers) (s .rows) records
+  go-asks m l h = ledger-asks whole lent rest (s .barriers) (s .rows) records (G .ledger) h (omega (arith, G .rows-most))
 
   module _ (h : s .row < length table / 4) (m : s .rows ≡ limit → ⊥) where
     inside : s .row < length T
@@ -408,9 +459,10 @@ module _ (table ends : List ℕ) (n limit : ℕ) (cells₀ : List ℕ) (s : Stat
     counted : RowSteps (rowAt T (G .here .row) .op) (G .here) done
     counted = row-steps T L (rowAt T (G .here .row)) (G .here) (rowAt T (G .here .row) .op)
 
-    module _ (len : length cells ≡ length cells₀) (r : Next) (regs′ cells′ log′ saved′ openers′ counts′ : List ℕ)
+    module _ (len : length cells ≡ length cells₀) (r : Next) (regs′ cells′ log′ saved′ openers′ counts′ stamps′ records′ : List ℕ)
         (S : Steps table n s regs cells log saved openers r regs′ cells′ log′ saved′ openers′)
-        (C : NextCounted (getD table (s .row * 4) 0) s r counts counts′) where
+        (C : NextCounted (getD table (s .row * 4) 0) s r counts counts′)
+        (K : RowRecorded (getD table (s .row * 4) 0) n (cellDue table s regs) s r records records′ stamps′) where
       stepped : After n done r regs′ cells′ log′ saved′ openers′
       stepped =
           subst (λ k. After n (runRow T (record { threads = n; cells = k }) (rowAt T (G .here .row)) (G .here) (rowAt T (G .here .row) .op)) r regs′
@@ -433,7 +485,82 @@ module _ (table ends : List ℕ) (n limit : ℕ) (cells₀ : List ℕ) (s : Stat
             ap length more ∙ all-stepped-size (G .here .steps) _ ∙ G .every,
           )
 
-      pub go-next : (s′ : State) → r ≡ next.Go s′ → Going table n limit cells₀ s′ regs′ cells′ log′ saved′ openers′ counts′
+      -- what the row costs by the definition
+      row-costs : (s′ : State) → r ≡ next.Go s′ → K .cost ≡ rowCost (rowAt T (G .here .row)) (G .here) (rowAt T (G .here .row) .op)
+      row-costs s′ e = by (lt-or-le byte 16) (lt-or-le byte 32) ∙ ap (rowCost (rowAt T (G .here .row)) (G .here)) (sym row-byte)
+        where
+          asks : RowAsks byte (getD table (s .row * 4 + 1) 0) (getD table (s .row * 4 + 2) 0) (getD table (s .row * 4 + 3) 0)
+          asks = row-asks table (A .accepted) (s .row) inside
+
+          plain : (byte < 16) ⊎ (32 ≤ byte) → K .cost ≡ rowCost (rowAt T (G .here .row)) (G .here) (opOf byte)
+          plain o = K .plain o ∙ sym (plain-free (rowAt T (G .here .row)) (G .here) byte _ _ _ asks o)
+
+          by : (byte < 16) ⊎ (16 ≤ byte) → (byte < 32) ⊎ (32 ≤ byte) → K .cost ≡ rowCost (rowAt T (G .here .row)) (G .here) (opOf byte)
+          by (inl h) q = plain (inl h)
+          by (inr h) (inr l) = plain (inr l)
+          by (inr h) (inl l) =
+              let q = asks .accesses h l in
+              let m = mem-op byte h (q .0) in
+              let x = row-here table n (G .here) s regs cells log saved openers (G .rep) inside in
+              K .access h l s′ e (G .here .enabled) (G .rep .enabled-is) (G .rep .enabled-size)
+              ∙ ap conflictCost (sym (used-are n (G .here) regs cells log (G .rep .memory) (G .rep .enabled-size) (rowAt T (G .here .row)) byte _ _ h (q .0) (q .1) (q .2)
+              (ap (λ y. y .d) x) (ap (λ y. y .a) x) (m .0) (m .1)))
+              ∙ sym (ap (rowCost (rowAt T (G .here .row)) (G .here)) (m .1) ∙ (unfold rowCost in refl))
+
+      -- the intervals from here on, with the row taken off
+      row-rest : intervalsAfter (rowCost (rowAt T (G .here .row)) (G .here) (rowAt T (G .here .row) .op)) (G .here) done (intervalsFrom T L (limit - (s .rows + 1))) ≡ rest
+      row-rest = sym (ap (λ j. intervalsFrom T L j (G .here)) left ∙ intervals-row T L (limit - (s .rows + 1)) (G .here) (at-row inside))
+
+      older-next : (s′ : State) → Counted s s′ → Older (s′ .rows + 1) stamps′
+      older-next s′ one = subst (λ k. Older k stamps′) (let z = one .rows-one in let y : s .rows + 2 ≡ s′ .rows + 1 = omega arith in y) (K .older)
+
+      ledger-next : (s′ : State) (z : LockState) → r ≡ next.Go s′ → done ≡ continues z → Represents n z s′ regs′ cells′ log′ saved′ openers′ → Counted s s′
+          → Ledger whole lent (intervalsFrom T L (limit - s′ .rows) z) (s′ .barriers) (s′ .rows) records′
+      ledger-next s′ z e d R one = by (grown-one (G .here) op)
+        where
+          op : Op
+          op = rowAt T (G .here .row) .op
+
+          after-row : Intervals
+          after-row = intervalsFrom T L (limit - s′ .rows) z
+
+          grows : z .barriers ≡ grown (G .here) op
+          grows = subst (Leaves (G .here) (suc (G .here .rows)) (grown (G .here) op)) d (leaves-row T L (rowAt T (G .here .row)) (G .here) op) .1
+
+          cost : K .cost ≡ rowCost (rowAt T (G .here .row)) (G .here) op
+          cost = row-costs s′ e
+
+          rest-is : rest ≡ withRow (G .here .row) (K .cost) (behind (G .here) z after-row)
+          rest-is =
+              let due = rowCost (rowAt T (G .here .row)) (G .here) op in
+              sym row-rest ∙ ap (λ o. intervalsAfter due (G .here) o (intervalsFrom T L (limit - (s .rows + 1)))) d
+              ∙ row-went due (G .here) z (intervalsFrom T L (limit - (s .rows + 1)))
+              ∙ ap (λ j. withRow (G .here .row) due (behind (G .here) z (intervalsFrom T L (limit - j) z))) (sym (one .rows-one))
+              ∙ ap (λ k. withRow (G .here .row) k (behind (G .here) z after-row)) (sym cost)
+
+          words : records′ ≡ recordsAfter (K .cost) s (next.Go s′) records
+          words = K .words ∙ ap (λ x. recordsAfter (K .cost) s x records) e
+
+          by : (grown (G .here) op ≡ G .here .barriers) ⊎ (grown (G .here) op ≡ G .here .barriers + 1)
+              → Ledger whole lent after-row (s′ .barriers) (s′ .rows) records′
+          by (inl q) =
+              let kept : s′ .barriers ≡ s .barriers = R .barriers-is ∙ grows ∙ q ∙ sym (G .rep .barriers-is) in
+              subst₂ (λ b k. Ledger whole lent after-row b k records′) (sym kept) (sym (one .rows-one))
+              (ledger-row whole lent rest (s .barriers) (s .rows) records (G .ledger) (G .here .row) (K .cost) after-row records′
+              (rest-is ∙ ap (withRow (G .here .row) (K .cost)) (behind-none (G .here) z after-row (omega (arith, grows, q)))) (K .few)
+              (words ∙ after-none (K .cost) s s′ records (omega (arith, kept))))
+          by (inr q) =
+              let more : s′ .barriers ≡ s .barriers + 1 = R .barriers-is ∙ grows ∙ q ∙ ap (λ k. k + 1) (sym (G .rep .barriers-is)) in
+              let free : K .cost ≡ 0 = cost ∙ release-free (rowAt T (G .here .row)) (G .here) op (omega (arith, q)) in
+              let row : s′ .row ≡ z .row = R .row-is in
+              subst₂ (λ b k. Ledger whole lent after-row b k records′) (sym more) (sym (one .rows-one))
+              (ledger-release whole lent rest (s .barriers) (s .rows) records (G .ledger) (G .here .row) (s′ .row) after-row records′
+              (rest-is ∙ ap (λ k. withRow (G .here .row) k (behind (G .here) z after-row)) free
+              ∙ ap (withRow (G .here .row) 0) (behind-more (G .here) z (s′ .row) after-row (omega (arith, grows, q)) row))
+              (intervals-start T L (limit - s′ .rows) z ∙ sym row)
+              (words ∙ after-more (K .cost) s s′ records (omega (arith, more)) ∙ ap (λ k. released (s .barriers) (s′ .row) k records) (one .rows-one)))
+
+      pub go-next : (s′ : State) → r ≡ next.Go s′ → Going table n limit cells₀ lent s′ regs′ cells′ log′ saved′ openers′ counts′ stamps′ records′
       go-next s′ e = by done refl stepped sims came
         where
           one : Counted s s′
@@ -441,7 +568,7 @@ module _ (table ends : List ℕ) (n limit : ℕ) (cells₀ : List ℕ) (s : Stat
 
           by : (o : Step) → done ≡ o → After n o r regs′ cells′ log′ saved′ openers′ → RowDone T L (G .here) (G .group) o
               → resultOf o (runFrom T L (limit - (s .rows + 1))) ≡ lockstep T n cells₀ limit
-              → Going table n limit cells₀ s′ regs′ cells′ log′ saved′ openers′ counts′
+              → Going table n limit cells₀ lent s′ regs′ cells′ log′ saved′ openers′ counts′ stamps′ records′
           by (stops v z) d (u, f, R) W q = let y : _≡_ {A = ℕ} 0 1 = cc in absurd (omega arith)
           by (continues z) d (u, f, R) W q =
               let eu : u ≡ s′ = cc in
@@ -459,6 +586,8 @@ module _ (table ends : List ℕ) (n limit : ℕ) (cells₀ : List ℕ) (s : Stat
                 rows-most = omega (arith, one .rows-one, G .rows-most);
                 since-few = omega (arith, one .rows-one, one .since-one, G .since-few);
                 barriers-few = omega (arith, one .rows-one, one .barriers-one, G .barriers-few);
+                older = older-next s′ one;
+                ledger = ledger-next s′ z e d rep one;
               }
 
       -- a row that stops
@@ -493,6 +622,29 @@ module _ (table ends : List ℕ) (n limit : ℕ) (cells₀ : List ℕ) (s : Stat
         go-stop-room : limit ≤ 1000000 → Roomy (s′ .mask) 1 counts′
         go-stop-room l = rw (left-uncounted .0, left-uncounted .2) (go-room 1 (omega arith) l)
 
+        -- it is in no interval, and costs nothing
+        same-counts : (s .rows ≡ s′ .rows) × (s .barriers ≡ s′ .barriers)
+        same-counts =
+            let kept = subst (Leaves (G .here) (suc (G .here .rows)) (grown (G .here) (rowAt T (G .here .row) .op))) (stopped .1)
+            (leaves-row T L (rowAt T (G .here .row)) (G .here) (rowAt T (G .here .row) .op)) in
+            (G .rep .rows-is ∙ sym (kept .1) ∙ sym (stopped .2 .rows-is), G .rep .barriers-is ∙ sym (kept .2) ∙ sym (stopped .2 .barriers-is))
+
+        stopped-rest : rest ≡ started (G .here .row)
+        stopped-rest =
+            let due = rowCost (rowAt T (G .here .row)) (G .here) (rowAt T (G .here .row) .op) in
+            sym row-rest ∙ ap (λ o. intervalsAfter due (G .here) o (intervalsFrom T L (limit - (s .rows + 1)))) (stopped .1)
+            ∙ row-stopped due (G .here) (stopped .0) v (intervalsFrom T L (limit - (s .rows + 1)))
+
+        ledger-stop : Ledger whole lent rest (s′ .barriers) (s′ .rows) records′
+        ledger-stop =
+            let kept : records ≡ records′ = sym (K .words ∙ ap (λ x. recordsAfter (K .cost) s x records) e ∙ (unfold recordsAfter in refl)) in
+            subst (λ l. Ledger whole lent rest (s′ .barriers) (s′ .rows) l) kept
+            (subst₂ (λ k b. Ledger whole lent rest b k records) (same-counts .0) (same-counts .1) (G .ledger))
+
+        go-stop-ends : limit ≤ 1000000 → recordsLent ≤ length records′ → EndAsks (s′ .barriers) (s′ .rows) records′
+        go-stop-ends l h =
+            ledger-ends whole lent rest (s′ .barriers) (s′ .rows) records′ ledger-stop (G .here .row) stopped-rest h (omega (arith, same-counts .0, G .rows-most))
+
         module _ (counts₁ : List ℕ) (B : Added (actedBefore v (s′ .mask)) 1 counts′ counts₁) where
           before : Added (actedBefore v (s .mask)) 1 counts counts₁
           before = subst₂ (λ m l. Added (actedBefore v m) 1 l counts₁) (left-uncounted .0) (left-uncounted .2) B
@@ -503,22 +655,25 @@ module _ (table ends : List ℕ) (n limit : ℕ) (cells₀ : List ℕ) (s : Stat
               (tally-stop-room (G .here) s counts (G .tally) (G .rep .enabled-is) enabled-few threads-few v (stopped .0) acted counts₁ before
               (omega (arith, G .rows-most)))
 
-          go-stop : (q : Outcome) (counts₂ : List ℕ) → q ≡ endedAs v s′ → Added (s′ .mask) (s′ .since) counts₁ counts₂
-              → RunIs (lockstep T n cells₀ limit) q cells′ log′ counts₂
-          go-stop q counts₂ eq D =
+          go-stop : (q : Outcome) (counts₂ records₂ : List ℕ) → q ≡ endedAs v s′ (costsUpTo (inUse (s′ .barriers) + 1) records₂)
+              → records₂ ≡ ended (inUse (s′ .barriers)) (s′ .rows) records′ → Added (s′ .mask) (s′ .since) counts₁ counts₂
+              → RunIs (lockstep T n cells₀ limit) whole lent q cells′ log′ records₂ counts₂
+          go-stop q counts₂ records₂ eq er D =
               let z = stopped .0 in
               let c : record { verdict = v; state = z } ≡ lockstep T n cells₀ limit =
               (unfold resultOf in (sym (ap (λ o. resultOf o (runFrom T L (limit - (s .rows + 1)))) (stopped .1)) ∙ came)) in
-              ran-is n (lockstep T n cells₀ limit) v z s′ q regs′ cells′ log′ saved′ openers′ counts₂ c eq (stopped .2)
+              ran-is n (lockstep T n cells₀ limit) whole lent rest v z s′ regs′ cells′ log′ saved′ openers′ records′ c (stopped .2) ledger-stop (G .here .row) stopped-rest
+              q counts₂ records₂ eq er
               (tally-stop (G .here) s counts (G .tally) (G .rep .enabled-is) enabled-few threads-few v z acted counts₁ counts₂ before
               (subst₂ (λ m k. Added m k counts₁ counts₂) (left-uncounted .0) (left-uncounted .1) D))
 
-        pub go-stops : limit ≤ 1000000 → Stops (lockstep T n cells₀ limit) v s′ cells′ log′ counts′
-        go-stops l =
+        pub go-stops : limit ≤ 1000000 → recordsLent ≤ length records′ → Stops (lockstep T n cells₀ limit) whole lent v s′ cells′ log′ counts′ records′
+        go-stops l h =
             record {
               row = go-stop-row;
               fits = go-stop-fits;
               room = go-stop-room l;
               rest = λ counts₁ B. go-stop-rest counts₁ B l;
-              ran = λ counts₁ counts₂ q B e D. go-stop counts₁ B q counts₂ e D;
+              ends = go-stop-ends l h;
+              ran = λ counts₁ counts₂ records₂ q B e w D. go-stop counts₁ B q counts₂ records₂ e w D;
             }

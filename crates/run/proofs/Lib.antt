@@ -1,2 +1,3 @@
 mod RowBytes
+mod Recording
 mod Going

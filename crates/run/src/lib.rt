@@ -1,25 +1,35 @@
 // The lock-step run: one row after the other, until the table's end, the limit, or a stop.
 ghost use mathlib.Core.Path.{_≡_};
-ghost use Prim.Native.Nat.{_-_, _*_, _^_, _≤_};
+ghost use Prim.Native.Nat.{_+_, _-_, _*_, _^_, _≤_};
 ghost use lib.ListN.{length};
-ghost use Rattle.spec.specs.Limits.{logPerCell};
+ghost use Rattle.spec.specs.Limits.{logPerCell, recordsLent};
 ghost use Rattle.spec.specs.Table.{rowsOf};
 ghost use Rattle.spec.specs.LockStep.{lockstep};
 ghost use Rattle.layout.specs.Running.{Runnable, RunIs, startState, endedAs};
 ghost use Rattle.layout.specs.Counting.{Roomy, Added};
+ghost use Rattle.spec.specs.Intervals.{intervalRecords};
+ghost use Rattle.intervals.specs.Records.{inUse, ended, costsUpTo, EndAsks};
 
-// The run is over: what was stepped since the mask last changed is counted.
-fn ended(counts: &mut [u32; 32], v: spec::Verdict, s: layout::State) -> spec::Outcome
-    requires { ⌜ (s .row ≤ 256) × Roomy (s .mask) (s .since) (now counts) ⌝ }
-    ensures outcome { λ r. ⌜ r ≡ endedAs v s ⌝ }
+// The run is over: what was stepped since the mask last changed is counted, and so is the last interval.
+fn ended(
+    records: &mut [u32],
+    counts: &mut [u32; 32],
+    v: spec::Verdict,
+    s: layout::State,
+) -> spec::Outcome
+    requires { ⌜ (s .row ≤ 256) × Roomy (s .mask) (s .since) (now counts) × EndAsks (s .barriers) (s .rows) (now records) ⌝ }
+    ensures outcome { λ r. ⌜ r ≡ endedAs v s (costsUpTo (inUse (s .barriers) + 1) (now (records .exit))) ⌝ }
+    ensures records { λ _. ⌜ now (records .exit) ≡ ended (inUse (s .barriers)) (s .rows) (now (records .entry)) ⌝ }
     ensures counts { λ _. ⌜ Added (s .mask) (s .since) (now (counts .entry)) (now (counts .exit)) ⌝ }
 {
     stepcounts::add(counts, s.mask, s.since);
+    let conflicts = intervals::finish(records, s.barriers, s.rows);
     spec::Outcome {
         verdict: v,
         row: s.row as u32,
         rows: s.rows,
         barriers: s.barriers,
+        conflicts: conflicts,
     }
 }
 
@@ -47,23 +57,27 @@ pub fn run(
     limit: u32,
     cells: &mut [u32],
     log: &mut [u32],
+    records: &mut [u32],
     counts: &mut [u32; 32],
 ) -> spec::Outcome
     requires { ⌜ Runnable (now table) (now ends) × (1 ≤ n) × (n ≤ 32) × (limit ≤ 1000000)
-        × (length (now log) ≡ logPerCell * length (now cells)) × (length (now cells) ≤ 1024) ⌝ }
-    ensures { λ r. ⌜ RunIs (lockstep (rowsOf (now (table .entry))) n (now (cells .entry)) limit) r (now (cells .exit)) (now (log .exit))
-        (now (counts .exit)) ⌝ }
+        × (length (now log) ≡ logPerCell * length (now cells)) × (length (now cells) ≤ 1024) × (recordsLent ≤ length (now records)) ⌝ }
+    ensures { λ r. ⌜ RunIs (lockstep (rowsOf (now (table .entry))) n (now (cells .entry)) limit)
+        (intervalRecords (rowsOf (now (table .entry))) n (now (cells .entry)) limit) (now (records .entry)) r
+        (now (cells .exit)) (now (log .exit)) (now (records .exit)) (now (counts .exit)) ⌝ }
 {
     let count = table.len() / 4;
     let mut regs: [u32; 512] = [0; 512];
     let mut saved: [u32; 8] = [0; 8];
     let mut openers: [usize; 8] = [0; 8];
+    let mut stamps: [u32; 1024] = [0; 1024];
     accesslog::clear(log, cells.len());
+    intervals::launch(records);
     *counts = [0; 32];
     let mut s = start(n);
     while s.row < count {
         if s.rows == limit {
-            return ended(counts, spec::Verdict::Spent, s);
+            return ended(records, counts, spec::Verdict::Spent, s);
         }
         match step::step(
             table,
@@ -75,6 +89,8 @@ pub fn run(
             &mut saved,
             &mut openers,
             counts,
+            &mut stamps,
+            records,
             s,
         ) {
             layout::Next::Go(z) => {
@@ -82,9 +98,9 @@ pub fn run(
             }
             layout::Next::Stop(v, z) => {
                 stepcounts::stop(counts, v, z.mask);
-                return ended(counts, v, z);
+                return ended(records, counts, v, z);
             }
         }
     }
-    ended(counts, spec::Verdict::Passed, s)
+    ended(records, counts, spec::Verdict::Passed, s)
 }

@@ -3,7 +3,7 @@ use mathlib.Core.Path.{_≡_, sym, ap, subst, _∙_}
 use mathlib.Core.List.{List, [], _∷_}
 use mathlib.Core.Bool.{true, false, false≢true}
 use Prim.Native.Nat.{ℕ}
-use lib.ListN.{take}
+use lib.ListN.{take, replicate}
 use Rattle.spec.specs.declared.Outcome.{Outcome}
 use Rattle.spec.specs.declared.Refusal.{Refusal}
 use Rattle.spec.specs.declared.Answer.{Answer}
@@ -11,7 +11,7 @@ use Rattle.spec.specs.declared.Answer.the-variants.{Refused, Ran}
 use Rattle.refusals.specs.Words.{refusalWords}
 use Rattle.spec.specs.Table.{rowsOf}
 use Rattle.spec.specs.Demands.{BareDemand3}
-use Rattle.answerwords.specs.Codes.{outcomeWords, ranIn, outcomeIn, whyIn, RanDemand3}
+use Rattle.answerwords.specs.Codes.{wordCount, outcomeWords, ranIn, outcomeIn, whyIn, RanDemand3}
 use Rattle.answerwords.proofs.Back.{words-demand}
 
 -- Demand 3 of the answer, of the words: there is none to say of a refusal.
@@ -25,7 +25,7 @@ run-runs table threads limit cells left counts told o ws q w d e =
 
 module _ (answer told : Answer) (e : told ≡ answer) where
   pub refusal-told : (why : Refusal) (ws : List ℕ) → told ≡ Refused why → ws ≡ refusalWords why
-      → (false ≡ ranIn answer) × ((0 ∷ 0 ∷ 0 ∷ 0 ∷ 0 ∷ 0 ∷ 0 ∷ 0 ∷ [] ≡ outcomeIn answer) × (ws ≡ whyIn answer))
+      → (false ≡ ranIn answer) × ((replicate wordCount 0 ≡ outcomeIn answer) × (ws ≡ whyIn answer))
   unfolding ranIn outcomeIn whyIn
   refusal-told why ws q w = let same : Refused why ≡ answer = sym q ∙ e in (ap ranIn same, (ap outcomeIn same, w ∙ ap whyIn same))
 

@@ -4,7 +4,8 @@ use spec::Subject;
 ghost use mathlib.Core.Path.{_≡_};
 ghost use mathlib.Core.List.{[]};
 ghost use Rattle.spec.specs.declared.Subject.the-variants.{Ran, Refused};
-ghost use Rattle.spec.specs.Entries.{bareAnswer, bareCells, bareLog, bareSteps, writerAnswer, writerBuffer, fileAnswer, fileCellsAfter, fileLogAfter, fileOutputAfter};
+ghost use Rattle.spec.specs.Entries.{bareAnswer, bareCells, bareLog, bareRecords, bareSteps, writerAnswer, writerBuffer};
+ghost use Rattle.spec.specs.Entries.{fileAnswer, fileCellsAfter, fileLogAfter, fileRecordsAfter, fileOutputAfter};
 ghost use Rattle.spec.specs.Reading.{Readable};
 ghost use Rattle.spec.specs.Demands.{ReportDemand3, FileReadable, OfLength};
 ghost use Rattle.answerwords.specs.Codes.{lengthIn, refusalIn, ranIn, outcomeIn, whyIn, outcomeFrom, RanDemand3};
@@ -14,18 +15,20 @@ pub extern "C" fn sekufoyi_check_file(
     file: &[u8],
     cells: &mut [u32],
     log: &mut [u32],
+    records: &mut [u32],
     output: &mut [u8],
     refusal: &mut [u32; 2],
 ) -> usize
-    ensures answer { λ r. ⌜ r ≡ lengthIn (fileAnswer (now (file .entry)) (now (cells .entry)) (now (log .entry)) (now (output .entry))) ⌝ }
-    ensures refusal { λ _. ⌜ now (refusal .exit) ≡ refusalIn (fileAnswer (now (file .entry)) (now (cells .entry)) (now (log .entry)) (now (output .entry))) ⌝ }
-    ensures cells { λ _. ⌜ now (cells .exit) ≡ fileCellsAfter (now (file .entry)) (now (cells .entry)) (now (log .entry)) (now (output .entry)) ⌝ }
-    ensures log { λ _. ⌜ now (log .exit) ≡ fileLogAfter (now (file .entry)) (now (cells .entry)) (now (log .entry)) (now (output .entry)) ⌝ }
-    ensures output { λ _. ⌜ now (output .exit) ≡ fileOutputAfter (now (file .entry)) (now (cells .entry)) (now (log .entry)) (now (output .entry)) ⌝ }
+    ensures answer { λ r. ⌜ r ≡ lengthIn (fileAnswer (now (file .entry)) (now (cells .entry)) (now (log .entry)) (now (records .entry)) (now (output .entry))) ⌝ }
+    ensures refusal { λ _. ⌜ now (refusal .exit) ≡ refusalIn (fileAnswer (now (file .entry)) (now (cells .entry)) (now (log .entry)) (now (records .entry)) (now (output .entry))) ⌝ }
+    ensures cells { λ _. ⌜ now (cells .exit) ≡ fileCellsAfter (now (file .entry)) (now (cells .entry)) (now (log .entry)) (now (records .entry)) (now (output .entry)) ⌝ }
+    ensures log { λ _. ⌜ now (log .exit) ≡ fileLogAfter (now (file .entry)) (now (cells .entry)) (now (log .entry)) (now (records .entry)) (now (output .entry)) ⌝ }
+    ensures records { λ _. ⌜ now (records .exit) ≡ fileRecordsAfter (now (file .entry)) (now (cells .entry)) (now (log .entry)) (now (records .entry)) (now (output .entry)) ⌝ }
+    ensures output { λ _. ⌜ now (output .exit) ≡ fileOutputAfter (now (file .entry)) (now (cells .entry)) (now (log .entry)) (now (records .entry)) (now (output .entry)) ⌝ }
     ensures reads { λ r. ⌜ OfLength (FileReadable (now (file .entry))) r (now (output .exit)) ⌝ }
     ensures runs { λ r. ⌜ OfLength (ReportDemand3 (now (file .entry))) r (now (output .exit)) ⌝ }
 {
-    let answer = checkfile::check_file(file, cells, log, output);
+    let answer = checkfile::check_file(file, cells, log, records, output);
     answerwords::tell_written(answer, refusal)
 }
 
@@ -37,21 +40,23 @@ pub extern "C" fn sekufoyi_bare_launch(
     limit: u32,
     cells: &mut [u32],
     log: &mut [u32],
+    records: &mut [u32],
     steps: &mut [u32; 32],
-    outcome: &mut [u32; 8],
+    outcome: &mut [u32; 9],
     refusal: &mut [u32; 2],
 ) -> bool
-    ensures ran { λ r. ⌜ r ≡ ranIn (bareAnswer (now (table .entry)) threads count limit (now (cells .entry)) (now (log .entry))) ⌝ }
-    ensures outcome { λ _. ⌜ now (outcome .exit) ≡ outcomeIn (bareAnswer (now (table .entry)) threads count limit (now (cells .entry)) (now (log .entry))) ⌝ }
-    ensures refusal { λ _. ⌜ now (refusal .exit) ≡ whyIn (bareAnswer (now (table .entry)) threads count limit (now (cells .entry)) (now (log .entry))) ⌝ }
-    ensures cells { λ _. ⌜ now (cells .exit) ≡ bareCells (now (table .entry)) threads count limit (now (cells .entry)) (now (log .entry)) ⌝ }
-    ensures log { λ _. ⌜ now (log .exit) ≡ bareLog (now (table .entry)) threads count limit (now (cells .entry)) (now (log .entry)) ⌝ }
-    ensures steps { λ _. ⌜ now (steps .exit) ≡ bareSteps (now (table .entry)) threads count limit (now (cells .entry)) (now (log .entry)) (now (steps .entry)) ⌝ }
+    ensures ran { λ r. ⌜ r ≡ ranIn (bareAnswer (now (table .entry)) threads count limit (now (cells .entry)) (now (log .entry)) (now (records .entry))) ⌝ }
+    ensures outcome { λ _. ⌜ now (outcome .exit) ≡ outcomeIn (bareAnswer (now (table .entry)) threads count limit (now (cells .entry)) (now (log .entry)) (now (records .entry))) ⌝ }
+    ensures refusal { λ _. ⌜ now (refusal .exit) ≡ whyIn (bareAnswer (now (table .entry)) threads count limit (now (cells .entry)) (now (log .entry)) (now (records .entry))) ⌝ }
+    ensures cells { λ _. ⌜ now (cells .exit) ≡ bareCells (now (table .entry)) threads count limit (now (cells .entry)) (now (log .entry)) (now (records .entry)) ⌝ }
+    ensures log { λ _. ⌜ now (log .exit) ≡ bareLog (now (table .entry)) threads count limit (now (cells .entry)) (now (log .entry)) (now (records .entry)) ⌝ }
+    ensures records { λ _. ⌜ now (records .exit) ≡ bareRecords (now (table .entry)) threads count limit (now (cells .entry)) (now (log .entry)) (now (records .entry)) ⌝ }
+    ensures steps { λ _. ⌜ now (steps .exit) ≡ bareSteps (now (table .entry)) threads count limit (now (cells .entry)) (now (log .entry)) (now (records .entry)) (now (steps .entry)) ⌝ }
     ensures runs { λ r. ⌜ RanDemand3 (now (table .entry)) threads limit (now (cells .entry)) r (now (outcome .exit)) (now (cells .exit)) (now (steps .exit)) ⌝ }
 {
-    match launch::bare_launch(table, threads, count, limit, cells, log, steps) {
+    match launch::bare_launch(table, threads, count, limit, cells, log, records, steps) {
         Answer::Refused(why) => {
-            *outcome = [0, 0, 0, 0, 0, 0, 0, 0];
+            *outcome = [0, 0, 0, 0, 0, 0, 0, 0, 0];
             *refusal = refusals::words(why);
             false
         }
@@ -65,7 +70,7 @@ pub extern "C" fn sekufoyi_bare_launch(
 
 #[no_mangle]
 pub extern "C" fn sekufoyi_write_report(
-    outcome: &[u32; 8],
+    outcome: &[u32; 9],
     steps: &[u32],
     cells: &[u32],
     output: &mut [u8],

@@ -18,6 +18,9 @@ use Rattle.spec.specs.LockStep.{initialState, andThen, inTurn, advance, 
 use Rattle.spec.specs.LockStep.{forEnabled, countSteps, topMask, topOpener, pop, ifRow, elseRow, endifRow, savedAtWhile, leaveOrStay, whileRow}
 use Rattle.spec.specs.LockStep.{endwhileRow, passBarrier, barrierRow, runRow, resultOf, runFrom, lockstep, outcomeOf, countedAt, countedAfter}
 use Rattle.spec.specs.LockStep.{countedFrom, countedBarriers}
+use Rattle.spec.specs.Banks.{different, inBank, mostInBank, conflictCost}
+use Rattle.spec.specs.Intervals.{usedCells, rowCost, allOf, started, withRow, behind, intervalsAfter, intervalsFrom, together, recordsOf}
+use Rattle.spec.specs.Intervals.{intervalRecords, recordWords, conflictsOf}
 use Rattle.spec.specs.Threads.{reg, goto, put, reach, onIf, onWhile, effectOf, effect, emptyRecord, recorded, anyBelow, races, initialGroup}
 use Rattle.spec.specs.Threads.{noThread, threadCount, effectAt, accessesOf, isOutside, endsBadly, markBad, threadAfter, cellsAfter, performed}
 use Rattle.spec.specs.Threads.{pastBarrier, released, next, isBarrier, atOneBarrier, isWaiting, possible, atEnd, shown}
@@ -25,18 +28,20 @@ use Rattle.spec.specs.AllRuns.{isMoveOf, isRelease}
 use Rattle.spec.specs.Text.{text, digitsWithin, decimal, isDigit, isNumber, digitsValue, numberBelow, startingWith, splitAt}
 use Rattle.spec.specs.LaunchFile.{continue, _>>=_, _>>_, gives, inOrder, times, given, lineValue, isDue, due, require, fileEnds, exactly}
 use Rattle.spec.specs.LaunchFile.{number, byte, rowValue, numberLines, dueNumber, numbers, contentLines, launchLines, unlessRefused, checkedTable, fileLaunch}
-use Rattle.spec.specs.Report.{verdictText, kindText, valueText, keyLine, lineBytes, _is_, bytesOf, details, detailsOf, headWith, headLines, barriersLine}
+use Rattle.spec.specs.Report.{verdictText, kindText, valueText, keyLine, lineBytes, _is_, bytesOf, details, detailsOf, headWith, headLines, intervalLines}
 use Rattle.spec.specs.Report.{eachLine, endLine, runLines, runReport, refusalLines, refusalReport, reportOf}
 use Rattle.spec.specs.Reading.{onFirst, linesIn, isLine, hasLine, isFirst, beginsWith, numberIn, underKey, numbersOn, numbersAt, isPassed, hasPassed, installs}
-use Rattle.spec.specs.Entries.{over, bareNumbers, bareLent, bareRefusal, bareRun, answerOf, keptIf, bareAnswer, bareCells, bareLog, bareSteps}
-use Rattle.spec.specs.Entries.{linesReported, writerRefusal, writtenOf, writerAnswer, writerBuffer, fileLent, andState, fileChecked, launchRun}
-use Rattle.spec.specs.Entries.{launchReport, reportLength, fileAnswer, ifAccepted, fileCellsAfter, fileLogAfter, fileOutputAfter, printed}
+use Rattle.spec.specs.Entries.{over, bareNumbers, bareLent, bareRefusal, bareRun, bareIntervals, bareOutcome, answerOf, keptIf, bareAnswer, bareCells}
+use Rattle.spec.specs.Entries.{bareLog, bareRecords, bareSteps}
+use Rattle.spec.specs.Entries.{linesReported, writerRefusal, writtenOf, writerAnswer, writerBuffer, fileLent, andState, fileChecked, launchRun, launchIntervals, launchOutcome}
+use Rattle.spec.specs.Entries.{launchReport, reportLength, fileAnswer, ifAccepted, fileCellsAfter, fileLogAfter, fileRecordsAfter, fileOutputAfter, printed}
 use Rattle.spec.specs.Entries.{checkedRefusal, checkPrints, subjectOf}
 use Rattle.spec.specs.Examples.{withNewlines, lines, examples}
 use Rattle.spec.specs.RunExamples.{runExamples}
 use Rattle.spec.specs.AddExamples.{addExamples}
 use Rattle.spec.specs.ShiftExamples.{shiftExamples}
 use Rattle.spec.specs.StepExamples.{stepExamples, stepSums}
+use Rattle.spec.specs.ConflictExamples.{conflictExamples, conflictRecords}
 
 -- Whoever unfolds this unfolds them all.
 unfoldable pub computing : Unit {0}
@@ -54,6 +59,8 @@ unfolding refusalNumber refusalPlace named told toldBy toldIn unless orElse firs
     lockStep.reg initialState andThen inTurn advance update setReg computeTurn madeAccess tryAccess accessTurn forEnabled countSteps
     topMask topOpener pop ifRow elseRow endifRow savedAtWhile leaveOrStay whileRow endwhileRow passBarrier barrierRow runRow resultOf
     runFrom lockstep outcomeOf countedAt countedAfter countedFrom countedBarriers
+    different inBank mostInBank conflictCost
+    usedCells rowCost allOf started withRow behind intervalsAfter intervalsFrom together recordsOf intervalRecords recordWords conflictsOf
     reg goto put reach onIf onWhile effectOf effect emptyRecord recorded anyBelow races initialGroup noThread threadCount effectAt
     accessesOf isOutside endsBadly markBad threadAfter cellsAfter performed pastBarrier released next isBarrier atOneBarrier isWaiting
     possible atEnd shown
@@ -61,11 +68,11 @@ unfolding refusalNumber refusalPlace named told toldBy toldIn unless orElse firs
     text digitsWithin decimal isDigit isNumber digitsValue numberBelow startingWith splitAt
     continue _>>=_ _>>_ gives inOrder times given lineValue isDue due require fileEnds exactly number byte rowValue numberLines dueNumber
     numbers contentLines launchLines unlessRefused checkedTable fileLaunch
-    verdictText kindText valueText keyLine lineBytes _is_ bytesOf details detailsOf headWith headLines barriersLine eachLine endLine runLines runReport
+    verdictText kindText valueText keyLine lineBytes _is_ bytesOf details detailsOf headWith headLines intervalLines eachLine endLine runLines runReport
     refusalLines refusalReport reportOf
     onFirst linesIn isLine hasLine isFirst beginsWith numberIn underKey numbersOn numbersAt isPassed hasPassed installs
-    over bareNumbers bareLent bareRefusal bareRun answerOf keptIf bareAnswer bareCells bareLog bareSteps linesReported writerRefusal
-    writtenOf writerAnswer writerBuffer fileLent andState fileChecked launchRun launchReport reportLength fileAnswer ifAccepted fileCellsAfter
-    fileLogAfter fileOutputAfter printed checkPrints checkedRefusal subjectOf
-    withNewlines lines examples runExamples addExamples shiftExamples stepExamples stepSums
+    over bareNumbers bareLent bareRefusal bareRun bareIntervals bareOutcome answerOf keptIf bareAnswer bareCells bareLog bareRecords bareSteps linesReported writerRefusal
+    writtenOf writerAnswer writerBuffer fileLent andState fileChecked launchRun launchIntervals launchOutcome launchReport reportLength fileAnswer ifAccepted fileCellsAfter
+    fileLogAfter fileRecordsAfter fileOutputAfter printed checkPrints checkedRefusal subjectOf
+    withNewlines lines examples runExamples addExamples shiftExamples stepExamples stepSums conflictExamples conflictRecords
 computing = tt

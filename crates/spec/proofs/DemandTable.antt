@@ -54,7 +54,7 @@ unfoldable pub itsBytes : List ℕ
 itsBytes = 2 ∷ 0 ∷ 0 ∷ 0 ∷ 37 ∷ 0 ∷ 0 ∷ 0 ∷ 32 ∷ 0 ∷ 0 ∷ 0 ∷ 1 ∷ 1 ∷ 5 ∷ 0 ∷ 34 ∷ 0 ∷ 0 ∷ 0 ∷ []
 
 abbrev pub itsOutcome : Outcome
-itsOutcome = record { verdict = Passed; row = 5; rows = 5; barriers = 1 }
+itsOutcome = record { verdict = Passed; row = 5; rows = 5; barriers = 1; conflicts = 0 }
 
 pub counts-taken : BareDemand3 itsBytes 2 100 (9 ∷ []) (answer.Ran itsOutcome) (9 ∷ []) (3 ∷ 4 ∷ replicate 30 0)
     → Demand3 lopsided 2 (9 ∷ []) 100 itsOutcome (3 ∷ 4 ∷ []) (9 ∷ [])
@@ -76,7 +76,7 @@ firstNumber (none ∷ ns) = 0
 firstNumber (some n ∷ ns) = n
 
 pub not-interchanged-in-lines :
-    PassedReport itsLaunch (lines "verdict=passed/row=-/thread=-/other=-/kind=-/at=-/rows=5/steps=4/steps=3/barriers=1/cell=9/end=report") → ⊥
+    PassedReport itsLaunch (lines "verdict=passed/row=-/thread=-/other=-/kind=-/at=-/rows=5/steps=4/steps=3/barriers=1/conflicts=0/cell=9/end=report") → ⊥
 unfolding computing itsMoves itsLaunch firstNumber
 not-interchanged-in-lines r = by (r .steps) (ap firstNumber (r .stepsLines)) (r .says .each 0 (omega arith) itsMoves comes-to-its-end)
   where

@@ -2,6 +2,8 @@ pub mod Laws
 pub mod StepLaws
 pub mod LogLaws
 pub mod ClearingLaws
+pub mod BankLaws
+pub mod IntervalLaws
 pub mod Computing
 pub mod OpTable
 pub mod RefusalTable
@@ -12,6 +14,7 @@ pub mod MaskTable
 pub mod ConflictTable
 pub mod LogTable
 pub mod Worked
+pub mod IntervalTable
 pub mod LockStepTable
 pub mod MachineRuns
 pub mod ThreadMoves

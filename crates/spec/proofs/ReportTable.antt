@@ -10,9 +10,9 @@ use Rattle.spec.specs.Text.{text}
 use Rattle.spec.specs.Examples.{lines}
 use Rattle.spec.proofs.Computing.{computing}
 
--- A run of three threads that stopped at row 11 after 12 rows and 14 barriers, with 130, 0 and 12 steps and with cells 256, 0 and 2 ^ 32 - 1.
+-- A run of three threads that stopped at row 11 after 12 rows, 14 barriers and 105 conflicts, with 130, 0 and 12 steps and with cells 256, 0 and 2 ^ 32 - 1.
 unfoldable pub stopped : Verdict → Subject
-stopped v = subject.Ran (record { verdict = v; row = 11; rows = 12; barriers = 14 })
+stopped v = subject.Ran (record { verdict = v; row = 11; rows = 12; barriers = 14; conflicts = 105 })
 
 unfoldable pub someSteps : List ℕ
 someSteps = 130 ∷ 0 ∷ 12 ∷ []
@@ -23,13 +23,13 @@ someCells = 256 ∷ 0 ∷ 4294967295 ∷ []
 -- Hyphens: row when passed; thread unless race, outside or diverged; other unless race or diverged; kind unless race; at unless race or outside.
 pub run-reports : map (λ v. reportOf (stopped v) someSteps someCells)
     (Passed ∷ Race 2 1 ReadWrite 5 ∷ Race 2 1 WriteRead 5 ∷ Race 2 1 WriteWrite 5 ∷ Outside 3 4000000000 ∷ Diverged 2 0 ∷ Spent ∷ [])
-    ≡ lines "verdict=passed/row=-/thread=-/other=-/kind=-/at=-/rows=12/steps=130/steps=0/steps=12/barriers=14/cell=256/cell=0/cell=4294967295/end=report"
-    ∷ lines "verdict=race/row=11/thread=2/other=1/kind=rw/at=5/rows=12/steps=130/steps=0/steps=12/barriers=14/cell=256/cell=0/cell=4294967295/end=report"
-    ∷ lines "verdict=race/row=11/thread=2/other=1/kind=wr/at=5/rows=12/steps=130/steps=0/steps=12/barriers=14/cell=256/cell=0/cell=4294967295/end=report"
-    ∷ lines "verdict=race/row=11/thread=2/other=1/kind=ww/at=5/rows=12/steps=130/steps=0/steps=12/barriers=14/cell=256/cell=0/cell=4294967295/end=report"
-    ∷ lines "verdict=outside/row=11/thread=3/other=-/kind=-/at=4000000000/rows=12/steps=130/steps=0/steps=12/barriers=14/cell=256/cell=0/cell=4294967295/end=report"
-    ∷ lines "verdict=diverged/row=11/thread=2/other=0/kind=-/at=-/rows=12/steps=130/steps=0/steps=12/barriers=14/cell=256/cell=0/cell=4294967295/end=report"
-    ∷ lines "verdict=spent/row=11/thread=-/other=-/kind=-/at=-/rows=12/steps=130/steps=0/steps=12/barriers=14/cell=256/cell=0/cell=4294967295/end=report"
+    ≡ lines "verdict=passed/row=-/thread=-/other=-/kind=-/at=-/rows=12/steps=130/steps=0/steps=12/barriers=14/conflicts=105/cell=256/cell=0/cell=4294967295/end=report"
+    ∷ lines "verdict=race/row=11/thread=2/other=1/kind=rw/at=5/rows=12/steps=130/steps=0/steps=12/barriers=14/conflicts=105/cell=256/cell=0/cell=4294967295/end=report"
+    ∷ lines "verdict=race/row=11/thread=2/other=1/kind=wr/at=5/rows=12/steps=130/steps=0/steps=12/barriers=14/conflicts=105/cell=256/cell=0/cell=4294967295/end=report"
+    ∷ lines "verdict=race/row=11/thread=2/other=1/kind=ww/at=5/rows=12/steps=130/steps=0/steps=12/barriers=14/conflicts=105/cell=256/cell=0/cell=4294967295/end=report"
+    ∷ lines "verdict=outside/row=11/thread=3/other=-/kind=-/at=4000000000/rows=12/steps=130/steps=0/steps=12/barriers=14/conflicts=105/cell=256/cell=0/cell=4294967295/end=report"
+    ∷ lines "verdict=diverged/row=11/thread=2/other=0/kind=-/at=-/rows=12/steps=130/steps=0/steps=12/barriers=14/conflicts=105/cell=256/cell=0/cell=4294967295/end=report"
+    ∷ lines "verdict=spent/row=11/thread=-/other=-/kind=-/at=-/rows=12/steps=130/steps=0/steps=12/barriers=14/conflicts=105/cell=256/cell=0/cell=4294967295/end=report"
     ∷ []
 unfolding computing stopped someSteps someCells
 run-reports = refl
@@ -42,10 +42,10 @@ kind-texts = refl
 
 -- Races of adds are reported as the others are.
 pub add-reports : map (λ k. reportOf (stopped (Race 2 1 k 5)) (9 ∷ []) (7 ∷ [])) (ReadAdd ∷ AddRead ∷ WriteAdd ∷ AddWrite ∷ []) ≡
-    lines "verdict=race/row=11/thread=2/other=1/kind=ra/at=5/rows=12/steps=9/barriers=14/cell=7/end=report"
-    ∷ lines "verdict=race/row=11/thread=2/other=1/kind=ar/at=5/rows=12/steps=9/barriers=14/cell=7/end=report"
-    ∷ lines "verdict=race/row=11/thread=2/other=1/kind=wa/at=5/rows=12/steps=9/barriers=14/cell=7/end=report"
-    ∷ lines "verdict=race/row=11/thread=2/other=1/kind=aw/at=5/rows=12/steps=9/barriers=14/cell=7/end=report"
+    lines "verdict=race/row=11/thread=2/other=1/kind=ra/at=5/rows=12/steps=9/barriers=14/conflicts=105/cell=7/end=report"
+    ∷ lines "verdict=race/row=11/thread=2/other=1/kind=ar/at=5/rows=12/steps=9/barriers=14/conflicts=105/cell=7/end=report"
+    ∷ lines "verdict=race/row=11/thread=2/other=1/kind=wa/at=5/rows=12/steps=9/barriers=14/conflicts=105/cell=7/end=report"
+    ∷ lines "verdict=race/row=11/thread=2/other=1/kind=aw/at=5/rows=12/steps=9/barriers=14/conflicts=105/cell=7/end=report"
     ∷ []
 unfolding computing stopped
 add-reports = refl

@@ -5,12 +5,14 @@ use Prim.Native.Nat.{ℕ}
 use Rattle.spec.specs.Log.{logWords}
 use Rattle.spec.specs.Steps.{sum}
 use Rattle.spec.specs.LaunchFile.{Launch, Checked, refused, accepted, fileLaunch}
-use Rattle.spec.specs.Entries.{launchRun, printed}
+use Rattle.spec.specs.Intervals.{recordWords}
+use Rattle.spec.specs.Entries.{launchRun, launchIntervals, printed}
 use Rattle.spec.specs.Examples.{Worked, examples}
 use Rattle.spec.specs.RunExamples.{runExamples}
 use Rattle.spec.specs.AddExamples.{addExamples}
 use Rattle.spec.specs.ShiftExamples.{shiftExamples}
 use Rattle.spec.specs.StepExamples.{stepExamples, stepSums}
+use Rattle.spec.specs.ConflictExamples.{conflictExamples, conflictRecords}
 use Rattle.spec.proofs.Computing.{computing}
 
 unfoldable pub finalLog : Checked Launch → List ℕ
@@ -43,6 +45,10 @@ pub worked-steps : map computed stepExamples ≡ map expected stepExamples
 unfolding computing computed expected finalLog
 worked-steps = refl
 
+pub worked-conflicts : map computed conflictExamples ≡ map expected conflictExamples
+unfolding computing computed expected finalLog
+worked-conflicts = refl
+
 -- The sum of the counts.
 unfoldable pub allSteps : Checked Launch → ℕ
 allSteps (refused r) = 0
@@ -51,3 +57,12 @@ allSteps (accepted launch) = sum (launchRun launch .state .steps)
 pub worked-sums : map (λ x. allSteps (fileLaunch (x .file))) stepExamples ≡ stepSums
 unfolding computing allSteps
 worked-sums = refl
+
+-- The words of the records.
+unfoldable pub finalRecords : Checked Launch → List ℕ
+finalRecords (refused r) = []
+finalRecords (accepted launch) = recordWords (launchIntervals launch)
+
+pub worked-records : map (λ x. finalRecords (fileLaunch (x .file))) conflictExamples ≡ conflictRecords
+unfolding computing finalRecords
+worked-records = refl

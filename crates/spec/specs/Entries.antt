@@ -5,9 +5,9 @@ use mathlib.Core.Option.{Option, none, some}
 use Prim.Native.Nat.{ℕ, _*_, _/_, _%_}
 use lib.Dec.{eqb, leb}
 use lib.ListN.{length, drop, replicate}
-use Rattle.spec.specs.Limits.{maxThreads, maxCells, maxRows, maxLimit, logPerCell, fileCells, fileLog, fileOutput}
+use Rattle.spec.specs.Limits.{maxThreads, maxCells, maxRows, maxLimit, logPerCell, recordsLent, fileCells, fileLog, fileOutput}
 use Rattle.spec.specs.Answers.{Outcome, Refusal, TableLength, TooManyRows, ThreadsOutOfRange, CellsOutOfRange, LimitOutOfRange, CellsLength}
-use Rattle.spec.specs.Answers.{LogLength, OutputLength, ReportLines, ReportTooLong}
+use Rattle.spec.specs.Answers.{LogLength, RecordsLength, OutputLength, ReportLines, ReportTooLong}
 use Rattle.spec.specs.Answers.{Answer, Written, Subject, refusalNumber, refusalPlace, unless, first}
 use Rattle.spec.specs.declared.Answer.the-variants as answer
 use Rattle.spec.specs.declared.Written.the-variants as written
@@ -16,6 +16,7 @@ use Rattle.spec.specs.Table.{rowsOf}
 use Rattle.spec.specs.TableCheck.{tableRefusal}
 use Rattle.spec.specs.Log.{logWords}
 use Rattle.spec.specs.LockStep.{LockResult, lockstep, outcomeOf}
+use Rattle.spec.specs.Intervals.{Interval, intervalRecords, recordWords, conflictsOf}
 use Rattle.spec.specs.LaunchFile.{Launch, Checked, refused, accepted, unlessRefused, fileLaunch}
 use Rattle.spec.specs.Report.{runReport, refusalReport, reportOf}
 
@@ -23,7 +24,7 @@ use Rattle.spec.specs.Report.{runReport, refusalReport, reportOf}
 unfoldable pub over : List ℕ → List ℕ → List ℕ
 over w buffer = w ++ drop (length w) buffer
 
--- The bare launch: table bytes, the numbers of threads and cells, the limit, lent cells, lent log and lent step counts.
+-- The bare launch: table bytes, the numbers of threads and cells, the limit, lent cells, lent log, lent records and lent step counts.
 
 -- From the input, 1, 2, 8, 9, 10 by the table's length and the launch's numbers. None of them stands on a line.
 unfoldable pub bareNumbers : (bytes threads cells limit : ℕ) → Option Refusal
@@ -36,18 +37,31 @@ bareNumbers bytes threads cells limit =
     ∷ unless (leb limit maxLimit) (LimitOutOfRange 0)
     ∷ [])
 
--- From the state, 20 and 21.
-unfoldable pub bareLent : (cells cellWords logWords : ℕ) → Option Refusal
-bareLent cells cellWords logWords = first (unless (eqb cellWords cells) CellsLength ∷ unless (eqb logWords (logPerCell * cells)) LogLength ∷ [])
+-- From the state, 20, 21 and 30. More words may be lent for records than are asked.
+unfoldable pub bareLent : (cells cellWords logWords recordWords : ℕ) → Option Refusal
+bareLent cells cellWords logWords recordWords =
+    first
+    (unless (eqb cellWords cells) CellsLength
+    ∷ unless (eqb logWords (logPerCell * cells)) LogLength
+    ∷ unless (leb recordsLent recordWords) RecordsLength
+    ∷ [])
 
 -- The rows are checked between the two.
-unfoldable pub bareRefusal : (table : List ℕ) → (threads cells limit : ℕ) → (lentCells lentLog : List ℕ) → Option Refusal
-bareRefusal table threads cells limit lentCells lentLog =
-    first (bareNumbers (length table) threads cells limit ∷ tableRefusal (rowsOf table) ∷ bareLent cells (length lentCells) (length lentLog) ∷ [])
+unfoldable pub bareRefusal : (table : List ℕ) → (threads cells limit : ℕ) → (lentCells lentLog lentRecords : List ℕ) → Option Refusal
+bareRefusal table threads cells limit lentCells lentLog lentRecords =
+    first (bareNumbers (length table) threads cells limit ∷ tableRefusal (rowsOf table) ∷ bareLent cells (length lentCells) (length lentLog) (length lentRecords) ∷ [])
 
 -- The run that an accepted bare launch makes: the lent cells are the launch's.
 unfoldable pub bareRun : (table : List ℕ) → (threads limit : ℕ) → (lentCells : List ℕ) → LockResult
 bareRun table threads limit lentCells = lockstep (rowsOf table) threads lentCells limit
+
+-- The records of its intervals, and what it comes to.
+unfoldable pub bareIntervals : (table : List ℕ) → (threads limit : ℕ) → (lentCells : List ℕ) → List Interval
+bareIntervals table threads limit lentCells = intervalRecords (rowsOf table) threads lentCells limit
+
+unfoldable pub bareOutcome : (table : List ℕ) → (threads limit : ℕ) → (lentCells : List ℕ) → Outcome
+bareOutcome table threads limit lentCells =
+    outcomeOf (bareRun table threads limit lentCells) (conflictsOf (bareIntervals table threads limit lentCells))
 
 unfoldable pub answerOf : Option Refusal → Outcome → Answer
 answerOf none o = answer.Ran o
@@ -58,22 +72,27 @@ unfoldable pub keptIf : Option Refusal → (lent new : List ℕ) → List ℕ
 keptIf none lent new = new
 keptIf (some r) lent new = lent
 
-unfoldable pub bareAnswer : (table : List ℕ) → (threads cells limit : ℕ) → (lentCells lentLog : List ℕ) → Answer
-bareAnswer table threads cells limit lentCells lentLog =
-    answerOf (bareRefusal table threads cells limit lentCells lentLog) (outcomeOf (bareRun table threads limit lentCells))
+unfoldable pub bareAnswer : (table : List ℕ) → (threads cells limit : ℕ) → (lentCells lentLog lentRecords : List ℕ) → Answer
+bareAnswer table threads cells limit lentCells lentLog lentRecords =
+    answerOf (bareRefusal table threads cells limit lentCells lentLog lentRecords) (bareOutcome table threads limit lentCells)
 
-unfoldable pub bareCells : (table : List ℕ) → (threads cells limit : ℕ) → (lentCells lentLog : List ℕ) → List ℕ
-bareCells table threads cells limit lentCells lentLog =
-    keptIf (bareRefusal table threads cells limit lentCells lentLog) lentCells (bareRun table threads limit lentCells .state .cells)
+unfoldable pub bareCells : (table : List ℕ) → (threads cells limit : ℕ) → (lentCells lentLog lentRecords : List ℕ) → List ℕ
+bareCells table threads cells limit lentCells lentLog lentRecords =
+    keptIf (bareRefusal table threads cells limit lentCells lentLog lentRecords) lentCells (bareRun table threads limit lentCells .state .cells)
 
-unfoldable pub bareLog : (table : List ℕ) → (threads cells limit : ℕ) → (lentCells lentLog : List ℕ) → List ℕ
-bareLog table threads cells limit lentCells lentLog =
-    keptIf (bareRefusal table threads cells limit lentCells lentLog) lentLog (logWords (bareRun table threads limit lentCells .state .log))
+unfoldable pub bareLog : (table : List ℕ) → (threads cells limit : ℕ) → (lentCells lentLog lentRecords : List ℕ) → List ℕ
+bareLog table threads cells limit lentCells lentLog lentRecords =
+    keptIf (bareRefusal table threads cells limit lentCells lentLog lentRecords) lentLog (logWords (bareRun table threads limit lentCells .state .log))
+
+-- Three words for each record from the start of what is lent; the words behind them are kept.
+unfoldable pub bareRecords : (table : List ℕ) → (threads cells limit : ℕ) → (lentCells lentLog lentRecords : List ℕ) → List ℕ
+bareRecords table threads cells limit lentCells lentLog lentRecords =
+    keptIf (bareRefusal table threads cells limit lentCells lentLog lentRecords) lentRecords (over (recordWords (bareIntervals table threads limit lentCells)) lentRecords)
 
 -- The lent counts get the steps of each thread, and 0 for the threads that the launch does not have.
-unfoldable pub bareSteps : (table : List ℕ) → (threads cells limit : ℕ) → (lentCells lentLog lentSteps : List ℕ) → List ℕ
-bareSteps table threads cells limit lentCells lentLog lentSteps =
-    keptIf (bareRefusal table threads cells limit lentCells lentLog) lentSteps (over (bareRun table threads limit lentCells .state .steps) (replicate maxThreads 0))
+unfoldable pub bareSteps : (table : List ℕ) → (threads cells limit : ℕ) → (lentCells lentLog lentRecords lentSteps : List ℕ) → List ℕ
+bareSteps table threads cells limit lentCells lentLog lentRecords lentSteps =
+    keptIf (bareRefusal table threads cells limit lentCells lentLog lentRecords) lentSteps (over (bareRun table threads limit lentCells .state .steps) (replicate maxThreads 0))
 
 -- The report writer: what to report, a slice of step counts and one of cells (not for a refusal), a buffer.
 
@@ -101,14 +120,15 @@ writerAnswer what steps cells buffer = writtenOf (writerRefusal what steps cells
 unfoldable pub writerBuffer : Subject → (steps cells buffer : List ℕ) → List ℕ
 writerBuffer what steps cells buffer = keptIf (writerRefusal what steps cells buffer) buffer (over (reportOf what steps cells) buffer)
 
--- The whole-file entry: file bytes, lent cells, lent log, output.
+-- The whole-file entry: file bytes, lent cells, lent log, lent records, output.
 
--- From the input: the file's refusal. From the state: 20, 21, 24.
-unfoldable pub fileLent : (cellWords logWords outputBytes : ℕ) → Option Refusal
-fileLent cellWords logWords outputBytes =
+-- From the input: the file's refusal. From the state: 20, 21, 30, 24.
+unfoldable pub fileLent : (cellWords logWords recordWords outputBytes : ℕ) → Option Refusal
+fileLent cellWords logWords recordWords outputBytes =
     first
     (unless (eqb cellWords fileCells) CellsLength
     ∷ unless (eqb logWords fileLog) LogLength
+    ∷ unless (leb recordsLent recordWords) RecordsLength
     ∷ unless (leb fileOutput outputBytes) OutputLength
     ∷ [])
 
@@ -116,42 +136,52 @@ unfoldable pub andState : Checked Launch → Option Refusal → Checked Launch
 andState (refused r) state = refused r
 andState (accepted launch) state = unlessRefused state launch
 
-unfoldable pub fileChecked : (file lentCells lentLog output : List ℕ) → Checked Launch
-fileChecked file lentCells lentLog output = andState (fileLaunch file) (fileLent (length lentCells) (length lentLog) (length output))
+unfoldable pub fileChecked : (file lentCells lentLog lentRecords output : List ℕ) → Checked Launch
+fileChecked file lentCells lentLog lentRecords output = andState (fileLaunch file) (fileLent (length lentCells) (length lentLog) (length lentRecords) (length output))
 
 -- What the file is refused for, if anything.
 unfoldable pub checkedRefusal : Checked Launch → Option Refusal
 checkedRefusal (refused r) = some r
 checkedRefusal (accepted launch) = none
 
--- The run of an accepted launch, and its report.
+-- The run of an accepted launch, its intervals, what it comes to, and its report.
 unfoldable pub launchRun : Launch → LockResult
 launchRun launch = lockstep (launch .table) (launch .threads) (launch .cells) (launch .limit)
 
+unfoldable pub launchIntervals : Launch → List Interval
+launchIntervals launch = intervalRecords (launch .table) (launch .threads) (launch .cells) (launch .limit)
+
+unfoldable pub launchOutcome : Launch → Outcome
+launchOutcome launch = outcomeOf (launchRun launch) (conflictsOf (launchIntervals launch))
+
 unfoldable pub launchReport : Launch → List ℕ
-launchReport launch = runReport (outcomeOf (launchRun launch)) (launchRun launch .state .steps) (launchRun launch .state .cells)
+launchReport launch = runReport (launchOutcome launch) (launchRun launch .state .steps) (launchRun launch .state .cells)
 
 -- The answer: the refusal, or the report's length.
 unfoldable pub reportLength : Checked Launch → Written
 reportLength (refused r) = written.Refused r
 reportLength (accepted launch) = written.Wrote (length (launchReport launch))
 
-unfoldable pub fileAnswer : (file lentCells lentLog output : List ℕ) → Written
-fileAnswer file lentCells lentLog output = reportLength (fileChecked file lentCells lentLog output)
+unfoldable pub fileAnswer : (file lentCells lentLog lentRecords output : List ℕ) → Written
+fileAnswer file lentCells lentLog lentRecords output = reportLength (fileChecked file lentCells lentLog lentRecords output)
 
 -- A refusal leaves each buffer as it was lent. An accepted launch leaves what its run makes from the buffer's start; the rest is kept.
 unfoldable pub ifAccepted : Checked Launch → (lent : List ℕ) → (Launch → List ℕ) → List ℕ
 ifAccepted (refused r) lent made = lent
 ifAccepted (accepted launch) lent made = over (made launch) lent
 
-unfoldable pub fileCellsAfter : (file lentCells lentLog output : List ℕ) → List ℕ
-fileCellsAfter file lentCells lentLog output = ifAccepted (fileChecked file lentCells lentLog output) lentCells (λ launch. launchRun launch .state .cells)
+unfoldable pub fileCellsAfter : (file lentCells lentLog lentRecords output : List ℕ) → List ℕ
+fileCellsAfter file lentCells lentLog lentRecords output = ifAccepted (fileChecked file lentCells lentLog lentRecords output) lentCells (λ launch. launchRun launch .state .cells)
 
-unfoldable pub fileLogAfter : (file lentCells lentLog output : List ℕ) → List ℕ
-fileLogAfter file lentCells lentLog output = ifAccepted (fileChecked file lentCells lentLog output) lentLog (λ launch. logWords (launchRun launch .state .log))
+unfoldable pub fileLogAfter : (file lentCells lentLog lentRecords output : List ℕ) → List ℕ
+fileLogAfter file lentCells lentLog lentRecords output = ifAccepted (fileChecked file lentCells lentLog lentRecords output) lentLog (λ launch. logWords (launchRun launch .state .log))
 
-unfoldable pub fileOutputAfter : (file lentCells lentLog output : List ℕ) → List ℕ
-fileOutputAfter file lentCells lentLog output = ifAccepted (fileChecked file lentCells lentLog output) output launchReport
+unfoldable pub fileRecordsAfter : (file lentCells lentLog lentRecords output : List ℕ) → List ℕ
+fileRecordsAfter file lentCells lentLog lentRecords output =
+    ifAccepted (fileChecked file lentCells lentLog lentRecords output) lentRecords (λ launch. recordWords (launchIntervals launch))
+
+unfoldable pub fileOutputAfter : (file lentCells lentLog lentRecords output : List ℕ) → List ℕ
+fileOutputAfter file lentCells lentLog lentRecords output = ifAccepted (fileChecked file lentCells lentLog lentRecords output) output launchReport
 
 -- The program check, which lends buffers of the right sizes: it prints the report, or the refusal's report.
 unfoldable pub printed : Checked Launch → List ℕ
@@ -164,4 +194,4 @@ checkPrints file = printed (fileLaunch file)
 -- What that report is made of.
 unfoldable pub subjectOf : Checked Launch → Subject
 subjectOf (refused r) = subject.Refused (refusalNumber r) (refusalPlace r)
-subjectOf (accepted launch) = subject.Ran (outcomeOf (launchRun launch))
+subjectOf (accepted launch) = subject.Ran (launchOutcome launch)

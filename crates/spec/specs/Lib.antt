@@ -12,6 +12,8 @@ pub mod Shape
 pub mod Log
 pub mod Steps
 pub mod LockStep
+pub mod Banks
+pub mod Intervals
 pub mod Runs
 pub mod Threads
 pub mod AllRuns
@@ -25,4 +27,5 @@ pub mod RunExamples
 pub mod AddExamples
 pub mod ShiftExamples
 pub mod StepExamples
+pub mod ConflictExamples
 pub mod Demands

@@ -34,7 +34,18 @@ bytes = 256
 abbrev pub logPerCell : ℕ
 logPerCell = 3
 
--- What the whole-file entry has to be lent: words for the cells, words for the log, bytes for the report.
+-- Banks that the cells are in. Item 5.
+abbrev pub banks : ℕ
+banks = 16
+
+-- Records for barrier intervals, and the words that have to be lent for them, three a record.
+abbrev pub maxRecords : ℕ
+maxRecords = 1025
+
+abbrev pub recordsLent : ℕ
+recordsLent = 3075
+
+-- What the whole-file entry has to be lent besides: words for the cells, words for the log, bytes for the report.
 abbrev pub fileCells : ℕ
 fileCells = 1024
 

@@ -229,9 +229,10 @@ runFrom T L (suc left) s =
 unfoldable pub lockstep : Table → (n : ℕ) → (cells : List ℕ) → (limit : ℕ) → LockResult
 lockstep T n cells limit = runFrom T (shapeOf n cells) limit (initialState n cells)
 
--- What a report says of it beside the steps and the cells. The row is where it stopped; for spent, the row due.
-unfoldable pub outcomeOf : LockResult → Outcome
-outcomeOf o = record { verdict = o .verdict; row = o .state .row; rows = o .state .rows; barriers = o .state .barriers }
+-- What a report says of it beside the steps and the cells, `conflicts` being what its rows cost. The row is where it stopped; for spent, the row due.
+unfoldable pub outcomeOf : LockResult → (conflicts : ℕ) → Outcome
+outcomeOf o conflicts =
+    record { verdict = o .verdict; row = o .state .row; rows = o .state .rows; barriers = o .state .barriers; conflicts = conflicts }
 
 -- The counted barriers, BARRIER rows at which barriers grows: the cells just before each, in their order.
 unfoldable pub countedAt : (before after : LockState) → List (List ℕ)

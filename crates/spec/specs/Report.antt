@@ -65,7 +65,7 @@ detailsOf (Outside thread at) row = details (value.Number row) (value.Number thr
 detailsOf (Diverged thread other) row = details (value.Number row) (value.Number thread) (value.Number other) value.Hyphen value.Hyphen
 detailsOf Spent row = details (value.Number row) value.Hyphen value.Hyphen value.Hyphen value.Hyphen
 
--- The lines of a run's report before its steps, the head; and the one behind them.
+-- The lines of a run's report before its steps, the head; and those behind them.
 unfoldable pub headWith : Outcome → Details → List Line
 headWith o d =
     "verdict" is value.Verdict (o .verdict)
@@ -80,20 +80,20 @@ headWith o d =
 unfoldable pub headLines : Outcome → List Line
 headLines o = headWith o (detailsOf (o .verdict) (o .row))
 
-unfoldable pub barriersLine : Outcome → Line
-barriersLine o = "barriers" is value.Number (o .barriers)
+unfoldable pub intervalLines : Outcome → List Line
+intervalLines o = "barriers" is value.Number (o .barriers) ∷ "conflicts" is value.Number (o .conflicts) ∷ []
 
 -- One line with the same key for each number.
 unfoldable pub eachLine : (key : List ℕ) → (numbers : List ℕ) → List Line
 eachLine key numbers = map (λ n. record { key = key; value = value.Number n }) numbers
 
--- The report of a run: the head, one `steps=` line per thread, the barriers, one `cell=` line per cell, and the last line.
+-- The report of a run: the head, one `steps=` line per thread, the barriers and the conflicts, one `cell=` line per cell, and the last line.
 unfoldable pub endLine : Line
 endLine = "end" is value.Report
 
 unfoldable pub runLines : Outcome → (steps cells : List ℕ) → List Line
 runLines o steps cells =
-    headLines o ++ (eachLine (text "steps") steps ++ (barriersLine o ∷ (eachLine (text "cell") cells ++ (endLine ∷ []))))
+    headLines o ++ (eachLine (text "steps") steps ++ (intervalLines o ++ (eachLine (text "cell") cells ++ (endLine ∷ []))))
 
 unfoldable pub runReport : Outcome → (steps cells : List ℕ) → List ℕ
 runReport o steps cells = bytesOf (runLines o steps cells)

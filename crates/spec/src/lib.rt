@@ -29,6 +29,7 @@ pub struct Outcome {
     pub row: u32,
     pub rows: u32,
     pub barriers: u32,
+    pub conflicts: u32,
 }
 
 // Why an input is turned back. A case holds its place where that is no constant:
@@ -51,6 +52,7 @@ pub enum Refusal {
     ReportTooLong(u32),
     ReportLines,
     OutputLength,
+    RecordsLength,
 }
 
 // The bare launch answers a refusal or the outcome of the run.

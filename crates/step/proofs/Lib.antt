@@ -1,3 +1,4 @@
 pub mod Tables
 mod Plain
 mod Registers
+mod Recorded

@@ -1,11 +1,17 @@
 // One row of the run: the op is told apart, and the row's own function does it.
 ghost use mathlib.Core.Path.{_≡_};
-ghost use Prim.Native.Nat.{_+_, _*_, _^_, _<_};
-ghost use lib.ListN.{getD};
-ghost use Rattle.layout.specs.Memory.{AccessAsks, InMemory, KeptBut};
+ghost use Prim.Native.Nat.{_+_, _*_, _^_, _<_, _≤_};
+ghost use lib.ListN.{length, getD};
+ghost use Rattle.spec.specs.Limits.{logPerCell};
+ghost use Rattle.layout.specs.declared.Next.the-variants as next;
+ghost use Rattle.layout.specs.Constructs.{barrierNext, barrierLog};
+ghost use Rattle.layout.specs.Memory.{AccessAsks, InMemory, KeptBut, cellIn};
 ghost use Rattle.layout.specs.Represents.{Room, reached, accessed};
 ghost use Rattle.layout.specs.Running.{AccessDone, Ready, Steps};
 ghost use Rattle.layout.specs.Counting.{Roomy, StepsOn, NextCounted};
+ghost use Rattle.banks.specs.Counting.{Older};
+ghost use Rattle.intervals.specs.Records.{RecordAsks, recordsAfter};
+ghost use Rattle.step.specs.Recording.{RowRecorded, cellDue};
 
 fn index(x: u8) -> usize
     ensures { λ r. ⌜ (r ≡ x) × (r < 256) ⌝ }
@@ -42,21 +48,58 @@ fn after_access(r: layout::Turns, s: layout::State) -> layout::Next
     }
 }
 
+// The accesses of a row, stamped by its number, and what they cost.
 fn access_row(
     regs: &mut [u32; 512],
     cells: &mut [u32],
     log: &mut [u32],
+    stamps: &mut [u32; 1024],
+    records: &mut [u32],
     n: u32,
     op: u8,
     d: usize,
     a: usize,
     s: layout::State,
 ) -> layout::Next
-    requires { ⌜ Room s × (s .mask < 2 ^ n) × AccessAsks op d a (now cells) (now log) × InMemory n (now regs) (now cells) (now log) ⌝ }
+    requires { ⌜ Room s × (s .mask < 2 ^ n) × AccessAsks op d a (now cells) (now log) × InMemory n (now regs) (now cells) (now log)
+        × Older (s .rows + 1) (now stamps) × RecordAsks (s .barriers) (s .rows) (now records) ⌝ }
     ensures { λ r. ⌜ AccessDone op n d a s (now (regs .entry)) (now (cells .entry)) (now (log .entry)) r
-        (now (regs .exit)) (now (cells .exit)) (now (log .exit)) × KeptBut d n (now (regs .entry)) (now (regs .exit)) × StepsOn s r ⌝ }
+        (now (regs .exit)) (now (cells .exit)) (now (log .exit)) × KeptBut d n (now (regs .entry)) (now (regs .exit)) × StepsOn s r
+        × RowRecorded op n (cellIn op d a (now (regs .entry))) s r (now (records .entry)) (now (records .exit)) (now (stamps .exit)) ⌝ }
 {
-    after_access(memory::access_row(regs, cells, log, n, s.mask, op, d, a), s)
+    let r = memory::access_row(regs, cells, log, stamps, s.rows + 1, n, s.mask, op, d, a);
+    intervals::charge(records, s.barriers, r.cost);
+    after_access(r, s)
+}
+
+// After a barrier that lets the run go on: where all have passed it, the next interval starts at the row behind it.
+fn next_interval(records: &mut [u32], s: layout::State, z: layout::State)
+    requires { ⌜ RecordAsks (s .barriers) (s .rows) (now records) × (s .rows ≤ z .rows) × (z .row ≤ 256) ⌝ }
+    ensures { λ _. ⌜ now (records .exit) ≡ recordsAfter 0 s (next.Go z) (now (records .entry)) ⌝ }
+{
+    if s.barriers < z.barriers {
+        intervals::release(records, s.barriers, z.row as u32, z.rows);
+    }
+}
+
+fn barrier_row(
+    log: &mut [u32],
+    records: &mut [u32],
+    cells: usize,
+    n: u32,
+    s: layout::State,
+) -> layout::Next
+    requires { ⌜ Room s × (1 ≤ n) × (n ≤ 32) × (length (now log) ≡ logPerCell * cells) × RecordAsks (s .barriers) (s .rows) (now records) ⌝ }
+    ensures { λ r. ⌜ (r ≡ barrierNext n s) × (now (log .exit) ≡ barrierLog n s cells (now (log .entry)))
+        × (now (records .exit) ≡ recordsAfter 0 s r (now (records .entry))) ⌝ }
+{
+    match constructs::barrier_row(log, cells, n, s) {
+        layout::Next::Go(z) => {
+            next_interval(records, s, z);
+            layout::Next::Go(z)
+        }
+        layout::Next::Stop(v, z) => layout::Next::Stop(v, z),
+    }
 }
 
 // One row. The op is told apart once, outside the loops over the threads.
@@ -70,14 +113,18 @@ pub fn step(
     saved: &mut [u32; 8],
     openers: &mut [usize; 8],
     counts: &mut [u32; 32],
+    stamps: &mut [u32; 1024],
+    records: &mut [u32],
     s: layout::State,
 ) -> layout::Next
     requires { ⌜ Ready (now table) (now ends) n s (now regs) (now cells) (now log) (now saved) (now openers)
-        × Roomy (s .mask) (s .since + 1) (now counts) ⌝ }
+        × Roomy (s .mask) (s .since + 1) (now counts) × Older (s .rows + 1) (now stamps) × RecordAsks (s .barriers) (s .rows) (now records) ⌝ }
     ensures { λ r. ⌜ Steps (now (table .entry)) n s
         (now (regs .entry)) (now (cells .entry)) (now (log .entry)) (now (saved .entry)) (now (openers .entry)) r
         (now (regs .exit)) (now (cells .exit)) (now (log .exit)) (now (saved .exit)) (now (openers .exit))
-        × NextCounted (getD (now (table .entry)) (s .row * 4) 0) s r (now (counts .entry)) (now (counts .exit)) ⌝ }
+        × NextCounted (getD (now (table .entry)) (s .row * 4) 0) s r (now (counts .entry)) (now (counts .exit))
+        × RowRecorded (getD (now (table .entry)) (s .row * 4) 0) n (cellDue (now (table .entry)) s (now (regs .entry))) s r
+        (now (records .entry)) (now (records .exit)) (now (stamps .exit)) ⌝ }
 {
     let row = s.row;
     let op = table[row * 4];
@@ -89,12 +136,12 @@ pub fn step(
         return layout::Next::Go(constructs::moved(s));
     }
     if op < 32 {
-        return access_row(regs, cells, log, n, op, d, a, s);
+        return access_row(regs, cells, log, stamps, records, n, op, d, a, s);
     }
     if op < 37 {
         let end = index(ends[row]);
         let z = constructs::construct_row(regs, saved, openers, op, a, end, s);
         return layout::Next::Go(stepcounts::settle(counts, op, s.mask, z));
     }
-    constructs::barrier_row(log, cells.len(), n, s)
+    barrier_row(log, records, cells.len(), n, s)
 }

@@ -70,6 +70,73 @@ pub(crate) fn load_store() -> Vec<Row> {
     endless(&ACCESS.repeat(16))
 }
 
+/// The cell numbered CELL instead of the thread's own.
+const ACCESS_CELL: [Row; 2] = [[op::LOAD, 3, CELL, 0], [op::STORE, CELL, 3, 0]];
+
+/// CELL is the thread's number times `stride`.
+fn at_stride(stride: u8) -> [Row; 2] {
+    [[op::SET, STEP, stride, 0], [op::MUL, CELL, ME, STEP]]
+}
+
+/// CELL is one of 1,024 for each thread, no two the same and in no regular order: a number of ten bits is multiplied by an odd one, mixed
+/// with its own upper half and multiplied again, and each of these can be undone.
+fn scattered() -> Vec<Row> {
+    const BITS: u8 = 14;
+    let ten_bits = [[op::SET, BITS, 255, 3], [op::AND, CELL, CELL, BITS]];
+    let times = |low, high| [[op::SET, STEP, low, high], [op::MUL, CELL, CELL, STEP]];
+    let mix = [
+        [op::SET, STEP, 5, 0],
+        [op::SHR, STEP, CELL, STEP],
+        [op::XOR, CELL, CELL, STEP],
+    ];
+    let start = [[op::OR, CELL, ME, ME]];
+    let parts: [&[Row]; 6] = [
+        &start,
+        &times(0xb5, 2),
+        &ten_bits,
+        &mix,
+        &times(0x6d, 3),
+        &ten_bits,
+    ];
+    parts.concat()
+}
+
+/// The rows for every other thread.
+fn by_half(rows: &[Row]) -> Vec<Row> {
+    let (begin, end) = ([[op::IF, 0, ODD, 0]], [[op::ENDIF, 0, 0, 0]]);
+    [&begin, rows, &end].concat()
+}
+
+/// Loads and stores at a stride of 16 cells, so that all threads meet in one bank; a loop's two rows among 34.
+pub(crate) fn one_bank() -> Vec<Row> {
+    endless_after(&at_stride(16), &ACCESS_CELL.repeat(16))
+}
+
+/// Loads of one cell by all threads, and a loop's two rows among 34. Stores to it would race.
+pub(crate) fn one_cell() -> Vec<Row> {
+    endless(&[[op::LOAD, 3, ZERO, 0]; 32])
+}
+
+/// Loads and stores of scattered cells, and a loop's two rows among 34.
+pub(crate) fn load_store_scattered() -> Vec<Row> {
+    endless_after(&scattered(), &ACCESS_CELL.repeat(16))
+}
+
+/// Loads and stores of their own cells by every other thread; a loop's two rows and those of an IF among 36.
+pub(crate) fn load_store_by_half() -> Vec<Row> {
+    endless(&by_half(&ACCESS.repeat(16)))
+}
+
+/// The same in one bank.
+pub(crate) fn one_bank_by_half() -> Vec<Row> {
+    endless_after(&at_stride(16), &by_half(&ACCESS_CELL.repeat(16)))
+}
+
+/// The same of scattered cells.
+pub(crate) fn scattered_by_half() -> Vec<Row> {
+    endless_after(&scattered(), &by_half(&ACCESS_CELL.repeat(16)))
+}
+
 /// Each thread adds 1 to its own cell, and a loop's two rows among 34.
 pub(crate) fn add_own() -> Vec<Row> {
     endless(&[[op::ATOMIC_ADD, ME, ONE, 0]; 32])

@@ -13,6 +13,7 @@ const ROUND: usize = 8;
 
 fn main() {
     loops();
+    banks();
     files();
     threads();
     cells();
@@ -39,6 +40,27 @@ fn loops() {
     let barrier = kernels::barrier(ROUND);
     speed("barrier, 32 cells", &measure::bare(&barrier, 32, 32));
     speed("barrier, 1,024 cells", &measure::bare(&barrier, 32, 1_024));
+}
+
+/// Accesses that meet in banks, or whose cells lie in no regular order.
+fn banks() {
+    heading("bank conflicts, 1,000,000 rows, 32 threads", "Mrows/s");
+    for (name, rows) in [
+        ("load and store, stride 16", kernels::one_bank()),
+        ("load, one cell", kernels::one_cell()),
+        ("load and store, scattered", kernels::load_store_scattered()),
+        ("half of the threads", kernels::load_store_by_half()),
+        (
+            "half of the threads, stride 16",
+            kernels::one_bank_by_half(),
+        ),
+        (
+            "half of the threads, scattered",
+            kernels::scattered_by_half(),
+        ),
+    ] {
+        speed(name, &measure::bare(&rows, 32, 1_024));
+    }
 }
 
 fn files() {

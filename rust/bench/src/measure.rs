@@ -46,23 +46,29 @@ pub(crate) fn bare(rows: &[Row], threads: u32, cells: u32) -> Best {
     let mut lent_cells = vec![0; cells as usize];
     let mut lent_log = vec![0; checker::log_words(cells as usize)];
     let (mut our_cells, mut our_log) = (lent_cells.clone(), lent_log.clone());
+    let mut records = vec![0; sekufoyi::LENT_RECORDS];
+    let mut our_records = records.clone();
     let (mut our_steps, mut steps) = ([0; sekufoyi::LENT_STEPS], [0; sekufoyi::LENT_STEPS]);
     let measured = best(
         1,
         || {
             let (table, lent, log) = (black_box(&table), &mut our_cells, &mut our_log);
-            let steps = &mut our_steps;
-            let outcome = sekufoyi::bare_launch(table, threads, cells, LIMIT, lent, log, steps);
+            let (list, steps) = (&mut our_records, &mut our_steps);
+            let outcome =
+                sekufoyi::bare_launch(table, threads, cells, LIMIT, lent, log, list, steps);
             outcome.expect("a sound launch").rows
         },
         || {
             let (table, lent, log) = (black_box(&table), &mut lent_cells, &mut lent_log);
-            let steps = &mut steps;
-            let outcome = checker::bare_launch(table, threads, cells, LIMIT, lent, log, steps);
+            let (list, steps) = (&mut records, &mut steps);
+            let outcome =
+                checker::bare_launch(table, threads, cells, LIMIT, lent, log, list, steps);
             outcome.expect("a sound launch").rows
         },
     );
+    assert_eq!(measured.rows, LIMIT, "a loop without end");
     assert_eq!(our_steps, steps, "the same steps");
+    assert_eq!(our_records, records, "the same records");
     measured
 }
 
@@ -70,23 +76,27 @@ pub(crate) fn bare(rows: &[Row], threads: u32, cells: u32) -> Best {
 pub(crate) fn file(rows: &[Row], limit: u32, repeats: u32) -> Best {
     let file = launch_file(rows, limit);
     let (mut cells, mut log) = (vec![0; checker::LENT_CELLS], vec![0; checker::LENT_LOG]);
+    let mut records = vec![0; checker::INTERVAL_WORDS];
     let mut output = vec![0; checker::REPORT_ROOM];
     let (mut our_cells, mut our_log) = (cells.clone(), log.clone());
-    let mut our_output = output.clone();
+    let (mut our_records, mut our_output) = (records.clone(), output.clone());
     let measured = best(
         repeats,
         || {
-            let (cells, log, output) = (&mut our_cells, &mut our_log, &mut our_output);
-            sekufoyi::check_file(black_box(&file), cells, log, output).expect("a sound file");
+            let (file, cells, log) = (black_box(&file), &mut our_cells, &mut our_log);
+            let (list, output) = (&mut our_records, &mut our_output);
+            sekufoyi::check_file(file, cells, log, list, output).expect("a sound file");
             limit
         },
         || {
-            let (cells, log, output) = (&mut cells, &mut log, &mut output);
-            checker::check_file(black_box(&file), cells, log, output).expect("a sound file");
+            let (file, cells, log) = (black_box(&file), &mut cells, &mut log);
+            let (list, output) = (&mut records, &mut output);
+            checker::check_file(file, cells, log, list, output).expect("a sound file");
             limit
         },
     );
     assert_eq!(our_output, output, "the same report");
+    assert_eq!(our_records, records, "the same records");
     measured
 }
 

@@ -1,8 +1,10 @@
 //! A checker of barrier kernels in lock step, written from document 01, items 1
-//! to 4 of document 02 and their readings alone. Every entry answers every
+//! to 5 of document 02 and their readings alone. Every entry answers every
 //! input: none of them panics.
 
+mod banks;
 mod file;
+mod intervals;
 mod limits;
 mod lock_step;
 mod memory;
@@ -18,10 +20,12 @@ pub use report::{write_report, Subject};
 pub use table::op;
 pub use verdict::{AccessKind, Outcome, Verdict};
 
-/// A bare launch: refusals 1, 2, 8, 9, 10, rows, then 20, 21. The lent cells
-/// hold the launch's cells and keep what the run leaves. The first words of
-/// `steps`, one for each thread, are each thread's steps after the run, and the
-/// words behind them are kept. A refusal changes no buffer.
+/// A bare launch: refusals 1, 2, 8, 9, 10, rows, then 20, 21, 30. The lent
+/// cells hold the launch's cells and keep what the run leaves. The lent list has
+/// a record of three words for each barrier interval after the run, and the
+/// words behind them are kept. So are those behind the first words of `steps`,
+/// which are each thread's steps. A refusal changes no buffer.
+#[allow(clippy::too_many_arguments)] // They are those of the specification.
 pub fn bare_launch(
     table: &[u8],
     threads: u32,
@@ -29,6 +33,7 @@ pub fn bare_launch(
     limit: u32,
     lent_cells: &mut [u32],
     lent_log: &mut [u32],
+    lent_intervals: &mut [u32],
     steps: &mut [u32; MAX_THREADS as usize],
 ) -> Result<Outcome, Refusal> {
     observed_launch(
@@ -38,6 +43,7 @@ pub fn bare_launch(
         limit,
         lent_cells,
         lent_log,
+        lent_intervals,
         steps,
         |_| {},
     )
@@ -53,6 +59,7 @@ pub fn observed_launch(
     limit: u32,
     lent_cells: &mut [u32],
     lent_log: &mut [u32],
+    lent_intervals: &mut [u32],
     steps: &mut [u32; MAX_THREADS as usize],
     at_barrier: impl FnMut(&[u32]),
 ) -> Result<Outcome, Refusal> {
@@ -65,23 +72,33 @@ pub fn observed_launch(
     let cells = cells as usize;
     Refusal::unless(lent_cells.len() == cells, number::LENT_CELLS, 0)?;
     Refusal::unless(lent_log.len() == log_words(cells), number::LENT_LOG, 0)?;
+    check_intervals(lent_intervals)?;
     Ok(lock_step::run(
-        &program, threads, limit, lent_cells, lent_log, steps, at_barrier,
+        &program,
+        threads,
+        limit,
+        lent_cells,
+        lent_log,
+        lent_intervals,
+        steps,
+        at_barrier,
     ))
 }
 
-/// The whole-file entry: the input's refusals, then 20, 21, 24. Runs the
+/// The whole-file entry: the input's refusals, then 20, 21, 30, 24. Runs the
 /// launch in the first words of the lent buffers, writes its report to the
 /// start of `out` and gives the report's length. A refusal changes no buffer.
 pub fn check_file(
     file: &[u8],
     lent_cells: &mut [u32],
     lent_log: &mut [u32],
+    lent_intervals: &mut [u32],
     out: &mut [u8],
 ) -> Result<usize, Refusal> {
     let (launch, program) = file::parse_and_decode(file)?;
     Refusal::unless(lent_cells.len() == LENT_CELLS, number::LENT_CELLS, 0)?;
     Refusal::unless(lent_log.len() == LENT_LOG, number::LENT_LOG, 0)?;
+    check_intervals(lent_intervals)?;
     Refusal::unless(out.len() >= REPORT_ROOM, number::FILE_OUTPUT, 0)?;
     let cells = &mut lent_cells[..launch.cells.len()];
     cells.copy_from_slice(&launch.cells);
@@ -93,6 +110,7 @@ pub fn check_file(
         limit,
         cells,
         lent_log,
+        lent_intervals,
         &mut steps,
         |_| {},
     );

@@ -16,6 +16,10 @@ pub const MAX_FILE: usize = 32_768;
 pub const LENT_CELLS: usize = MAX_CELLS as usize;
 /// Words of log that the whole-file entry is lent.
 pub const LENT_LOG: usize = log_words(LENT_CELLS);
+/// Records that a lent list of intervals has room for at least.
+pub const INTERVAL_RECORDS: usize = 1_025;
+/// Words of a lent list of intervals at least, three a record.
+pub const INTERVAL_WORDS: usize = 3 * INTERVAL_RECORDS;
 /// Bytes of output that the whole-file entry needs at least.
 pub const REPORT_ROOM: usize = 17_408;
 
@@ -60,6 +64,8 @@ pub mod number {
     pub const REPORT_LINES: u32 = 23;
     /// Whole-file output too short.
     pub const FILE_OUTPUT: u32 = 24;
+    /// Fewer than 1,025 records of intervals lent.
+    pub const LENT_INTERVALS: u32 = 30;
 }
 
 /// An input or a state that is turned back, and where.
@@ -99,6 +105,12 @@ pub(crate) fn check_cells(cells: u32, place: u32) -> Result<(), Refusal> {
 
 pub(crate) fn check_limit(limit: u32, place: u32) -> Result<(), Refusal> {
     Refusal::unless(limit <= MAX_LIMIT, number::LIMIT, place)
+}
+
+/// Refuses a lent list of intervals with too few records.
+pub(crate) fn check_intervals(list: &[u32]) -> Result<(), Refusal> {
+    let fine = list.len() >= INTERVAL_WORDS;
+    Refusal::unless(fine, number::LENT_INTERVALS, 0)
 }
 
 pub(crate) fn check_rows(rows: usize, place: u32) -> Result<(), Refusal> {

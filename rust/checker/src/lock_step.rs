@@ -1,5 +1,7 @@
 //! "The lock-step run": predicated execution of one row at a time.
 
+use crate::banks;
+use crate::intervals::Intervals;
 use crate::limits::{MAX_NESTING, MAX_THREADS};
 use crate::memory::{Memory, Stop};
 use crate::registers::{Enabled, Registers};
@@ -8,27 +10,36 @@ use crate::table::{Instr, Program};
 use crate::verdict::{Outcome, Verdict};
 
 /// Runs a checked program for 1 to 32 threads over the lent cells and a log at
-/// least three times as long, and writes each thread's steps to the first words
-/// of `steps`. `at_barrier` sees the cells just before each counted barrier.
+/// least three times as long. Writes the records of intervals to the first words
+/// of `list`, and each thread's steps to those of `steps`. `at_barrier` sees the
+/// cells just before each counted barrier.
+#[allow(clippy::too_many_arguments)] // As the entries have them.
 pub(crate) fn run(
     program: &Program,
     threads: u32,
     limit: u32,
     cells: &mut [u32],
     log: &mut [u32],
+    list: &mut [u32],
     steps: &mut [u32; MAX_THREADS as usize],
     at_barrier: impl FnMut(&[u32]),
 ) -> Outcome {
     let mut counting = Steps::new(threads, program.code().len());
-    let counted = &mut counting;
-    let outcome = if program.adds() {
-        let mut memory = Memory::<true>::new(cells, log);
-        run_rows(program, threads, limit, &mut memory, counted, at_barrier)
+    let mut intervals = Intervals::new(list);
+    let (counted, recorded) = (&mut counting, &mut intervals);
+    let mut outcome = if program.adds() {
+        let memory = &mut Memory::<true>::new(cells, log);
+        run_rows(
+            program, threads, limit, memory, counted, recorded, at_barrier,
+        )
     } else {
-        let mut memory = Memory::<false>::new(cells, log);
-        run_rows(program, threads, limit, &mut memory, counted, at_barrier)
+        let memory = &mut Memory::<false>::new(cells, log);
+        run_rows(
+            program, threads, limit, memory, counted, recorded, at_barrier,
+        )
     };
     counting.write(&mut steps[..threads as usize]);
+    outcome.conflicts = intervals.finish(outcome.rows);
     outcome
 }
 
@@ -39,6 +50,7 @@ fn run_rows<const ADDS: bool>(
     limit: u32,
     memory: &mut Memory<ADDS>,
     steps: &mut Steps,
+    intervals: &mut Intervals,
     mut at_barrier: impl FnMut(&[u32]),
 ) -> Outcome {
     let code = program.code();
@@ -71,20 +83,26 @@ fn run_rows<const ADDS: bool>(
             Instr::Eq(r) => registers.binary(&enabled, r, |x, y| u32::from(x == y)),
             Instr::Lt(r) => registers.binary(&enabled, r, |x, y| u32::from(x < y)),
             Instr::Slt(r) => registers.binary(&enabled, r, slt),
+            // A row that stops costs nothing.
             Instr::Load { d, a } => {
+                // Taken first: the word loaded may go where the number was.
+                let cost = banks::cost(registers.lanes(a), enabled.mask());
                 if let Err(stop) = memory.load(&mut registers, &enabled, d, a) {
                     break stopped(row, stop);
                 }
+                intervals.add(cost);
             }
             Instr::Store { d, a } => {
                 if let Err(stop) = memory.store(&registers, &enabled, d, a) {
                     break stopped(row, stop);
                 }
+                intervals.add(banks::cost(registers.lanes(d), enabled.mask()));
             }
             Instr::AtomicAdd { d, a } => {
                 if let Err(stop) = memory.atomic_add(&registers, &enabled, d, a) {
                     break stopped(row, stop);
                 }
+                intervals.add(banks::cost(registers.lanes(d), enabled.mask()));
             }
             Instr::If { a, level } => {
                 saved[slot(level)] = enabled.mask();
@@ -122,6 +140,7 @@ fn run_rows<const ADDS: bool>(
                     at_barrier(memory.cells());
                     memory.clear_log();
                     barriers += 1;
+                    intervals.release(rows + 1, row + 1);
                 } else if enabled.mask() != 0 {
                     break diverged(row, &enabled);
                 }
@@ -136,6 +155,7 @@ fn run_rows<const ADDS: bool>(
         verdict,
         rows,
         barriers,
+        conflicts: 0, // known when the last interval ends
     };
     step_stopped_row(&outcome, &enabled, steps);
     outcome

@@ -3,7 +3,9 @@
 use std::io::{Read, Write};
 use std::process::ExitCode;
 
-use checker::{check_file, write_report, Subject, LENT_CELLS, LENT_LOG, MAX_FILE, REPORT_ROOM};
+use checker::{
+    check_file, write_report, Subject, INTERVAL_WORDS, LENT_CELLS, LENT_LOG, MAX_FILE, REPORT_ROOM,
+};
 
 fn main() -> ExitCode {
     // A read that fails is not the input's end: nothing is printed then.
@@ -27,8 +29,8 @@ fn read_input() -> std::io::Result<Vec<u8>> {
 
 fn report(file: &[u8]) -> Vec<u8> {
     let (mut cells, mut log) = (vec![0; LENT_CELLS], vec![0; LENT_LOG]);
-    let mut out = vec![0; REPORT_ROOM];
-    let written = check_file(file, &mut cells, &mut log, &mut out)
+    let (mut intervals, mut out) = (vec![0; INTERVAL_WORDS], vec![0; REPORT_ROOM]);
+    let written = check_file(file, &mut cells, &mut log, &mut intervals, &mut out)
         .or_else(|refusal| write_report(Subject::Refused(refusal), &[], &[], &mut out));
     // Neither can fail with these buffers; an empty report would say so.
     out.truncate(written.unwrap_or(0));

@@ -4,7 +4,7 @@
 
 use crate::table::{Dab, Reg};
 
-const LANES: usize = 32;
+pub(crate) const LANES: usize = 32;
 const WIDTH: usize = 8;
 
 type Vector = [u32; WIDTH];
@@ -101,6 +101,12 @@ impl Registers {
     #[inline(always)]
     pub(crate) fn put(&mut self, reg: Reg, thread: u32, word: u32) {
         self.file[reg.index()][thread as usize % LANES] = word;
+    }
+
+    /// A register of all threads, and of lanes without one.
+    #[inline(always)]
+    pub(crate) fn lanes(&self, reg: Reg) -> &[u32; LANES] {
+        &self.file[reg.index()]
     }
 
     #[inline(always)]

@@ -138,6 +138,7 @@ fn each_line(
                 line("steps", Value::Number(count));
             }
             line("barriers", Value::Number(outcome.barriers));
+            line("conflicts", Value::Number(outcome.conflicts));
             for &cell in cells {
                 line("cell", Value::Number(cell));
             }

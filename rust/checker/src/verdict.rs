@@ -73,4 +73,6 @@ pub struct Outcome {
     pub rows: u32,
     /// Barriers that all threads passed.
     pub barriers: u32,
+    /// Costs of all rows for bank conflicts.
+    pub conflicts: u32,
 }

@@ -2,7 +2,7 @@
 
 mod common;
 
-use checker::{check_file, AccessKind, Verdict, LENT_CELLS, LENT_LOG, REPORT_ROOM};
+use checker::{check_file, AccessKind, Verdict, INTERVAL_WORDS, LENT_CELLS, LENT_LOG, REPORT_ROOM};
 use common::*;
 
 /// Rows for one thread alone; R0 is then the thread's number.
@@ -355,9 +355,9 @@ fn an_add_with_nobody_enabled_is_a_row_only() {
 /// the first words of cells and log.
 fn reported(rows: &[Row]) -> (String, Vec<u32>, Vec<u32>) {
     let (mut cells, mut log) = (vec![5; LENT_CELLS], vec![6; LENT_LOG]);
-    let mut out = vec![b'?'; REPORT_ROOM];
+    let (mut list, mut out) = (vec![JUNK; INTERVAL_WORDS], vec![b'?'; REPORT_ROOM]);
     let text = file(rows);
-    let len = check_file(text.as_bytes(), &mut cells, &mut log, &mut out).unwrap();
+    let len = check_file(text.as_bytes(), &mut cells, &mut log, &mut list, &mut out).unwrap();
     let report = String::from_utf8(out[..len].to_vec()).unwrap();
     (report, cells[..2].to_vec(), log[..4].to_vec())
 }
@@ -366,7 +366,7 @@ fn reported(rows: &[Row]) -> (String, Vec<u32>, Vec<u32>) {
 fn files_print_the_sum_and_pack_the_log() {
     let (report, cells, log) = reported(&[set(1, 3), atomic_add(15, 1)]);
     let expected = "verdict=passed\nrow=-\nthread=-\nother=-\nkind=-\nat=-\n\
-        rows=2\nsteps=2\nsteps=2\nbarriers=0\ncell=6\nend=report\n";
+        rows=2\nsteps=2\nsteps=2\nbarriers=0\nconflicts=0\ncell=6\nend=report\n";
     assert_eq!(report, expected);
     // One reader mask, one writer mask, one adder mask, and the rest is kept.
     assert_eq!((cells, log), (vec![6, 5], vec![0, 0, 3, 6]));
@@ -379,7 +379,7 @@ fn files_print_the_kind() {
         let (report, cells, log) = reported(&[tid(0), ADD, row]);
         let expected = format!(
             "verdict=race\nrow=2\nthread=0\nother=1\nkind={kind}\nat=0\n\
-             rows=2\nsteps=2\nsteps=2\nbarriers=0\ncell=1\nend=report\n"
+             rows=2\nsteps=2\nsteps=2\nbarriers=0\nconflicts=0\ncell=1\nend=report\n"
         );
         assert_eq!(report, expected);
         assert_eq!((cells, log), (vec![1, 5], vec![0, 0, 3, 6]));

@@ -2,7 +2,7 @@
 
 mod common;
 
-use checker::{observed_launch, AccessKind, Verdict};
+use checker::{observed_launch, AccessKind, Verdict, INTERVAL_WORDS};
 use common::*;
 
 fn p1_rows() -> Vec<Row> {
@@ -313,9 +313,12 @@ fn barriers_are_observed_before_the_row_is_counted() {
     let mut seen = Vec::new();
     let (table, mut steps) = (rows.concat(), [JUNK; 32]);
     let (lent, log_lent) = (&mut cells, &mut log);
-    let ran = observed_launch(&table, 2, 2, 9, lent, log_lent, &mut steps, |cells| {
+    let (mut list, observe) = ([JUNK; INTERVAL_WORDS], |cells: &[u32]| {
         seen.push(cells.to_vec());
     });
+    let ran = observed_launch(
+        &table, 2, 2, 9, lent, log_lent, &mut list, &mut steps, observe,
+    );
     let passed = outcome(Verdict::Passed, 5, &[3, 3], 2);
     assert_eq!(found(ran.unwrap(), 2, &steps), passed);
     assert_eq!(seen, [[0, 1], [0, 1]]);

@@ -2,7 +2,7 @@
 
 mod common;
 
-use checker::{bare_launch, check_file, Refusal};
+use checker::{bare_launch, check_file, Refusal, INTERVAL_WORDS};
 use common::*;
 
 fn refusal(number: u32, place: u32) -> Refusal {
@@ -18,7 +18,10 @@ fn p1_with(line: usize, text: &str) -> String {
 
 fn bare(table: &[u8], threads: u32, cells: u32, limit: u32) -> Refusal {
     let mut steps = [JUNK; 32];
-    let refused = bare_launch(table, threads, cells, limit, &mut [], &mut [], &mut steps);
+    let none = (&mut [], &mut [], &mut []);
+    let refused = bare_launch(
+        table, threads, cells, limit, none.0, none.1, none.2, &mut steps,
+    );
     assert_eq!(steps, [JUNK; 32]);
     refused.unwrap_err()
 }
@@ -49,11 +52,15 @@ fn lent_buffers_fit_exactly() {
     ] {
         let (mut lent_cells, mut lent_log) = (vec![5; cells], vec![6; log]);
         let mut steps = [JUNK; 32];
-        let found = bare_launch(&[], 1, 2, 0, &mut lent_cells, &mut lent_log, &mut steps);
+        let mut list = [JUNK; INTERVAL_WORDS];
+        let (cells_lent, log_lent) = (&mut lent_cells, &mut lent_log);
+        let found = bare_launch(&[], 1, 2, 0, cells_lent, log_lent, &mut list, &mut steps);
         assert_eq!((found, steps), (Err(expected), [JUNK; 32]));
+        assert_eq!(list, [JUNK; INTERVAL_WORDS]);
         assert_eq!((lent_cells, lent_log), (vec![5; cells], vec![6; log]));
     }
-    let fitting = bare_launch(&[], 1, 2, 0, &mut [5; 2], &mut [6; 6], &mut [0; 32]);
+    let (cells, log, list) = (&mut [5; 2], &mut [6; 6], &mut [7; INTERVAL_WORDS]);
+    let fitting = bare_launch(&[], 1, 2, 0, cells, log, list, &mut [0; 32]);
     assert!(fitting.is_ok());
 }
 
@@ -283,9 +290,17 @@ fn whole_file_buffers() {
         (1_024, 3_072, 0, 24),
     ] {
         let (mut lent_cells, mut lent_log, mut room) = (vec![5; cells], vec![6; log], vec![7; out]);
-        let found = check_file(P1.as_bytes(), &mut lent_cells, &mut lent_log, &mut room);
+        let list = &mut [JUNK; INTERVAL_WORDS];
+        let found = check_file(
+            P1.as_bytes(),
+            &mut lent_cells,
+            &mut lent_log,
+            list,
+            &mut room,
+        );
         assert_eq!(found, Err(refusal(expected, 0)));
-        let input = check_file(b"", &mut lent_cells, &mut lent_log, &mut room);
+        let input = check_file(b"", &mut lent_cells, &mut lent_log, list, &mut room);
+        assert_eq!(list, &[JUNK; INTERVAL_WORDS]);
         assert_eq!(input, Err(refusal(11, 1)));
         assert_eq!(lent_cells, vec![5; cells]);
         assert_eq!(lent_log, vec![6; log]);

@@ -2,17 +2,20 @@
 
 mod common;
 
-use checker::{check_file, write_report, AccessKind, Outcome, Refusal, Subject, Verdict};
+use checker::{
+    check_file, write_report, AccessKind, Outcome, Refusal, Subject, Verdict, INTERVAL_WORDS,
+};
 use common::*;
 
 const P1_REPORT: &str = "verdict=race\nrow=6\nthread=1\nother=0\nkind=rw\nat=1\n\
-    rows=6\nsteps=7\nsteps=6\nbarriers=0\ncell=2\ncell=1\ncell=1\nend=report\n";
+    rows=6\nsteps=7\nsteps=6\nbarriers=0\nconflicts=0\ncell=2\ncell=1\ncell=1\nend=report\n";
 
 fn ran(verdict: Verdict) -> Subject {
     Subject::Ran(Outcome {
         verdict,
         rows: 1,
         barriers: 3,
+        conflicts: 34,
     })
 }
 
@@ -34,14 +37,14 @@ fn p2_prints_its_report() {
         .replace("rows=7", "rows=8")
         .replace("row=16,4,0,0", "row=37,0,0,0\nrow=16,4,0,0");
     let report = "verdict=passed\nrow=-\nthread=-\nother=-\nkind=-\nat=-\n\
-        rows=8\nsteps=7\nsteps=7\nbarriers=1\ncell=2\ncell=2\ncell=1\nend=report\n";
+        rows=8\nsteps=7\nsteps=7\nbarriers=1\nconflicts=0\ncell=2\ncell=2\ncell=1\nend=report\n";
     assert_eq!(check(file.as_bytes()).unwrap(), report);
 }
 
 #[test]
 fn hyphens_stand_for_lines_without_meaning() {
     let (row, thread, other, at) = (4, 5, 6, 7);
-    let tail = "rows=1\nsteps=2\nsteps=0\nbarriers=3\ncell=4294967295\nend=report\n";
+    let tail = "rows=1\nsteps=2\nsteps=0\nbarriers=3\nconflicts=34\ncell=4294967295\nend=report\n";
     let kinds = [
         (AccessKind::Rw, "rw"),
         (AccessKind::Wr, "wr"),
@@ -135,7 +138,7 @@ fn every_number_of_counts_up_to_32_is_written_in_order() {
         let lines: String = steps.iter().map(|n| format!("steps={n}\n")).collect();
         let report = written(ran(Verdict::Spent { row: 0 }), &steps, &[9]);
         let head = "verdict=spent\nrow=0\nthread=-\nother=-\nkind=-\nat=-\nrows=1\n";
-        let tail = "barriers=3\ncell=9\nend=report\n";
+        let tail = "barriers=3\nconflicts=34\ncell=9\nend=report\n";
         assert_eq!(report, head.to_string() + &lines + tail);
     }
 }
@@ -164,8 +167,8 @@ fn r22_names_the_length_needed() {
 #[test]
 fn the_lent_log_is_packed_and_the_rest_kept() {
     let (mut cells, mut log) = (vec![5; 1_024], vec![6; 3_072]);
-    let mut out = vec![b'?'; 20_000];
-    let len = check_file(P1.as_bytes(), &mut cells, &mut log, &mut out).unwrap();
+    let (mut list, mut out) = (vec![JUNK; INTERVAL_WORDS], vec![b'?'; 20_000]);
+    let len = check_file(P1.as_bytes(), &mut cells, &mut log, &mut list, &mut out).unwrap();
     assert_eq!(&out[..len], P1_REPORT.as_bytes());
     assert!(out[len..].iter().all(|&byte| byte == b'?'));
     assert_eq!(&cells[..4], [2, 1, 1, 5]);

@@ -5,6 +5,7 @@ use generator::BareLaunch;
 
 use crate::checkers::Numbers;
 use crate::difference::{judge, Difference, Left, Lent};
+use crate::records::Counts;
 use crate::tally::refused;
 use crate::Checker;
 
@@ -17,12 +18,13 @@ pub(crate) fn compare(
     let before = Lent {
         cells: launch.lent_cells.clone(),
         log: launch.lent_log.clone(),
+        records: launch.lent_intervals.clone(),
         steps: launch.lent_steps,
         output: Vec::new(),
     };
     let ours = run(ours, &launch, &before);
     let theirs = run(theirs, &launch, &before);
-    judge(seed, || show(&launch), &before, &ours, &theirs)?;
+    judge(seed, || show(&launch), counts, &before, &ours, &theirs)?;
     Ok(ours.answer.map_or_else(refused, name))
 }
 
@@ -34,11 +36,29 @@ fn run(checker: &impl Checker, launch: &BareLaunch, before: &Lent) -> Left<Outco
     };
     let lend = |lent: &mut Lent| {
         let Lent {
-            cells, log, steps, ..
+            cells,
+            log,
+            records,
+            steps,
+            ..
         } = lent;
-        checker.bare_launch(&launch.table, numbers, cells, log, steps)
+        checker.bare_launch(&launch.table, numbers, cells, log, records, steps)
     };
     Left::by(before, lend)
+}
+
+fn counts(outcome: &Outcome, _: &Lent) -> Option<Result<Counts, String>> {
+    let Outcome {
+        rows,
+        barriers,
+        conflicts,
+        ..
+    } = *outcome;
+    Some(Ok(Counts {
+        rows,
+        barriers,
+        conflicts,
+    }))
 }
 
 /// As a report's first line has it.
@@ -64,6 +84,6 @@ fn show(launch: &BareLaunch) -> String {
     let rows: String = (launch.table.chunks(4).enumerate())
         .map(|(row, bytes)| format!("row {row}: {bytes:?}\n"))
         .collect();
-    let log = launch.lent_log.len();
-    format!("threads {threads}, cells {cells}, limit {limit}, {log} words of log, lent cells {lent_cells:?}\n{rows}")
+    let (log, records) = (launch.lent_log.len(), launch.lent_intervals.len());
+    format!("threads {threads}, cells {cells}, limit {limit}, {log} words of log, {records} of records, lent cells {lent_cells:?}\n{rows}")
 }

@@ -13,6 +13,7 @@ pub trait Checker {
         file: &[u8],
         cells: &mut [u32],
         log: &mut [u32],
+        records: &mut [u32],
         output: &mut [u8],
     ) -> Result<usize, Refusal>;
 
@@ -23,6 +24,7 @@ pub trait Checker {
         numbers: Numbers,
         cells: &mut [u32],
         log: &mut [u32],
+        records: &mut [u32],
         steps: &mut Steps,
     ) -> Result<Outcome, Refusal>;
 
@@ -56,9 +58,10 @@ impl Checker for Independent {
         file: &[u8],
         cells: &mut [u32],
         log: &mut [u32],
+        records: &mut [u32],
         output: &mut [u8],
     ) -> Result<usize, Refusal> {
-        checker::check_file(file, cells, log, output)
+        checker::check_file(file, cells, log, records, output)
     }
 
     /// This checker keeps the words of steps behind the last thread, which the library clears. So they are cleared for it, and the whole
@@ -69,6 +72,7 @@ impl Checker for Independent {
         numbers: Numbers,
         cells: &mut [u32],
         log: &mut [u32],
+        records: &mut [u32],
         steps: &mut Steps,
     ) -> Result<Outcome, Refusal> {
         let Numbers {
@@ -76,7 +80,7 @@ impl Checker for Independent {
             cells: count,
             limit,
         } = numbers;
-        let ran = checker::bare_launch(table, threads, count, limit, cells, log, steps)?;
+        let ran = checker::bare_launch(table, threads, count, limit, cells, log, records, steps)?;
         steps[threads as usize..].fill(0);
         Ok(ran)
     }
@@ -101,9 +105,10 @@ impl Checker for Verified {
         file: &[u8],
         cells: &mut [u32],
         log: &mut [u32],
+        records: &mut [u32],
         output: &mut [u8],
     ) -> Result<usize, Refusal> {
-        sekufoyi::check_file(file, cells, log, output).map_err(refusal)
+        sekufoyi::check_file(file, cells, log, records, output).map_err(refusal)
     }
 
     fn bare_launch(
@@ -112,6 +117,7 @@ impl Checker for Verified {
         numbers: Numbers,
         cells: &mut [u32],
         log: &mut [u32],
+        records: &mut [u32],
         steps: &mut Steps,
     ) -> Result<Outcome, Refusal> {
         let Numbers {
@@ -119,7 +125,7 @@ impl Checker for Verified {
             cells: count,
             limit,
         } = numbers;
-        sekufoyi::bare_launch(table, threads, count, limit, cells, log, steps)
+        sekufoyi::bare_launch(table, threads, count, limit, cells, log, records, steps)
             .map(outcome)
             .map_err(refusal)
     }
@@ -206,6 +212,7 @@ fn outcome(ours: sekufoyi::Outcome) -> Outcome {
         verdict: verdict(ours.verdict),
         rows: ours.rows,
         barriers: ours.barriers,
+        conflicts: ours.conflicts,
     }
 }
 
@@ -214,6 +221,7 @@ fn outcome_for(theirs: Outcome) -> sekufoyi::Outcome {
         verdict: verdict_for(theirs.verdict),
         rows: theirs.rows,
         barriers: theirs.barriers,
+        conflicts: theirs.conflicts,
     }
 }
 

@@ -4,6 +4,7 @@ use std::fmt;
 
 use checker::Refusal;
 
+use crate::records::{self, Counts};
 use crate::Steps;
 
 /// The buffers that an entry is lent. An entry without one of them has it empty, or full of zeros.
@@ -11,6 +12,7 @@ use crate::Steps;
 pub(crate) struct Lent {
     pub cells: Vec<u32>,
     pub log: Vec<u32>,
+    pub records: Vec<u32>,
     pub steps: Steps,
     pub output: Vec<u8>,
 }
@@ -31,7 +33,8 @@ impl<T> Left<T> {
     }
 }
 
-/// A launch on which two checkers differ, or on which both changed a buffer that a refusal keeps.
+/// A launch on which two checkers differ, or on which both changed a buffer that a refusal keeps, or left records that don't come to what
+/// they must.
 #[derive(Debug)]
 pub struct Difference {
     seed: u64,
@@ -49,23 +52,27 @@ impl fmt::Display for Difference {
     }
 }
 
-/// Agreement, or the difference with the launch as `launch` shows it.
+/// Agreement, or the difference with the launch as `launch` shows it. `counts` are those of a run that leaves records.
 pub(crate) fn judge<T: PartialEq + fmt::Debug>(
     seed: u64,
     launch: impl FnOnce() -> String,
+    counts: impl Fn(&T, &Lent) -> Option<Result<Counts, String>>,
     before: &Lent,
     ours: &Left<T>,
     theirs: &Left<T>,
 ) -> Result<(), Box<Difference>> {
-    let kept = ours.answer.is_ok() || ours.lent == *before;
-    if ours == theirs && kept {
+    let [our_fault, their_fault] = [ours, theirs].map(|left| fault(before, left, &counts));
+    if ours == theirs && our_fault.is_none() {
         return Ok(());
     }
     let what = format!(
-        "ours:   {:?}\ntheirs: {:?}\n{}{}{}{}{}{}",
+        "ours:   {:?}\ntheirs: {:?}\n{}{}{}{}{}{}{}{}{}",
         ours.answer,
         theirs.answer,
-        counts(&before.steps, &ours.lent.steps, &theirs.lent.steps),
+        told("ours", our_fault),
+        told("theirs", their_fault),
+        steps(&before.steps, &ours.lent.steps, &theirs.lent.steps),
+        records::shown(&before.records, &ours.lent.records, &theirs.lent.records),
         words("cell", &before.cells, &ours.lent.cells, &theirs.lent.cells),
         words("log word", &before.log, &ours.lent.log, &theirs.lent.log),
         words(
@@ -81,8 +88,30 @@ pub(crate) fn judge<T: PartialEq + fmt::Debug>(
     Err(Box::new(Difference { seed, launch, what }))
 }
 
+/// What is wrong with what one checker left, whatever the other did: a buffer that a refusal changed, or records that don't come to
+/// the counts of their run.
+fn fault<T>(
+    before: &Lent,
+    left: &Left<T>,
+    counts: impl Fn(&T, &Lent) -> Option<Result<Counts, String>>,
+) -> Option<String> {
+    let Ok(answer) = &left.answer else {
+        let changed = left.lent != *before;
+        return changed.then(|| "a refusal changed a buffer".to_string());
+    };
+    let fault = match counts(answer, &left.lent)? {
+        Ok(counts) => counts.fault(&before.records, &left.lent.records)?,
+        Err(fault) => fault,
+    };
+    Some(fault)
+}
+
+fn told(whose: &str, fault: Option<String>) -> String {
+    fault.map_or_else(String::new, |fault| format!("{whose}: {fault}\n"))
+}
+
 /// Every count beside the other's, since where one is wrong the others say which row it was; nothing where the entry has none.
-fn counts(before: &Steps, ours: &Steps, theirs: &Steps) -> String {
+fn steps(before: &Steps, ours: &Steps, theirs: &Steps) -> String {
     if *before == Steps::default() {
         return String::new();
     }

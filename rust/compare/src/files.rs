@@ -1,9 +1,10 @@
 //! Launch files through the whole-file entry.
 
-use checker::{LENT_CELLS, LENT_LOG, REPORT_ROOM};
+use checker::{INTERVAL_WORDS, LENT_CELLS, LENT_LOG, REPORT_ROOM};
 use generator::Rng;
 
 use crate::difference::{judge, lines, Difference, Left, Lent};
+use crate::records::Counts;
 use crate::tally::refused;
 use crate::{junk, Checker};
 
@@ -16,50 +17,70 @@ pub(crate) fn compare(
     let before = lend(seed);
     let ours = check(ours, &file, &before);
     let theirs = check(theirs, &file, &before);
-    judge(seed, || show(&file, &before), &before, &ours, &theirs)?;
+    let show = || show(&file, &before);
+    judge(seed, show, counts, &before, &ours, &theirs)?;
     Ok(name(&ours))
 }
 
 fn check(checker: &impl Checker, file: &[u8], before: &Lent) -> Left<usize> {
     let lend = |lent: &mut Lent| {
         let Lent {
-            cells, log, output, ..
+            cells,
+            log,
+            records,
+            output,
+            ..
         } = lent;
-        checker.check_file(file, cells, log, output)
+        checker.check_file(file, cells, log, records, output)
     };
     Left::by(before, lend)
 }
 
-/// Buffers full of junk. In about one launch of six some of them are of a wrong size: one, two or all, each set as likely as
-/// another, so that the refusals' order is seen.
+/// As the report has them.
+fn counts(written: &usize, left: &Lent) -> Option<Result<Counts, String>> {
+    let report = left.output.get(..*written).unwrap_or(&[]);
+    Some(Counts::in_report(report))
+}
+
+/// Buffers full of junk. In about one launch of six some of them are of a wrong size: one, some or all, each set as likely as
+/// another, so that the refusals' order is seen. Records and output may be longer than they need to be.
 fn lend(seed: u64) -> Lent {
     let mut rng = Rng::new(seed, 10);
     let mut sizes = [
         LENT_CELLS,
         LENT_LOG,
+        INTERVAL_WORDS + more_records(&mut rng),
         rng.pick(&[REPORT_ROOM, REPORT_ROOM, REPORT_ROOM + 1, 20_000]),
     ];
     if rng.one_in(6) {
-        let wrong = rng.range(1, 7);
+        let wrong = rng.range(1, 15);
         for (which, size) in sizes.iter_mut().enumerate() {
             if wrong >> which & 1 == 1 {
                 *size = wrong_size(&mut rng, which);
             }
         }
     }
-    let [cells, log, output] = sizes;
+    let [cells, log, records, output] = sizes;
     Lent {
         cells: junk::words(seed, cells),
         log: junk::words(!seed, log),
+        records: junk::records(seed, records),
         output: junk::bytes(seed, output),
         ..Lent::default()
     }
+}
+
+/// None, a word or two, a record, or as many again.
+fn more_records(rng: &mut Rng) -> usize {
+    let any = rng.index(500);
+    rng.pick(&[0, 0, 0, 0, 1, 2, 3, any, INTERVAL_WORDS])
 }
 
 fn wrong_size(rng: &mut Rng, which: usize) -> usize {
     match which {
         0 => rng.pick(&[1_023, 1_025, 0, 3_072]),
         1 => rng.pick(&[3_071, 3_073, 2_048, 0, 1_024, 4_096]),
+        2 => rng.pick(&[3_074, 3_074, 3_074, 3_073, 3_072, 1_025, 3, 1, 0, 0]),
         _ => rng.pick(&[0, 1, 17_407, 17_407, 1_024]),
     }
 }
@@ -76,7 +97,8 @@ fn name(left: &Left<usize>) -> String {
 }
 
 fn show(file: &[u8], lent: &Lent) -> String {
-    let (cells, log, output) = (lent.cells.len(), lent.log.len(), lent.output.len());
+    let (cells, log) = (lent.cells.len(), lent.log.len());
+    let (records, output) = (lent.records.len(), lent.output.len());
     let lines = lines(file);
-    format!("lent {cells} cells, {log} words of log, {output} bytes of output; the file:\n{lines}")
+    format!("lent {cells} cells, {log} words of log, {records} of records, {output} bytes of output; the file:\n{lines}")
 }

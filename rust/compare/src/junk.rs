@@ -8,6 +8,12 @@ pub(crate) fn words(seed: u64, len: usize) -> Vec<u32> {
         .collect()
 }
 
+/// Words likewise, with the top bit set: no row's number, no count of rows and no cost comes to one of them.
+pub(crate) fn records(seed: u64, len: usize) -> Vec<u32> {
+    let words = words(seed.rotate_left(7), len).into_iter();
+    words.map(|word| word | 1 << 31).collect()
+}
+
 /// Bytes likewise. None is ASCII, so that none can pass for a report's byte.
 pub(crate) fn bytes(seed: u64, len: usize) -> Vec<u8> {
     let start = seed as u8;

@@ -1,10 +1,12 @@
-//! Compares two checkers launch by launch: every answer, and every word and byte of every lent buffer.
+//! Compares two checkers launch by launch: every answer, and every word and byte of every lent buffer. Besides, what the records of a
+//! launch that ran must come to.
 
 mod bare;
 mod checkers;
 mod difference;
 mod files;
 mod junk;
+mod records;
 mod reports;
 mod tally;
 

@@ -24,7 +24,8 @@ pub(crate) fn compare(
     };
     let ours = write(ours, &asked, &before);
     let theirs = write(theirs, &asked, &before);
-    judge(seed, || show(&asked, &before), &before, &ours, &theirs)?;
+    let show = || show(&asked, &before);
+    judge(seed, show, |_, _| None, &before, &ours, &theirs)?;
     Ok(ours
         .answer
         .map_or_else(refused, |_| "report=written".to_string()))
@@ -71,6 +72,7 @@ fn subject(rng: &mut Rng) -> Subject {
         verdict: verdict(rng),
         rows: digits(rng),
         barriers: digits(rng),
+        conflicts: digits(rng),
     })
 }
 

@@ -1,7 +1,8 @@
 //! The two checkers agree, and a checker with a fault is found out.
 
 use checker::{
-    log_words, parse_file, AccessKind, Outcome, Refusal, Subject, Verdict, LENT_LOG, REPORT_ROOM,
+    log_words, parse_file, AccessKind, Outcome, Refusal, Subject, Verdict, INTERVAL_RECORDS,
+    INTERVAL_WORDS, LENT_LOG, REPORT_ROOM,
 };
 use compare::{compare_all, compare_seed, Checker, Independent, Kind, Numbers, Steps};
 
@@ -21,9 +22,9 @@ fn the_verified_library_agrees_with_the_independent_checker() {
     for (kind, numbers) in [
         (
             Kind::File,
-            &[2, 3, 4, 5, 6, 7, 8, 9, 10, 11, 12, 20, 21, 24][..],
+            &[2, 3, 4, 5, 6, 7, 8, 9, 10, 11, 12, 20, 21, 24, 30][..],
         ),
-        (Kind::Bare, &[1, 2, 3, 4, 5, 6, 7, 8, 9, 10, 20, 21]),
+        (Kind::Bare, &[1, 2, 3, 4, 5, 6, 7, 8, 9, 10, 20, 21, 30]),
         (Kind::Report, &[22, 23]),
     ] {
         for number in numbers {
@@ -66,6 +67,28 @@ enum Faulty {
     TakesALogOfTwoKinds,
     SwapsTheLetters,
     ShowsAnAddBeforeAWrite,
+    CostsOneTooMany,
+    CountsARowTooMany,
+    PutsACostInTheNextRecord,
+    CountsTheBarrierBehindIt,
+    MovesTheStart,
+    StartsAtTheBarrier,
+    OpensARecordTooMany,
+    UsesMoreThanAllRecords,
+    KeepsTheLastRecord,
+    ClearsTheRecordsBehind,
+    ChangesTheLastRecordWord,
+    ClearsTheRecordsOnRefusal,
+    CountsAConflictTooMany,
+    ForgetsTheConflicts,
+    WritesTheConflictsBeforeTheBarriers,
+    TellsTheRecordsFirst,
+    TellsTheRecordsBeforeTheCells,
+    TellsTheRecordsBeforeTheLog,
+    TellsTheOutputBeforeTheRecords,
+    TakesAWordTooFew,
+    TakesARecordTooFew,
+    RefusesALongerList,
 }
 
 /// A refusal whose place is 0.
@@ -80,6 +103,7 @@ impl Faulty {
         answer: Result<T, Refusal>,
         cells: &mut [u32],
         log: &mut [u32],
+        records: &mut [u32],
         output: &mut [u8],
     ) -> Result<T, Refusal> {
         match self {
@@ -97,9 +121,70 @@ impl Faulty {
                 output.iter_mut().last().into_iter().for_each(|b| *b ^= 1)
             }
             Faulty::ClearsTheLogOnRefusal if answer.is_err() => log.fill(0),
+            Faulty::ChangesTheLastRecordWord => {
+                records.iter_mut().last().into_iter().for_each(|w| *w ^= 1)
+            }
+            Faulty::ClearsTheRecordsOnRefusal if answer.is_err() => records.fill(0),
             _ => {}
         }
         answer
+    }
+
+    /// Does the mistake to the records that a run with so many barriers has left.
+    fn spoil_records(self, records: &mut [u32], lent: &[u32], barriers: usize) {
+        let used = INTERVAL_RECORDS.min(barriers + 1);
+        let full = used == INTERVAL_RECORDS;
+        let (ours, behind) = records.split_at_mut(3 * used);
+        let (first, later) = ours.split_at_mut(3);
+        let last = 3 * (used - 1);
+        match self {
+            Faulty::PutsACostInTheNextRecord if first[2] > 0 && used > 1 => {
+                first[2] -= 1;
+                later[2] += 1;
+            }
+            Faulty::CountsTheBarrierBehindIt if used > 1 => {
+                first[1] -= 1;
+                later[1] += 1;
+            }
+            Faulty::StartsAtTheBarrier => later.iter_mut().step_by(3).for_each(|w| *w -= 1),
+            Faulty::OpensARecordTooMany if !full => behind[..3].copy_from_slice(&[0; 3]),
+            Faulty::UsesMoreThanAllRecords if full && behind.len() >= 3 => {
+                behind[..3].copy_from_slice(&[0; 3])
+            }
+            Faulty::ClearsTheRecordsBehind => behind.fill(0),
+            Faulty::MovesTheStart => ours[last] += 1,
+            Faulty::CountsARowTooMany => ours[last + 1] += 1,
+            Faulty::CostsOneTooMany => ours[last + 2] += 1,
+            Faulty::KeepsTheLastRecord => ours[last..].copy_from_slice(&lent[last..3 * used]),
+            _ => {}
+        }
+    }
+
+    /// The number that the mistake tells in a refusal's place, with such a list of records and so many bytes of output.
+    fn told_for(self, number: u32, records: &[u32], room: usize) -> Option<u32> {
+        let short = records.len() < INTERVAL_WORDS;
+        match (self, number) {
+            (Faulty::TellsTheRecordsFirst, 1..=12) if short => Some(30),
+            (Faulty::TellsTheRecordsBeforeTheCells, 20) if short => Some(30),
+            (Faulty::TellsTheRecordsBeforeTheLog, 21) if short => Some(30),
+            (Faulty::TellsTheOutputBeforeTheRecords, 30) if room < REPORT_ROOM => Some(24),
+            _ => None,
+        }
+    }
+
+    /// A list that is long enough in the place of a short one that the mistake takes.
+    fn longer_list(self, records: &[u32]) -> Option<Vec<u32>> {
+        let taken = match self {
+            Faulty::TakesAWordTooFew => INTERVAL_WORDS - 1,
+            Faulty::TakesARecordTooFew => INTERVAL_WORDS - 3,
+            _ => return None,
+        };
+        (records.len() == taken).then(|| vec![0; INTERVAL_WORDS])
+    }
+
+    /// Whether a list is refused that has more words than are needed.
+    fn refuses(self, records: &[u32]) -> bool {
+        matches!(self, Faulty::RefusesALongerList) && records.len() > INTERVAL_WORDS
     }
 
     /// Does the mistake to the log that a run of so many cells has left.
@@ -150,7 +235,8 @@ impl Faulty {
         match self {
             Faulty::SwapsTheLetters => lines[4] = swapped_line(&lines[4]),
             Faulty::SumsTheSteps => {
-                let sum: u64 = lines[steps.clone()].iter().map(|line| count(line)).sum();
+                let counts = lines[steps.clone()].iter();
+                let sum: u64 = counts.map(|line| number("steps=", line)).sum();
                 lines.splice(steps, [format!("steps={sum}")]);
             }
             Faulty::PutsTheLastThreadFirst => lines[steps].reverse(),
@@ -158,6 +244,12 @@ impl Faulty {
             Faulty::WritesTheBarriersBeforeTheSteps => {
                 lines[FIRST_COUNT..=barriers].rotate_right(1)
             }
+            Faulty::CountsAConflictTooMany => {
+                let line = &mut lines[barriers + 1];
+                *line = format!("conflicts={}", off_by_one(number("conflicts=", line)));
+            }
+            Faulty::ForgetsTheConflicts => drop(lines.remove(barriers + 1)),
+            Faulty::WritesTheConflictsBeforeTheBarriers => lines.swap(barriers, barriers + 1),
             _ => {}
         }
     }
@@ -232,9 +324,21 @@ fn swapped_line(line: &str) -> String {
 /// Where the first line `steps=` of a report is.
 const FIRST_COUNT: usize = 7;
 
-fn count(line: &str) -> u64 {
-    let digits = line.strip_prefix("steps=").expect("a count's line");
+fn number(key: &str, line: &str) -> u64 {
+    let digits = line.strip_prefix(key).expect("the key's line");
     digits.parse().expect("a number")
+}
+
+/// One fewer, which is never longer, or one more than none.
+fn off_by_one(count: u64) -> u64 {
+    count.checked_sub(1).unwrap_or(1)
+}
+
+/// The barriers of a launch, as its report has them.
+fn barriers_in(report: &[u8]) -> usize {
+    let text = std::str::from_utf8(report).expect("a report is ASCII");
+    let line = text.lines().find(|line| line.starts_with("barriers="));
+    number("barriers=", line.expect("a run's report")) as usize
 }
 
 impl Checker for Faulty {
@@ -243,15 +347,24 @@ impl Checker for Faulty {
         file: &[u8],
         cells: &mut [u32],
         log: &mut [u32],
+        records: &mut [u32],
         output: &mut [u8],
     ) -> Result<usize, Refusal> {
-        let lent = log.to_vec();
+        let (lent, lent_records) = (log.to_vec(), records.to_vec());
         if self.takes(log, LENT_LOG) {
             let mut longer = vec![0; LENT_LOG];
-            return Independent.check_file(file, cells, &mut longer, output);
+            return Independent.check_file(file, cells, &mut longer, records, output);
         }
-        let mut answer = Independent.check_file(file, cells, log, output);
+        if let Some(mut longer) = self.longer_list(records) {
+            return Independent.check_file(file, cells, log, &mut longer, output);
+        }
+        if self.refuses(records) {
+            return Independent.check_file(file, cells, log, &mut [], output);
+        }
+        let mut answer = Independent.check_file(file, cells, log, records, output);
         if let (Ok(launch), Ok(written)) = (parse_file(file), &mut answer) {
+            let barriers = barriers_in(&output[..*written]);
+            self.spoil_records(records, &lent_records, barriers);
             self.spoil_log(log, &lent, launch.cells.len());
             *written = self.spoil_report(output, *written);
         }
@@ -260,9 +373,13 @@ impl Checker for Faulty {
                 refused(24)
             }
             (Faulty::TellsTheLogBeforeTheCells, Err(20)) if log.len() != LENT_LOG => refused(21),
+            (_, Err(number)) => {
+                let told = self.told_for(number, records, output.len());
+                told.map_or(answer, refused)
+            }
             _ => answer,
         };
-        self.spoil(answer, cells, log, output)
+        self.spoil(answer, cells, log, records, output)
     }
 
     fn bare_launch(
@@ -271,6 +388,7 @@ impl Checker for Faulty {
         numbers: Numbers,
         cells: &mut [u32],
         log: &mut [u32],
+        records: &mut [u32],
         steps: &mut Steps,
     ) -> Result<Outcome, Refusal> {
         let Numbers {
@@ -279,19 +397,34 @@ impl Checker for Faulty {
             ..
         } = numbers;
         let (lent, lent_steps, count) = (log.to_vec(), *steps, said as usize);
+        let lent_records = records.to_vec();
         if self.takes(log, log_words(count)) {
             let mut longer = vec![0; log_words(count)];
-            return Independent.bare_launch(table, numbers, cells, &mut longer, steps);
+            return Independent.bare_launch(table, numbers, cells, &mut longer, records, steps);
         }
-        let mut answer = Independent.bare_launch(table, numbers, cells, log, steps);
+        if let Some(mut longer) = self.longer_list(records) {
+            return Independent.bare_launch(table, numbers, cells, log, &mut longer, steps);
+        }
+        if self.refuses(records) {
+            return Independent.bare_launch(table, numbers, cells, log, &mut [], steps);
+        }
+        let mut answer = Independent.bare_launch(table, numbers, cells, log, records, steps);
         answer = match (self, answer.map_err(|refusal| refusal.number)) {
             (Faulty::TellsCellsBeforeThreads, Err(8)) if !(1..=1_024).contains(&said) => refused(9),
             (Faulty::TellsTheLogBeforeTheCells, Err(20)) if log.len() != log_words(count) => {
                 refused(21)
             }
+            (_, Err(number)) => {
+                let told = self.told_for(number, records, REPORT_ROOM);
+                told.map_or(answer, refused)
+            }
             _ => answer,
         };
         if let Ok(outcome) = &mut answer {
+            self.spoil_records(records, &lent_records, outcome.barriers as usize);
+            if matches!(self, Faulty::CountsAConflictTooMany) {
+                outcome.conflicts += 1;
+            }
             self.spoil_steps(steps, &lent_steps, threads as usize, outcome.verdict);
             self.spoil_kind(&mut outcome.verdict, log, count);
             self.spoil_log(log, &lent, count);
@@ -301,7 +434,7 @@ impl Checker for Faulty {
             Faulty::ClearsTheStepsOnRefusal if answer.is_err() => steps.fill(0),
             _ => {}
         }
-        self.spoil(answer, cells, log, &mut [])
+        self.spoil(answer, cells, log, records, &mut [])
     }
 
     fn write_report(
@@ -326,7 +459,7 @@ impl Checker for Faulty {
             (Faulty::TellsTheBufferBeforeTheCounts, Err(23)) if !right && short => refused(22),
             _ => answer,
         };
-        self.spoil(answer, &mut [], &mut [], output)
+        self.spoil(answer, &mut [], &mut [], &mut [], output)
     }
 }
 
@@ -356,8 +489,43 @@ fn a_fault_in_files_is_found_out() {
         Faulty::PutsTheLastThreadFirst,
         Faulty::ForgetsTheLastCount,
         Faulty::WritesTheBarriersBeforeTheSteps,
+        Faulty::CountsAConflictTooMany,
+        Faulty::ForgetsTheConflicts,
+        Faulty::WritesTheConflictsBeforeTheBarriers,
+        Faulty::TellsTheOutputBeforeTheRecords,
     ] {
         assert!(found_out(faulty, Kind::File), "{faulty:?}");
+    }
+}
+
+/// Faults in the records, which files and bare launches leave alike.
+const RECORDS: [Faulty; 18] = [
+    Faulty::CostsOneTooMany,
+    Faulty::CountsARowTooMany,
+    Faulty::PutsACostInTheNextRecord,
+    Faulty::CountsTheBarrierBehindIt,
+    Faulty::MovesTheStart,
+    Faulty::StartsAtTheBarrier,
+    Faulty::OpensARecordTooMany,
+    Faulty::UsesMoreThanAllRecords,
+    Faulty::KeepsTheLastRecord,
+    Faulty::ClearsTheRecordsBehind,
+    Faulty::ChangesTheLastRecordWord,
+    Faulty::ClearsTheRecordsOnRefusal,
+    Faulty::TellsTheRecordsFirst,
+    Faulty::TellsTheRecordsBeforeTheCells,
+    Faulty::TellsTheRecordsBeforeTheLog,
+    Faulty::TakesAWordTooFew,
+    Faulty::TakesARecordTooFew,
+    Faulty::RefusesALongerList,
+];
+
+#[test]
+fn a_fault_in_records_is_found_out() {
+    for kind in [Kind::File, Kind::Bare] {
+        for faulty in RECORDS {
+            assert!(found_out(faulty, kind), "{kind:?}: {faulty:?}");
+        }
     }
 }
 
@@ -385,6 +553,7 @@ fn a_fault_in_bare_launches_is_found_out() {
         Faulty::TakesALogOfTwoKinds,
         Faulty::SwapsTheLetters,
         Faulty::ShowsAnAddBeforeAWrite,
+        Faulty::CountsAConflictTooMany,
     ] {
         assert!(found_out(faulty, Kind::Bare), "{faulty:?}");
     }
@@ -405,6 +574,9 @@ fn a_fault_in_reports_is_found_out() {
         Faulty::ForgetsTheLastCount,
         Faulty::WritesTheBarriersBeforeTheSteps,
         Faulty::SwapsTheLetters,
+        Faulty::CountsAConflictTooMany,
+        Faulty::ForgetsTheConflicts,
+        Faulty::WritesTheConflictsBeforeTheBarriers,
     ] {
         assert!(found_out(faulty, Kind::Report), "{faulty:?}");
     }
@@ -415,8 +587,28 @@ fn a_fault_of_both_is_found_out_where_a_refusal_keeps_the_buffers() {
     for both in [
         Faulty::ClearsTheLogOnRefusal,
         Faulty::ClearsTheStepsOnRefusal,
+        Faulty::ClearsTheRecordsOnRefusal,
     ] {
         assert!((0..160).any(|seed| compare_seed(seed, &both, &both).is_err()));
+    }
+}
+
+#[test]
+fn a_fault_of_both_is_found_out_where_the_records_do_not_come_to_the_counts() {
+    for both in [
+        Faulty::CostsOneTooMany,
+        Faulty::CountsARowTooMany,
+        Faulty::OpensARecordTooMany,
+        Faulty::UsesMoreThanAllRecords,
+        Faulty::KeepsTheLastRecord,
+        Faulty::ClearsTheRecordsBehind,
+        Faulty::CountsAConflictTooMany,
+    ] {
+        for kind in [Kind::File, Kind::Bare] {
+            let mut seeds = (0..16_000).filter(|&seed| Kind::of(seed) == kind);
+            let found = seeds.any(|seed| compare_seed(seed, &both, &both).is_err());
+            assert!(found, "{kind:?}: {both:?}");
+        }
     }
 }
 
@@ -457,4 +649,52 @@ fn a_difference_shows_the_counts_side_by_side() {
         assert_eq!(ours - theirs, u32::from(thread == 0));
         assert_eq!(mark.len(), usize::from(thread == 0));
     }
+}
+
+/// The text of the first difference in launches of a kind.
+fn first_difference(faulty: Faulty, kind: Kind) -> String {
+    let seeds = (0..16_000).filter(|&seed| Kind::of(seed) == kind);
+    let found = seeds.filter_map(|seed| compare_seed(seed, &faulty, &Independent).err());
+    let text = found.map(|found| found.to_string()).next();
+    text.expect("some launch runs")
+}
+
+#[test]
+fn a_difference_shows_the_records_by_name() {
+    for kind in [Kind::File, Kind::Bare] {
+        let text = first_difference(Faulty::CostsOneTooMany, kind);
+        let lines: Vec<&str> = (text.lines())
+            .filter(|line| line.starts_with("record "))
+            .collect();
+        let [line] = lines[..] else {
+            panic!("one record differs in\n{text}");
+        };
+        let numbers: Vec<u32> = (line.split(|c: char| !c.is_ascii_digit()))
+            .filter_map(|digits| digits.parse().ok())
+            .collect();
+        let [record, start, rows, cost, their_start, their_rows, their_cost] = numbers[..] else {
+            panic!("{line}");
+        };
+        assert_eq!(line, format!("record {record}: ours start {start}, rows {rows}, cost {cost}; theirs start {start}, rows {rows}, cost {their_cost}"));
+        assert_eq!(
+            (their_start, their_rows, their_cost + 1),
+            (start, rows, cost)
+        );
+        assert!(
+            text.contains("ours: conflicts of all records are "),
+            "{text}"
+        );
+    }
+}
+
+#[test]
+fn a_difference_shows_records_that_were_kept() {
+    let text = first_difference(Faulty::OpensARecordTooMany, Kind::Bare);
+    assert!(
+        text.contains(": ours start 0, rows 0, cost 0; theirs as lent ["),
+        "{text}"
+    );
+    assert!(text.contains(" of records, lent cells"), "{text}");
+    let text = first_difference(Faulty::ClearsTheRecordsBehind, Kind::Bare);
+    assert!(text.contains(" records more\n"), "{text}");
 }

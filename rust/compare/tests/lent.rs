@@ -1,8 +1,12 @@
 //! What the seeds lend: where a length, or a word of a buffer, is never put to the checkers, they are not compared there.
 
 use std::cell::RefCell;
+use std::sync::OnceLock;
 
-use checker::{Outcome, Refusal, Subject, MAX_THREADS};
+use checker::{
+    log_words, Outcome, Refusal, Subject, INTERVAL_RECORDS, INTERVAL_WORDS, LENT_CELLS, LENT_LOG,
+    MAX_THREADS, REPORT_ROOM,
+};
 use compare::{compare_seed, Checker, Independent, Kind, Numbers, Steps};
 
 const THREADS: usize = MAX_THREADS as usize;
@@ -32,11 +36,52 @@ struct Launch {
     left: Steps,
 }
 
+/// A file or a bare launch: which of its buffers are right, the list of records that it was lent, and what became of it.
+#[derive(Clone, Copy, Debug)]
+struct List {
+    cells: bool,
+    log: bool,
+    output: bool,
+    words: usize,
+    /// No word is one that a run leaves.
+    junk: bool,
+    /// Records with a word that was changed.
+    changed: usize,
+    /// The refusal's number, or 0.
+    number: u32,
+}
+
+impl List {
+    fn new<T>(
+        right: [bool; 3],
+        before: &[u32],
+        after: &[u32],
+        answer: &Result<T, Refusal>,
+    ) -> Self {
+        let [cells, log, output] = right;
+        let records = before.chunks(3).zip(after.chunks(3));
+        Self {
+            cells,
+            log,
+            output,
+            words: before.len(),
+            junk: before.iter().all(|&word| word >= 1 << 31),
+            changed: records.filter(|(was, is)| was != is).count(),
+            number: answer.as_ref().map_or_else(|refusal| refusal.number, |_| 0),
+        }
+    }
+
+    fn right(&self) -> [bool; 3] {
+        [self.cells, self.log, self.output]
+    }
+}
+
 /// The independent checker, with all that is asked of it.
 #[derive(Default)]
 struct Witness {
     reports: RefCell<Vec<Report>>,
     launches: RefCell<Vec<Launch>>,
+    lists: RefCell<Vec<List>>,
 }
 
 impl Checker for Witness {
@@ -45,9 +90,19 @@ impl Checker for Witness {
         file: &[u8],
         cells: &mut [u32],
         log: &mut [u32],
+        records: &mut [u32],
         output: &mut [u8],
     ) -> Result<usize, Refusal> {
-        Independent.check_file(file, cells, log, output)
+        let lent = records.to_vec();
+        let answer = Independent.check_file(file, cells, log, records, output);
+        let right = [
+            cells.len() == LENT_CELLS,
+            log.len() == LENT_LOG,
+            output.len() >= REPORT_ROOM,
+        ];
+        let list = List::new(right, &lent, records, &answer);
+        self.lists.borrow_mut().push(list);
+        answer
     }
 
     fn bare_launch(
@@ -56,10 +111,15 @@ impl Checker for Witness {
         numbers: Numbers,
         cells: &mut [u32],
         log: &mut [u32],
+        records: &mut [u32],
         steps: &mut Steps,
     ) -> Result<Outcome, Refusal> {
-        let lent = *steps;
-        let answer = Independent.bare_launch(table, numbers, cells, log, steps);
+        let (lent, lent_records) = (*steps, records.to_vec());
+        let answer = Independent.bare_launch(table, numbers, cells, log, records, steps);
+        let said = numbers.cells as usize;
+        let right = [cells.len() == said, log.len() == log_words(said), true];
+        let list = List::new(right, &lent_records, records, &answer);
+        self.lists.borrow_mut().push(list);
         self.launches.borrow_mut().push(Launch {
             threads: numbers.threads as usize,
             ran: answer.is_ok(),
@@ -180,5 +240,89 @@ fn every_word_of_steps_is_a_count_a_word_behind_and_one_that_is_kept() {
             threads == 1 || ran.iter().filter(of).any(unequal),
             "{threads} threads"
         );
+    }
+}
+
+/// The lists that files or bare launches are lent. Files are many, so they are asked for once.
+fn lists(kind: Kind) -> &'static [List] {
+    static FILES: OnceLock<Vec<List>> = OnceLock::new();
+    static BARE: OnceLock<Vec<List>> = OnceLock::new();
+    let lists = match kind {
+        Kind::File => &FILES,
+        _ => &BARE,
+    };
+    let lists = lists.get_or_init(|| witness(kind).lists.into_inner());
+    assert!(lists.iter().all(|list| list.junk), "{kind:?}");
+    lists
+}
+
+/// Lengths that are too short: by a word, by a record, as many as there are records, room for one, none.
+const SHORT: [usize; 5] = [3_074, 3_072, 1_025, 3, 0];
+
+#[test]
+fn files_are_lent_short_lists_beside_each_wrong_buffer() {
+    let lists = lists(Kind::File);
+    for words in SHORT {
+        for wrong in 0..8 {
+            let right @ [cells, log, _] = [0, 1, 2].map(|which| wrong >> which & 1 == 0);
+            let due = match (cells, log) {
+                (false, _) => 20,
+                (_, false) => 21,
+                _ => 30,
+            };
+            let of = |list: &&List| (list.words, list.right()) == (words, right);
+            let told = |list: &List| list.number == due && list.changed == 0;
+            assert!(lists.iter().filter(of).any(told), "{words}, {right:?}");
+            let input_first = |list: &List| (1..=12).contains(&list.number);
+            assert!(
+                lists.iter().filter(of).any(input_first),
+                "{words}, {right:?}"
+            );
+        }
+    }
+}
+
+#[test]
+fn bare_launches_are_lent_short_lists_beside_each_wrong_buffer() {
+    let lists = lists(Kind::Bare);
+    for words in [3_074, 3_072, 0] {
+        for (cells, log, due) in [(true, true, 30), (true, false, 21), (false, true, 20)] {
+            let of = |list: &&List| (list.words, list.cells, list.log) == (words, cells, log);
+            let told = |list: &List| list.number == due && list.changed == 0;
+            assert!(lists.iter().filter(of).any(told), "{words}, {due}");
+        }
+    }
+}
+
+#[test]
+fn lists_are_lent_that_are_long_enough_or_longer() {
+    for kind in [Kind::File, Kind::Bare] {
+        let lists = lists(kind);
+        for words in [3_075, 3_076, 3_077, 3_078, 2 * 3_075] {
+            let ran = |list: &&List| list.words == words && list.number == 0;
+            let ran: Vec<&List> = lists.iter().filter(ran).collect();
+            for used in [1, 2, 3, INTERVAL_RECORDS] {
+                let found = ran.iter().any(|list| list.changed == used);
+                assert!(found, "{kind:?}: {used} records of {words} words");
+            }
+            assert!(ran.iter().all(|list| list.changed <= INTERVAL_RECORDS));
+        }
+        for used in [1_024, INTERVAL_RECORDS - 2] {
+            let found = lists.iter().any(|list| list.changed == used);
+            assert!(found, "{kind:?}: {used} records");
+        }
+        let refused = |number| {
+            let of = move |list: &&List| list.number == number && list.words > INTERVAL_WORDS;
+            lists.iter().filter(of).count()
+        };
+        let numbers: &[u32] = match kind {
+            Kind::File => &[20, 21, 24],
+            _ => &[20, 21],
+        };
+        assert!(
+            numbers.iter().all(|&number| refused(number) > 0),
+            "{kind:?}"
+        );
+        assert_eq!(refused(30), 0, "{kind:?}");
     }
 }

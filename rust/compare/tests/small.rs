@@ -1,7 +1,7 @@
 //! The launches that the explorer plays every run of: what it finds of the independent checker's answers holds of the verified
 //! library's too, because they are the same.
 
-use checker::{log_words, Outcome, Refusal, MAX_THREADS};
+use checker::{log_words, Outcome, Refusal, INTERVAL_WORDS, MAX_THREADS};
 use compare::{Checker, Independent, Numbers, Steps, Verified};
 use generator::SmallLaunch;
 
@@ -25,13 +25,27 @@ fn small_launches_are_answered_alike() {
     }
 }
 
-/// The answer with the cells, the log and the steps that it leaves.
-type Left = (Result<Outcome, Refusal>, Vec<u32>, Vec<u32>, Steps);
+/// The answer with the cells, the log, the records and the steps that it leaves.
+type Left = (
+    Result<Outcome, Refusal>,
+    Vec<u32>,
+    Vec<u32>,
+    Vec<u32>,
+    Steps,
+);
 
 fn run(checker: &impl Checker, launch: &SmallLaunch, numbers: Numbers) -> Left {
     let mut cells = launch.cells.clone();
     let mut log = vec![u32::MAX; log_words(cells.len())];
+    let mut records = vec![u32::MAX; INTERVAL_WORDS];
     let mut steps = [u32::MAX; MAX_THREADS as usize];
-    let answer = checker.bare_launch(&launch.table, numbers, &mut cells, &mut log, &mut steps);
-    (answer, cells, log, steps)
+    let answer = checker.bare_launch(
+        &launch.table,
+        numbers,
+        &mut cells,
+        &mut log,
+        &mut records,
+        &mut steps,
+    );
+    (answer, cells, log, records, steps)
 }

@@ -1,7 +1,7 @@
 //! The claim that ties the lock-step verdict to all runs of the threads' own
 //! machine, checked from outside.
 
-use checker::{log_words, observed_launch, Outcome, Verdict, MAX_THREADS};
+use checker::{log_words, observed_launch, Outcome, Verdict, INTERVAL_WORDS, MAX_THREADS};
 use generator::SmallLaunch;
 
 use crate::machine::{Kernel, Standing, State};
@@ -72,6 +72,7 @@ fn run_lock_step(launch: &SmallLaunch) -> Result<LockStep, String> {
         LIMIT,
         &mut cells,
         &mut log,
+        &mut [0; INTERVAL_WORDS],
         &mut steps,
         |cells| barriers.push(cells.to_vec()),
     );
@@ -211,6 +212,7 @@ mod tests {
                 verdict,
                 rows: 9,
                 barriers,
+                conflicts: 0,
             },
             steps: steps.to_vec(),
             cells: vec![7],

@@ -1,6 +1,6 @@
 //! Bare launches, with buffers and lengths right and wrong.
 
-use checker::{log_words, LENT_CELLS, LENT_LOG, MAX_THREADS};
+use checker::{log_words, INTERVAL_WORDS, LENT_CELLS, LENT_LOG, MAX_THREADS};
 
 use crate::damage::hurt_rows;
 use crate::headers::{out_of_range, LIMIT};
@@ -24,6 +24,9 @@ pub struct BareLaunch {
     pub lent_cells: Vec<u32>,
     /// The lent log, holding anything.
     pub lent_log: Vec<u32>,
+    /// The lent list of intervals, maybe too short, holding words that no
+    /// record comes to.
+    pub lent_intervals: Vec<u32>,
     /// The lent words of steps, holding words that no count comes to.
     pub lent_steps: [u32; MAX_THREADS as usize],
 }
@@ -31,19 +34,24 @@ pub struct BareLaunch {
 /// A bare launch: sound, hurt in some way, with a small table that is turned
 /// back, or with one fault or two at once.
 pub fn bare(rng: &mut Rng, any_plan: impl FnOnce(&mut Rng) -> Plan) -> BareLaunch {
-    let mut launch = match rng.below(16) {
-        0..=9 => {
+    let mut launch = match rng.below(18) {
+        0..=10 => {
             let plan = any_plan(rng);
             hurt_or_not(rng, plan)
         }
-        10..=12 => {
+        11..=13 => {
             let plan = small_faulty_plan(rng);
             of(rng, plan)
         }
         _ => one_or_two_faults(rng),
     };
-    launch.lent_steps = [0; MAX_THREADS as usize].map(|_| rng.word() | 1 << 31);
+    launch.lent_steps = [0; MAX_THREADS as usize].map(|_| no_count(rng));
     launch
+}
+
+/// A word that neither a number of rows nor a cost comes to.
+fn no_count(rng: &mut Rng) -> u32 {
+    rng.word() | 1 << 31
 }
 
 fn of(rng: &mut Rng, plan: Plan) -> BareLaunch {
@@ -55,8 +63,32 @@ fn of(rng: &mut Rng, plan: Plan) -> BareLaunch {
         limit: plan.limit,
         lent_cells: plan.cells,
         lent_log: (0..log).map(|_| rng.word()).collect(),
+        lent_intervals: long_enough(rng),
         lent_steps: [0; MAX_THREADS as usize],
     }
+}
+
+/// As many words as a list of intervals needs, or more.
+fn long_enough(rng: &mut Rng) -> Vec<u32> {
+    let more = match rng.below(6) {
+        0..=2 => 0,
+        3 => rng.range(1, 3),
+        4 => rng.below(200),
+        _ => rng.pick(&[3, 1_021, 3_075, 1_024]),
+    };
+    let words = INTERVAL_WORDS as u32 + more;
+    (0..words).map(|_| no_count(rng)).collect()
+}
+
+/// Too few words: one or a record fewer, as many as there are records, as the
+/// whole-file entry's log has, none, or any.
+fn cut_intervals(rng: &mut Rng, list: &mut Vec<u32>) {
+    let words = match rng.below(4) {
+        0 | 1 => rng.pick(&[3_074, 3_074, 3_074, 3_073, 3_072, 3_071]),
+        2 => rng.pick(&[0, 0, 1, 3, 1_024, 1_025, 2_050]),
+        _ => rng.below(INTERVAL_WORDS as u32),
+    };
+    list.truncate(words as usize);
 }
 
 /// Hurt in about a third of the cases, in any way.
@@ -72,7 +104,7 @@ fn hurt_or_not(rng: &mut Rng, mut plan: Plan) -> BareLaunch {
 }
 
 fn hurt(rng: &mut Rng, launch: &mut BareLaunch) {
-    match rng.below(9) {
+    match rng.below(12) {
         0 => {
             let len = rng.index(launch.table.len() + 1);
             launch.table.truncate(len);
@@ -89,6 +121,7 @@ fn hurt(rng: &mut Rng, launch: &mut BareLaunch) {
         4 => launch.cells = rng.pick(&[0, 1_025, u32::MAX, 1_024, 1]),
         5 => launch.limit = rng.pick(&[1_000_001, u32::MAX]),
         6 => resize(rng, &mut launch.lent_cells),
+        7 | 8 => cut_intervals(rng, &mut launch.lent_intervals),
         _ => resize_log(rng, launch),
     }
 }
@@ -108,8 +141,10 @@ fn resize(rng: &mut Rng, words: &mut Vec<u32>) {
 /// As other buffers, or as if one kind of mask were missing, or two, or as if
 /// there were a kind more.
 fn resize_log(rng: &mut Rng, launch: &mut BareLaunch) {
-    if rng.percent(60) {
-        return resize(rng, &mut launch.lent_log);
+    match rng.below(20) {
+        0..=10 => return resize(rng, &mut launch.lent_log),
+        11 | 12 => return launch.lent_log.resize(LENT_LOG, 7),
+        _ => {}
     }
     let masks = rng.pick(&[1, 2, 2, 2, 4]);
     launch.lent_log.resize(masks * launch.lent_cells.len(), 7);
@@ -117,7 +152,7 @@ fn resize_log(rng: &mut Rng, launch: &mut BareLaunch) {
 
 /// The faults of a bare launch that a refusal of their own is told for, in
 /// the order in which they are told.
-const FAULTS: [fn(&mut Rng, &mut BareLaunch, &Plan); 8] = [
+const FAULTS: [fn(&mut Rng, &mut BareLaunch, &Plan); 9] = [
     |rng, launch, _| {
         let more = rng.range(1, 3);
         launch.table.extend((0..more).map(|_| 2));
@@ -138,6 +173,7 @@ const FAULTS: [fn(&mut Rng, &mut BareLaunch, &Plan); 8] = [
     },
     |rng, launch, _| resize(rng, &mut launch.lent_cells),
     |rng, launch, _| resize_log(rng, launch),
+    |rng, launch, _| cut_intervals(rng, &mut launch.lent_intervals),
 ];
 
 /// One fault of a small launch, or two, often such as are told one after the

@@ -2,6 +2,7 @@
 //! seed gives the same launch everywhere.
 
 mod asm;
+mod banks;
 mod bare;
 mod counts;
 mod damage;
@@ -63,7 +64,8 @@ pub fn small(seed: u64) -> SmallLaunch {
 
 fn any_plan(rng: &mut Rng) -> Plan {
     match rng.below(100) {
-        0..=38 => patterns::pattern(rng),
+        0..=30 => patterns::pattern(rng),
+        31..=38 => banks::banks(rng),
         39..=45 | 67..=71 => counts::counts(rng),
         46..=51 | 72..=75 => intervals::intervals(rng),
         52..=66 => random::random(rng),

@@ -6,7 +6,7 @@ use crate::asm::*;
 use crate::plan::Plan;
 use crate::rng::Rng;
 
-const PATTERNS: [fn(&mut Rng) -> Plan; 28] = [
+const PATTERNS: [fn(&mut Rng) -> Plan; 33] = [
     reduction,
     scan,
     stencil,
@@ -24,8 +24,13 @@ const PATTERNS: [fn(&mut Rng) -> Plan; 28] = [
     guarded_barrier,
     guarded_barrier,
     guarded_barrier,
+    guarded_barrier,
+    guarded_barrier,
     reaching_the_end,
     rotating_counters,
+    one_after_the_other,
+    one_after_the_other,
+    one_after_the_other,
     one_after_the_other,
     one_after_the_other,
     one_after_the_other,

@@ -1,6 +1,6 @@
 //! A launch before it is written as a file.
 
-use checker::{bare_launch, log_words, Verdict, MAX_THREADS};
+use checker::{bare_launch, log_words, Verdict, INTERVAL_WORDS, MAX_THREADS};
 
 use crate::asm::Row;
 use crate::rng::Rng;
@@ -88,7 +88,10 @@ impl Plan {
         let count = cells.len() as u32;
         let (table, mut steps) = (self.table(), [0; MAX_THREADS as usize]);
         let (threads, log) = (self.threads, &mut log);
-        let outcome = bare_launch(&table, threads, count, PROBE, &mut cells, log, &mut steps);
+        let list = &mut [0; INTERVAL_WORDS];
+        let outcome = bare_launch(
+            &table, threads, count, PROBE, &mut cells, log, list, &mut steps,
+        );
         match outcome {
             Ok(outcome) if matches!(outcome.verdict, Verdict::Spent { .. }) => None,
             Ok(outcome) => Some(outcome.rows),

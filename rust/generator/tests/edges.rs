@@ -4,8 +4,8 @@
 use std::collections::BTreeMap;
 
 use checker::{
-    bare_launch, log_words, op, AccessKind, Outcome, Refusal, Verdict, MAX_FILE, MAX_LIMIT,
-    MAX_ROWS,
+    bare_launch, log_words, op, AccessKind, Outcome, Refusal, Verdict, INTERVAL_WORDS, MAX_FILE,
+    MAX_LIMIT, MAX_ROWS,
 };
 use generator::{BareLaunch, Plan};
 
@@ -203,7 +203,8 @@ fn two_faults_in_a_header() {
 
 /// What the row checks say of a table, with all else in order.
 fn rows_refused(table: &[u8]) -> Option<Refusal> {
-    bare_launch(table, 1, 1, 0, &mut [0], &mut [0; 3], &mut [0; 32]).err()
+    let list = &mut [0; INTERVAL_WORDS];
+    bare_launch(table, 1, 1, 0, &mut [0], &mut [0; 3], list, &mut [0; 32]).err()
 }
 
 /// The four bytes of a `row=` line that is spelt right.
@@ -346,6 +347,7 @@ fn faults(launch: &BareLaunch) -> Vec<&'static str> {
         ),
         ("20", cells != said),
         ("21", log != log_words(said)),
+        ("30", launch.lent_intervals.len() < INTERVAL_WORDS),
     ]
     .into_iter()
     .filter_map(|(name, earned)| earned.then_some(name))
@@ -355,7 +357,7 @@ fn faults(launch: &BareLaunch) -> Vec<&'static str> {
 #[test]
 fn two_faults_of_a_bare_launch() {
     let mut counts = Counts::default();
-    let names = ["1", "2", "8", "9", "10", "rows", "20", "21"];
+    let names = ["1", "2", "8", "9", "10", "rows", "20", "21", "30"];
     for launch in (0..SEEDS).map(generator::bare) {
         let found = faults(&launch);
         for (at, first) in names.iter().enumerate() {
@@ -645,7 +647,10 @@ impl Ran {
         let (table, count) = (plan.rows.concat(), after.len() as u32);
         let (threads, limit) = (plan.threads, plan.limit);
         let (cells, masks, mut steps) = (&mut after, &mut log, [0; 32]);
-        let ran = bare_launch(&table, threads, count, limit, cells, masks, &mut steps);
+        let list = &mut [0; INTERVAL_WORDS];
+        let ran = bare_launch(
+            &table, threads, count, limit, cells, masks, list, &mut steps,
+        );
         let before = plan.cells.clone();
         Some(Self {
             outcome: ran.ok()?,

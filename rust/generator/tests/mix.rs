@@ -3,7 +3,8 @@
 use std::collections::BTreeMap;
 
 use checker::{
-    bare_launch, check_file, log_words, op, Refusal, Verdict, LENT_CELLS, LENT_LOG, REPORT_ROOM,
+    bare_launch, check_file, log_words, op, Refusal, Verdict, INTERVAL_WORDS, LENT_CELLS, LENT_LOG,
+    REPORT_ROOM,
 };
 
 type Tally = BTreeMap<String, usize>;
@@ -11,8 +12,8 @@ type Tally = BTreeMap<String, usize>;
 /// The report's first line, its kind if it has one, or the refusal's number.
 fn answers(file: &[u8]) -> Vec<String> {
     let (mut cells, mut log) = (vec![0; LENT_CELLS], vec![0; LENT_LOG]);
-    let mut out = vec![0; REPORT_ROOM];
-    match check_file(file, &mut cells, &mut log, &mut out) {
+    let (mut list, mut out) = (vec![0; INTERVAL_WORDS], vec![0; REPORT_ROOM]);
+    match check_file(file, &mut cells, &mut log, &mut list, &mut out) {
         Ok(len) => {
             let report = std::str::from_utf8(&out[..len]).unwrap();
             let lines = report.lines().map(String::from);
@@ -100,6 +101,7 @@ fn bare_launches() {
             before.limit,
             cells,
             log,
+            &mut bare.lent_intervals,
             &mut bare.lent_steps,
         );
         let names = match found {
@@ -120,7 +122,7 @@ fn bare_launches() {
     expect(&tally, &kinds(), 40);
     expect(
         &tally,
-        &refusals(&[1, 2, 3, 4, 5, 6, 7, 8, 9, 10, 20, 21]),
+        &refusals(&[1, 2, 3, 4, 5, 6, 7, 8, 9, 10, 20, 21, 30]),
         100,
     );
 }
@@ -133,7 +135,7 @@ fn small_launches() {
         let mut cells = small.cells.clone();
         let mut log = vec![0; log_words(cells.len())];
         let said = cells.len() as u32;
-        let mut steps = [0; 32];
+        let (mut list, mut steps) = ([0; INTERVAL_WORDS], [0; 32]);
         let found = bare_launch(
             &small.table,
             small.threads,
@@ -141,6 +143,7 @@ fn small_launches() {
             1_000,
             &mut cells,
             &mut log,
+            &mut list,
             &mut steps,
         );
         let outcome = found.expect("small launches are well-formed");

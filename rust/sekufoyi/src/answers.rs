@@ -83,6 +83,8 @@ pub struct Outcome {
     pub rows: u32,
     /// Barriers that all threads came to.
     pub barriers: u32,
+    /// What bank conflicts cost in all rows together.
+    pub conflicts: u32,
 }
 
 /// What a report is about.
@@ -167,17 +169,25 @@ impl Verdict {
 
 impl Outcome {
     pub(crate) fn from_words(words: OutcomeWords) -> Self {
-        let [.., rows, barriers] = words;
+        let [.., rows, barriers, conflicts] = words;
         Self {
             verdict: Verdict::from_words(words),
             rows,
             barriers,
+            conflicts,
         }
     }
 
     pub(crate) fn words(self) -> OutcomeWords {
         let [verdict, row, thread, other, kind, at] = self.verdict.words();
-        let Self { rows, barriers, .. } = self;
-        [verdict, row, thread, other, kind, at, rows, barriers]
+        let Self {
+            rows,
+            barriers,
+            conflicts,
+            ..
+        } = self;
+        [
+            verdict, row, thread, other, kind, at, rows, barriers, conflicts,
+        ]
     }
 }

@@ -12,23 +12,31 @@ pub use answers::{AccessKind, Outcome, Refusal, Subject, Verdict};
 pub const LENT_CELLS: usize = 1_024;
 /// Words of log that [`check_file`] is lent.
 pub const LENT_LOG: usize = 3_072;
+/// Words of records that [`check_file`] and [`bare_launch`] need at least: three for each of 1,025 barrier intervals.
+pub const LENT_RECORDS: usize = 3_075;
 /// Words of steps that [`bare_launch`] is lent: one for each thread that a group may have.
 pub const LENT_STEPS: usize = 32;
 /// Bytes of output that [`check_file`] needs at least: enough for every report.
 pub const REPORT_ROOM: usize = 17_408;
 
-/// Checks a launch file, writes its report to the start of `output` and gives the report's length.
+/// Checks a launch file, writes its report to the start of `output` and gives the report's length. `records` is as in [`bare_launch`].
 pub fn check_file(
     file: &[u8],
     cells: &mut [u32],
     log: &mut [u32],
+    records: &mut [u32],
     output: &mut [u8],
 ) -> Result<usize, Refusal> {
-    written(raw::check_file(file, cells, log, output))
+    written(raw::check_file(file, cells, log, records, output))
 }
 
 /// Runs a kernel table over the lent cells, which hold the launch's words before and the run's words after. `steps` holds after the run
 /// what each thread stepped, and 0 behind the last thread; [`write_report`] wants the first words alone, one for each thread.
+///
+/// `records` holds after the run three words for each barrier interval: the row due at its start, the rows run in it, and what bank
+/// conflicts cost in it. There is one at the launch and one more for each barrier that all threads came to, up to 1,025, of which the last
+/// goes on. The words behind the last record used keep their value.
+#[allow(clippy::too_many_arguments)] // They are those of the specification.
 pub fn bare_launch(
     table: &[u8],
     threads: u32,
@@ -36,9 +44,12 @@ pub fn bare_launch(
     limit: u32,
     cells: &mut [u32],
     log: &mut [u32],
+    records: &mut [u32],
     steps: &mut [u32; LENT_STEPS],
 ) -> Result<Outcome, Refusal> {
-    let answer = raw::bare_launch(table, threads, cell_count, limit, cells, log, steps);
+    let answer = raw::bare_launch(
+        table, threads, cell_count, limit, cells, log, records, steps,
+    );
     if answer.ran {
         Ok(Outcome::from_words(answer.outcome))
     } else {

@@ -2,7 +2,7 @@
 #![allow(unsafe_code)]
 
 /// The words of an outcome, as the header orders them.
-pub(crate) type OutcomeWords = [u32; 8];
+pub(crate) type OutcomeWords = [u32; 9];
 
 /// Each thread's steps, and 0 behind the last thread.
 pub(crate) type StepWords = [u32; 32];
@@ -18,6 +18,8 @@ extern "C" {
         cells_length: usize,
         log: *mut u32,
         log_length: usize,
+        records: *mut u32,
+        records_length: usize,
         output: *mut u8,
         output_length: usize,
         refusal: *mut RefusalWords,
@@ -33,6 +35,8 @@ extern "C" {
         cells_length: usize,
         log: *mut u32,
         log_length: usize,
+        records: *mut u32,
+        records_length: usize,
         steps: *mut StepWords,
         outcome: *mut OutcomeWords,
         refusal: *mut RefusalWords,
@@ -66,6 +70,7 @@ pub(crate) fn check_file(
     file: &[u8],
     cells: &mut [u32],
     log: &mut [u32],
+    records: &mut [u32],
     output: &mut [u8],
 ) -> (usize, RefusalWords) {
     let mut refusal = [UNWRITTEN; 2];
@@ -79,6 +84,8 @@ pub(crate) fn check_file(
             cells.len(),
             log.as_mut_ptr(),
             log.len(),
+            records.as_mut_ptr(),
+            records.len(),
             output.as_mut_ptr(),
             output.len(),
             &mut refusal,
@@ -94,6 +101,7 @@ pub(crate) struct BareAnswer {
     pub refusal: RefusalWords,
 }
 
+#[allow(clippy::too_many_arguments)] // They are those of the C function.
 pub(crate) fn bare_launch(
     table: &[u8],
     threads: u32,
@@ -101,11 +109,12 @@ pub(crate) fn bare_launch(
     limit: u32,
     cells: &mut [u32],
     log: &mut [u32],
+    records: &mut [u32],
     steps: &mut StepWords,
 ) -> BareAnswer {
-    let mut outcome = [UNWRITTEN; 8];
+    let mut outcome = [UNWRITTEN; 9];
     let mut refusal = [UNWRITTEN; 2];
-    // SAFETY: as in `check_file`; the steps have the 32 words, the outcome the eight and the refusal the two that are asked for. A C bool
+    // SAFETY: as in `check_file`; the steps have the 32 words, the outcome the nine and the refusal the two that are asked for. A C bool
     // is a Rust bool.
     let ran = unsafe {
         sekufoyi_bare_launch(
@@ -118,6 +127,8 @@ pub(crate) fn bare_launch(
             cells.len(),
             log.as_mut_ptr(),
             log.len(),
+            records.as_mut_ptr(),
+            records.len(),
             steps,
             &mut outcome,
             &mut refusal,

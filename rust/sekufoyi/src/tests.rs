@@ -5,7 +5,7 @@ const P1_FILE: &str = "kernel=1\nthreads=2\ncells=3\nlimit=100\nrows=7\n\
     row=2,0,0,0\nrow=1,1,1,0\nrow=4,2,0,1\nrow=16,3,2,0\nrow=16,4,0,0\nrow=4,3,3,4\nrow=17,0,3,0\n\
     cell=1\ncell=1\ncell=1\nend=kernel\n";
 const P1_REPORT: &str =
-    "verdict=race\nrow=6\nthread=1\nother=0\nkind=rw\nat=1\nrows=6\nsteps=7\nsteps=6\nbarriers=0\n\
+    "verdict=race\nrow=6\nthread=1\nother=0\nkind=rw\nat=1\nrows=6\nsteps=7\nsteps=6\nbarriers=0\nconflicts=0\n\
     cell=2\ncell=1\ncell=1\nend=report\n";
 #[rustfmt::skip]
 const P1_TABLE: [u8; 28] = [
@@ -21,11 +21,14 @@ const P1_OUTCOME: Outcome = Outcome {
     },
     rows: 6,
     barriers: 0,
+    conflicts: 0,
 };
 /// Thread 1 is stopped in the last row, which thread 0 has run by then.
 const P1_STEPS: [u32; 2] = [7, 6];
+/// One interval. The cells that are loaded are neighbours, and the stopped row is not run.
+const P1_RECORDS: [u32; 3] = [0, 6, 0];
 
-/// What no thread's steps come to.
+/// What no thread's steps come to, and no word of a record.
 const JUNK: u32 = 0xfeed_face;
 
 /// Lent buffers that hold what no run leaves in them.
@@ -33,6 +36,7 @@ const JUNK: u32 = 0xfeed_face;
 struct Lent {
     cells: Vec<u32>,
     log: Vec<u32>,
+    records: Vec<u32>,
     steps: [u32; LENT_STEPS],
     output: Vec<u8>,
 }
@@ -42,25 +46,40 @@ impl Lent {
         Self {
             cells: vec![0xdead_beef; cells],
             log: vec![0xcafe_f00d; log],
+            records: vec![JUNK; LENT_RECORDS],
             steps: [JUNK; LENT_STEPS],
             output: vec![0xff; output],
         }
     }
 
+    /// The same with so many words of records.
+    fn with_records(self, words: usize) -> Self {
+        let records = vec![JUNK; words];
+        Self { records, ..self }
+    }
+
     fn check(&mut self, file: &str) -> Result<usize, Refusal> {
         let Self {
-            cells, log, output, ..
+            cells,
+            log,
+            records,
+            output,
+            ..
         } = self;
-        check_file(file.as_bytes(), cells, log, output)
+        check_file(file.as_bytes(), cells, log, records, output)
     }
 
     /// A bare launch of `[threads, cells, limit]`.
     fn launch(&mut self, table: &[u8], numbers: [u32; 3]) -> Result<Outcome, Refusal> {
         let Self {
-            cells, log, steps, ..
+            cells,
+            log,
+            records,
+            steps,
+            ..
         } = self;
         let [threads, count, limit] = numbers;
-        bare_launch(table, threads, count, limit, cells, log, steps)
+        bare_launch(table, threads, count, limit, cells, log, records, steps)
     }
 }
 
@@ -69,6 +88,13 @@ fn counted(counts: &[u32]) -> [u32; LENT_STEPS] {
     let mut steps = [0; LENT_STEPS];
     steps[..counts.len()].copy_from_slice(counts);
     steps
+}
+
+/// Some records, and what was lent behind them, `words` in all.
+fn recorded(records: &[[u32; 3]], words: usize) -> Vec<u32> {
+    let mut list = records.concat();
+    list.resize(words, JUNK);
+    list
 }
 
 fn refused<T>(number: u32, place: u32) -> Result<T, Refusal> {
@@ -82,6 +108,7 @@ fn the_file_of_p1_gives_its_report_and_keeps_what_is_behind() {
     expected.cells[..3].copy_from_slice(&[2, 1, 1]);
     // Packed: three words of readers, then three of writers, then three of adders.
     expected.log[..9].copy_from_slice(&[1, 3, 2, 1, 0, 0, 0, 0, 0]);
+    expected.records[..3].copy_from_slice(&P1_RECORDS);
     expected.output[..P1_REPORT.len()].copy_from_slice(P1_REPORT.as_bytes());
     assert_eq!(lent.check(P1_FILE), Ok(P1_REPORT.len()));
     assert!(lent == expected);
@@ -89,39 +116,55 @@ fn the_file_of_p1_gives_its_report_and_keeps_what_is_behind() {
 
 #[test]
 fn check_file_refuses_wrong_buffers_and_leaves_them() {
-    for (cells, log, output, number) in [
-        (1_023, 3_072, 17_408, 20),
-        (1_025, 3_072, 17_408, 20),
-        (0, 0, 0, 20),
-        (1_024, 3_071, 17_408, 21),
-        (1_024, 3_073, 17_408, 21),
-        (1_024, 3_072, 17_407, 24),
-        (1_024, 3_072, 0, 24),
+    for (cells, log, records, output, number) in [
+        (1_023, 3_072, 3_075, 17_408, 20),
+        (1_025, 3_072, 3_075, 17_408, 20),
+        (1_023, 3_072, 3_074, 17_408, 20),
+        (0, 0, 0, 0, 20),
+        (1_024, 3_071, 3_075, 17_408, 21),
+        (1_024, 3_073, 3_075, 17_408, 21),
+        (1_024, 3_071, 3_074, 17_408, 21),
+        (1_024, 3_075, 3_072, 17_408, 21),
+        (1_024, 0, 0, 0, 21),
+        (1_024, 3_072, 3_074, 17_408, 30),
+        (1_024, 3_072, 3_072, 17_408, 30),
+        (1_024, 3_072, 1_025, 17_408, 30),
+        (1_024, 3_072, 3, 17_408, 30),
+        (1_024, 3_072, 0, 17_408, 30),
+        (1_024, 3_072, 3_074, 17_407, 30),
+        (1_024, 3_072, 0, 0, 30),
+        (1_024, 3_072, 3_075, 17_407, 24),
+        (1_024, 3_072, 3_076, 17_407, 24),
+        (1_024, 3_072, 3_075, 0, 24),
     ] {
-        let mut lent = Lent::new(cells, log, output);
+        let mut lent = Lent::new(cells, log, output).with_records(records);
         let before = lent.clone();
         assert_eq!(lent.check(P1_FILE), refused(number, 0));
-        assert!(lent == before, "{cells}, {log}, {output}");
+        assert!(lent == before, "{cells}, {log}, {records}, {output}");
     }
 }
 
 #[test]
 fn a_refused_file_leaves_the_buffers() {
     for (file, number, place) in [("", 11, 1), ("kernel=1\nthreads=33\n", 8, 2)] {
-        let mut lent = Lent::new(LENT_CELLS, LENT_LOG, REPORT_ROOM);
-        let before = lent.clone();
-        assert_eq!(lent.check(file), refused(number, place));
-        assert!(lent == before);
+        for records in [LENT_RECORDS, 0] {
+            let mut lent = Lent::new(LENT_CELLS, LENT_LOG, REPORT_ROOM).with_records(records);
+            let before = lent.clone();
+            assert_eq!(lent.check(file), refused(number, place));
+            assert!(lent == before);
+        }
     }
 }
 
 #[test]
 fn the_bare_launch_of_p1() {
-    let (mut cells, mut log, mut steps) = ([1; 3], [7; 9], [JUNK; LENT_STEPS]);
-    let answer = bare_launch(&P1_TABLE, 2, 3, 100, &mut cells, &mut log, &mut steps);
-    assert_eq!(answer, Ok(P1_OUTCOME));
-    assert_eq!((cells, log), ([2, 1, 1], [1, 3, 2, 1, 0, 0, 0, 0, 0]));
-    assert_eq!(steps, counted(&P1_STEPS));
+    let mut lent = Lent::new(3, 9, 0);
+    lent.cells.fill(1);
+    assert_eq!(lent.launch(&P1_TABLE, [2, 3, 100]), Ok(P1_OUTCOME));
+    assert_eq!(lent.cells, [2, 1, 1]);
+    assert_eq!(lent.log, [1, 3, 2, 1, 0, 0, 0, 0, 0]);
+    assert_eq!(lent.records, recorded(&[P1_RECORDS], LENT_RECORDS));
+    assert_eq!(lent.steps, counted(&P1_STEPS));
 }
 
 /// The words of steps that a launch leaves, lent as junk. All cells are 0 before.
@@ -165,6 +208,154 @@ fn a_launch_without_rows_clears_all_steps() {
     assert_eq!(steps_of(&P1_TABLE, [2, 3, 0]), [0; LENT_STEPS]);
 }
 
+/// Asks for the records of a launch over cells of 0, in lists of several lengths, and that what was lent behind them is kept. Gives the
+/// conflicts.
+fn conflicts_of(table: &[u8], numbers: [u32; 3], due: &[[u32; 3]]) -> u32 {
+    let cells = numbers[1] as usize;
+    let found = [LENT_RECORDS, 3_076, 3_077, 3_078, 4_000, 6_150].map(|words| {
+        let mut lent = Lent::new(cells, 3 * cells, 0).with_records(words);
+        lent.cells.fill(0);
+        let outcome = lent.launch(table, numbers).expect("a sound launch");
+        assert_eq!(lent.records, recorded(due, words), "{words} words");
+        outcome.conflicts
+    });
+    assert_eq!(found, [found[0]; 6]);
+    found[0]
+}
+
+/// Each thread loads the cell of 16 times its number, then a barrier, then it stores what it loaded.
+#[rustfmt::skip]
+const STRIDE: [u8; 24] = [
+    2, 0, 0, 0,  1, 1, 16, 0,  6, 2, 0, 1,  16, 3, 2, 0,  37, 0, 0, 0,  17, 2, 3, 0,
+];
+
+#[test]
+fn a_stride_of_16_costs_all_threads_but_one() {
+    for threads in 1..=32 {
+        let others = threads - 1;
+        let due = [[0, 5, others], [5, 1, others]];
+        let conflicts = conflicts_of(&STRIDE, [threads, 512, 100], &due);
+        assert_eq!(conflicts, 2 * others, "{threads}");
+    }
+}
+
+#[test]
+fn other_strides_cost_by_their_banks() {
+    for (stride, cost) in [
+        (0, 0),
+        (1, 1),
+        (2, 3),
+        (4, 7),
+        (8, 15),
+        (15, 1),
+        (17, 1),
+        (32, 31),
+    ] {
+        let (tid, set, mul) = ([2, 0, 0, 0], [1, 1, stride, 0], [6, 2, 0, 1]);
+        let table = [tid, set, mul, [16, 3, 2, 0]].concat();
+        let conflicts = conflicts_of(&table, [32, 1_024, 100], &[[0, 4, cost]]);
+        assert_eq!(conflicts, cost, "{stride}");
+    }
+}
+
+#[test]
+fn a_stopped_row_costs_nothing() {
+    // One cell too few for the last thread.
+    assert_eq!(conflicts_of(&STRIDE, [32, 496, 100], &[[0, 3, 0]]), 0);
+    // The last thread stores to the first cell, which another has loaded.
+    let (head, store) = (&STRIDE[..16], &STRIDE[20..]);
+    #[rustfmt::skip]
+    let back = [1, 4, 31, 0,  12, 4, 0, 4,  1, 5, 240, 1,  6, 4, 4, 5,  5, 2, 2, 4];
+    let race = [head, &back, store].concat();
+    assert_eq!(conflicts_of(&race, [32, 512, 100], &[[0, 9, 31]]), 31);
+    // A barrier that thread 1 comes to alone.
+    let barrier_in_if = [32, 0, 0, 0, 37, 0, 0, 0, 34, 0, 0, 0];
+    let diverged = [head, &barrier_in_if].concat();
+    assert_eq!(conflicts_of(&diverged, [2, 512, 100], &[[0, 5, 1]]), 1);
+}
+
+#[test]
+fn rows_behind_the_limit_cost_nothing() {
+    for (limit, due) in [
+        (0, &[[0, 0, 0]][..]),
+        (3, &[[0, 3, 0]]),
+        (4, &[[0, 4, 1]]),
+        (5, &[[0, 5, 1], [5, 0, 0]]),
+    ] {
+        let cost = u32::from(limit > 3);
+        assert_eq!(conflicts_of(&STRIDE, [2, 512, limit], due), cost);
+    }
+}
+
+#[test]
+fn there_is_a_record_before_the_first_row_and_behind_the_last() {
+    assert_eq!(conflicts_of(&[], [32, 1, 0], &[[0, 0, 0]]), 0);
+    let barrier = [37, 0, 0, 0];
+    let due = [[0, 1, 0], [1, 0, 0]];
+    assert_eq!(conflicts_of(&barrier, [32, 1, 9], &due), 0);
+    // One that nobody comes to is a row, but opens no record.
+    let skipped = [[32, 0, 0, 0], barrier, [34, 0, 0, 0]].concat();
+    assert_eq!(conflicts_of(&skipped, [32, 1, 9], &[[0, 3, 0]]), 0);
+}
+
+/// Two threads load cells of one bank before each barrier, for ever.
+#[rustfmt::skip]
+const BARRIERS: [u8; 32] = [
+    2, 0, 0, 0,  1, 1, 16, 0,  6, 2, 0, 1,  1, 4, 1, 0,
+    35, 0, 4, 0,  16, 3, 2, 0,  37, 0, 0, 0,  36, 0, 0, 0,
+];
+
+#[test]
+fn the_last_of_1025_records_goes_on() {
+    // Seven rows in the first interval, then four in each.
+    let before_last = 7 + 4 * 1_023;
+    let mut due = vec![[7, 4, 1]; 1_025];
+    due[0] = [0, 7, 1];
+    for (more, cost) in [
+        (0, 0),
+        (1, 0),
+        (3, 1),
+        (4, 1),
+        (5, 1),
+        (7, 2),
+        (8, 2),
+        (26, 6),
+    ] {
+        due[1_024] = [7, more, cost];
+        let limit = before_last + more;
+        let conflicts = conflicts_of(&BARRIERS, [2, 17, limit], &due);
+        assert_eq!(conflicts, 1_024 + cost, "{more}");
+    }
+    // A barrier fewer, and the last record is kept.
+    due[1_023] = [7, 3, 1];
+    let limit = before_last - 1;
+    assert_eq!(
+        conflicts_of(&BARRIERS, [2, 17, limit], &due[..1_024]),
+        1_024
+    );
+}
+
+#[test]
+fn a_file_leaves_its_records_too() {
+    let rows: String = (STRIDE.chunks(4))
+        .map(|row| format!("row={},{},{},{}\n", row[0], row[1], row[2], row[3]))
+        .collect();
+    let cells = "cell=0\n".repeat(32);
+    let head = "kernel=1\nthreads=2\ncells=32\nlimit=100\nrows=6\n";
+    let file = format!("{head}{rows}{cells}end=kernel\n");
+    let due = format!(
+        "verdict=passed\nrow=-\nthread=-\nother=-\nkind=-\nat=-\nrows=6\nsteps=5\nsteps=5\n\
+         barriers=1\nconflicts=2\n{cells}end=report\n"
+    );
+    for words in [LENT_RECORDS, 3_076, 6_150] {
+        let mut lent = Lent::new(LENT_CELLS, LENT_LOG, REPORT_ROOM).with_records(words);
+        assert_eq!(lent.check(&file), Ok(due.len()));
+        assert_eq!(&lent.output[..due.len()], due.as_bytes());
+        let records = recorded(&[[0, 5, 1], [5, 1, 1]], words);
+        assert_eq!(lent.records, records, "{words} words");
+    }
+}
+
 #[test]
 fn every_refusal_of_a_bare_launch_leaves_the_buffers() {
     for (table, numbers, number) in [
@@ -181,35 +372,48 @@ fn every_refusal_of_a_bare_launch_leaves_the_buffers() {
         (&P1_TABLE, [2, 1_025, 100], 9),
         (&P1_TABLE, [2, 3, 1_000_001], 10),
     ] {
-        let mut lent = Lent::new(3, 9, 0);
-        let before = lent.clone();
-        let answer = lent.launch(table, numbers);
-        assert_eq!(answer.map_err(|refusal| refusal.number), Err(number));
-        assert!(lent == before, "{number}");
+        // The input is told before what is lent.
+        for records in [LENT_RECORDS, 0] {
+            let mut lent = Lent::new(3, 9, 0).with_records(records);
+            let before = lent.clone();
+            let answer = lent.launch(table, numbers);
+            assert_eq!(answer.map_err(|refusal| refusal.number), Err(number));
+            assert!(lent == before, "{number}");
+        }
     }
 }
 
 #[test]
 fn bare_launch_refuses_wrong_buffers_and_leaves_them() {
-    for (cells, log, number) in [
-        (2, 9, 20),
-        (4, 9, 20),
-        (0, 0, 20),
-        (3, 6, 21),
-        (3, 8, 21),
-        (3, 10, 21),
+    for (cells, log, records, number) in [
+        (2, 9, 3_075, 20),
+        (4, 9, 3_075, 20),
+        (2, 9, 3_074, 20),
+        (0, 0, 0, 20),
+        (3, 6, 3_075, 21),
+        (3, 8, 3_075, 21),
+        (3, 10, 3_075, 21),
+        (3, 8, 3_074, 21),
+        (3, 0, 0, 21),
+        (3, 9, 3_074, 30),
+        (3, 9, 3_072, 30),
+        (3, 9, 1_025, 30),
+        // Room for the launch's own record.
+        (3, 9, 3, 30),
+        (3, 9, 0, 30),
     ] {
-        let mut lent = Lent::new(cells, log, 0);
+        let mut lent = Lent::new(cells, log, 0).with_records(records);
         let before = lent.clone();
         assert_eq!(lent.launch(&P1_TABLE, [2, 3, 100]), refused(number, 0));
-        assert!(lent == before, "{cells}, {log}");
+        assert!(lent == before, "{cells}, {log}, {records}");
     }
 }
 
 /// The outcome's words of a launch with two threads and one cell, and the two threads' steps.
 fn words(table: &[u8], limit: u32) -> (raw::OutcomeWords, [u32; 2]) {
-    let mut steps = [JUNK; LENT_STEPS];
-    let answer = raw::bare_launch(table, 2, 1, limit, &mut [5], &mut [7; 3], &mut steps);
+    let (mut records, mut steps) = ([JUNK; LENT_RECORDS], [JUNK; LENT_STEPS]);
+    let (cells, log) = (&mut [5], &mut [7; 3]);
+    let answer = raw::bare_launch(table, 2, 1, limit, cells, log, &mut records, &mut steps);
     assert!(answer.ran);
     assert_eq!(answer.refusal, [0, 0]);
     assert_eq!(steps[2..], [0; LENT_STEPS - 2]);
@@ -222,40 +426,44 @@ fn words_without_meaning_are_zero() {
     let (load_outside, begin_if) = ([16, 2, 1, 0], [32, 0, 0, 0]);
     let (barrier, end_if) = ([37, 0, 0, 0], [34, 0, 0, 0]);
     let outside = [tid, set, load_outside].concat();
-    assert_eq!(words(&outside, 9), ([3, 2, 0, 0, 0, 9, 2, 0], [2, 2]));
+    assert_eq!(words(&outside, 9), ([3, 2, 0, 0, 0, 9, 2, 0, 0], [2, 2]));
     let diverged = [tid, begin_if, barrier, end_if].concat();
-    assert_eq!(words(&diverged, 9), ([4, 2, 1, 0, 0, 0, 2, 0], [2, 2]));
+    assert_eq!(words(&diverged, 9), ([4, 2, 1, 0, 0, 0, 2, 0, 0], [2, 2]));
     let spent = [tid, set].concat();
-    assert_eq!(words(&spent, 1), ([5, 1, 0, 0, 0, 0, 1, 0], [1, 1]));
+    assert_eq!(words(&spent, 1), ([5, 1, 0, 0, 0, 0, 1, 0, 0], [1, 1]));
 }
 
 #[test]
 fn threads_add_into_one_cell() {
     let (tid, set) = ([2, 0, 0, 0], [1, 1, 9, 0]);
     let table = [tid, set, [18, 2, 1, 0]].concat();
-    let (mut cells, mut log, mut steps) = ([u32::MAX], [7; 3], [JUNK; LENT_STEPS]);
-    let answer = bare_launch(&table, 2, 1, 9, &mut cells, &mut log, &mut steps);
+    let mut lent = Lent::new(1, 3, 0);
+    lent.cells.fill(u32::MAX);
+    let answer = lent.launch(&table, [2, 1, 9]);
     assert!(answer.is_ok_and(|outcome| outcome.verdict == Verdict::Passed));
-    assert_eq!((cells, log, steps), ([17], [0, 0, 3], counted(&[3, 3])));
+    assert_eq!((lent.cells, lent.log), (vec![17], vec![0, 0, 3]));
+    assert_eq!(lent.steps, counted(&[3, 3]));
 }
 
 #[test]
 fn a_launch_that_passed_has_no_row() {
-    assert_eq!(words(&[], 0), ([1, 0, 0, 0, 0, 0, 0, 0], [0, 0]));
+    assert_eq!(words(&[], 0), ([1, 0, 0, 0, 0, 0, 0, 0, 0], [0, 0]));
     let tid = [2, 0, 0, 0];
-    assert_eq!(words(&tid, 9), ([1, 0, 0, 0, 0, 0, 1, 0], [1, 1]));
+    assert_eq!(words(&tid, 9), ([1, 0, 0, 0, 0, 0, 1, 0, 0], [1, 1]));
 }
 
 #[test]
 fn the_answer_that_does_not_apply_is_zero() {
-    let mut steps = [JUNK; LENT_STEPS];
-    let answer = raw::bare_launch(&[], 33, 1, 0, &mut [5], &mut [7; 3], &mut steps);
+    let (mut records, mut steps) = ([JUNK; LENT_RECORDS], [JUNK; LENT_STEPS]);
+    let (cells, log) = (&mut [5], &mut [7; 3]);
+    let answer = raw::bare_launch(&[], 33, 1, 0, cells, log, &mut records, &mut steps);
     assert!(!answer.ran);
-    assert_eq!(answer.outcome, [0; 8]);
+    assert_eq!(answer.outcome, [0; 9]);
     assert_eq!(answer.refusal, [8, 0]);
+    assert_eq!(records, [JUNK; LENT_RECORDS]);
     assert_eq!(steps, [JUNK; LENT_STEPS]);
     assert_eq!(raw::write_refusal(1, 2, &mut [0; 40]).1, [0, 0]);
-    let written = raw::write_report(&[1; 8], &[1], &[1], &mut [0; 200]);
+    let written = raw::write_report(&[1; 9], &[1], &[1], &mut [0; 200]);
     assert_eq!(written.1, [0, 0]);
 }
 
@@ -320,6 +528,23 @@ fn a_report_has_a_line_for_each_count() {
 }
 
 #[test]
+fn a_report_has_the_conflicts_behind_the_barriers() {
+    for conflicts in [1, 62, u32::MAX] {
+        let subject = Subject::Ran(Outcome {
+            barriers: 8,
+            conflicts,
+            ..P1_OUTCOME
+        });
+        let lines = format!("barriers=8\nconflicts={conflicts}\n");
+        let due = P1_REPORT.replace("barriers=0\nconflicts=0\n", &lines);
+        let mut output = vec![0; due.len()];
+        let answer = write_report(subject, &P1_STEPS, &[2, 1, 1], &mut output);
+        assert_eq!(answer, Ok(due.len()));
+        assert_eq!(output, due.as_bytes());
+    }
+}
+
+#[test]
 fn the_longest_report_fits_the_room_for_every_report() {
     let most = u32::MAX;
     let verdict = Verdict::Race {
@@ -333,6 +558,7 @@ fn the_longest_report_fits_the_room_for_every_report() {
         verdict,
         rows: most,
         barriers: most,
+        conflicts: most,
     });
     let (steps, cells) = ([most; LENT_STEPS], [most; LENT_CELLS]);
     let mut output = vec![0; REPORT_ROOM];
@@ -394,7 +620,9 @@ fn outcomes_come_back_from_their_words() {
     {
         let outcome = Outcome {
             verdict,
-            ..P1_OUTCOME
+            rows: 5,
+            barriers: 6,
+            conflicts: 7,
         };
         assert_eq!(Outcome::from_words(outcome.words()), outcome);
     }

@@ -3,18 +3,19 @@ use borrow.Author.Needs.{needs}
 use mathlib.Core.Path.{refl}
 use Prim.Native.Nat.{_-_, _≤_}
 use native.Mathlib.Omega.{arith}
+use Rattle.answerwords.specs.Codes.{wordCount}
 use Rattle.answerwords.proofs.Words.{Coded, code-more, all-coded}
 use Rattle.answerwords.proofs.outcome_words.Statement.{statement}
 use Rattle.answerwords.proofs.outcome_words.Tie as tie
 
 abbrev Inv-loop : tie.InvT-loop
-Inv-loop values words₀ i₀ words i = (i ≤ 8) × Coded values i words
+Inv-loop values words₀ i₀ words i = (i ≤ wordCount) × Coded values i words
 
 abbrev μ-loop : tie.MeasureT-loop
-μ-loop values words₀ i₀ words i = 8 - i
+μ-loop values words₀ i₀ words i = wordCount - i
 
 loop-holds : tie.Need-loop-holds Inv-loop μ-loop
-loop-holds c = (search needs, record { eight = refl; each = λ k h. absurd (omega arith) })
+loop-holds c = (search needs, record { whole = refl; each = λ k h. absurd (omega arith) })
 
 mul-value-code : tie.Need-mul-value-code Inv-loop μ-loop
 mul-value-code c = omega arith

@@ -13,15 +13,15 @@ unfolding text
 returns c =
     let last = c .lines-length3 .ensures in
     let cell = c .before .each-length2 .ensures in
-    let barriers = c .before .before .before .lines-length2 .ensures in
+    let intervals = c .before .before .before .lines-length2 .ensures in
     let step = c .before .before .before .before .each-length .ensures in
     let head = c .before .before .before .before .before .before .lines-length .ensures in
     let run-values = c .before .before .before .before .before .before .before .run-values in
     let start = c .before .before .before .before .before .before .before .before .before .before in
     let args = start .args in (
-      ap₂ _+_ (ap₂ _+_ (ap₂ _+_ (ap₂ _+_ (head .0) (step .0)) (barriers .0)) (cell .0)) (last .0)
+      ap₂ _+_ (ap₂ _+_ (ap₂ _+_ (ap₂ _+_ (head .0) (step .0)) (intervals .0)) (cell .0)) (last .0)
           ∙ run-size (args .outcome) (args .steps .now) (args .cells .now) _ (run-values .ensures),
-      omega (arith, start .pre, head .1, step .1, barriers .1, cell .1, last .1),
+      omega (arith, start .pre, head .1, step .1, intervals .1, cell .1, last .1),
     )
 
 pub run-length-spec : {M : Type 1} → statement M

@@ -1,11 +1,11 @@
--- `report::write_run` meets its contract. The head, the steps, the barriers, the cells and the last line stand one behind the other. Assumes nothing.
+-- `report::write_run` meets its contract. The head, the steps, the lines about intervals, the cells and the last line stand one behind the other. Assumes nothing.
 use Prim.Native.Nat.{_+_, _≤_}
 use native.Mathlib.Omega.{arith}
 use lib.ListN.{length}
 use Rattle.spec.specs.Text.{text}
 use Rattle.reportlines.proofs.Writing.{Stands, next, same-size, finished}
-use Rattle.report.proofs.Parts.{head, stepsPart, barriersPart, cellsPart, last, toSteps, toBarriers, toCells}
-use Rattle.report.proofs.Parts.{to-steps, to-barriers, to-cells, run-parts, run-size, nothing}
+use Rattle.report.proofs.Parts.{head, stepsPart, intervalsPart, cellsPart, last, toSteps, toIntervals, toCells}
+use Rattle.report.proofs.Parts.{to-steps, to-intervals, to-cells, run-parts, run-size, nothing}
 use borrow.Author.Needs.{needs}
 use Rattle.report.proofs.write_run.Statement.{statement}
 use Rattle.report.proofs.write_run.Tie as tie
@@ -20,8 +20,8 @@ head-due c = c .before .before .before .before
 abbrev steps-due : tie.After-slice-known3 → tie.After-slice-known2
 steps-due c = c .before .before .before .before .before
 
-abbrev barriers-due : tie.After-slice-known4 → tie.After-slice-known3
-barriers-due c = c .before .before .before .before
+abbrev intervals-due : tie.After-slice-known4 → tie.After-slice-known3
+intervals-due c = c .before .before .before .before
 
 abbrev cells-due : tie.After-slice-known5 → tie.After-slice-known4
 cells-due c = c .before .before .before .before .before
@@ -30,7 +30,7 @@ cells-due c = c .before .before .before .before .before
 room : (c : tie.After-run-values)
     → let values = c .run-values .result in
     let args = start c .args in
-    length (head values) + length (stepsPart (args .steps .now)) + length (barriersPart values) + length (cellsPart (args .cells .now)) + length (last values)
+    length (head values) + length (stepsPart (args .steps .now)) + length (intervalsPart values) + length (cellsPart (args .cells .now)) + length (last values)
     ≤ length (args .out .now)
 room c =
     let args = start c .args in
@@ -59,33 +59,33 @@ stepped c =
     let front = headed (steps-due c) in
     next (stepsPart (start at-room .args .steps .now)) _ front (omega (arith, room at-room, front .ended)) (each-at .ensures .0) (each-at .ensures .1)
 
--- The barriers stand behind them.
-barred : (c : tie.After-slice-known4)
+-- The lines about intervals stand behind them.
+counted : (c : tie.After-slice-known4)
     → let lines-at = c .before .before .lines-at2 in
-    let at-room = head-due (steps-due (barriers-due c)) in
+    let at-room = head-due (steps-due (intervals-due c)) in
     let args = start at-room .args in
-    Stands (args .out .now) (lines-at .last .1 .1 .1 .0) (toBarriers (at-room .run-values .result) (args .steps .now)) (lines-at .result)
-barred c =
+    Stands (args .out .now) (lines-at .last .1 .1 .1 .0) (toIntervals (at-room .run-values .result) (args .steps .now)) (lines-at .result)
+counted c =
     let lines-at = c .before .before .lines-at2 in
-    let at-room = head-due (steps-due (barriers-due c)) in
+    let at-room = head-due (steps-due (intervals-due c)) in
     let values = at-room .run-values .result in
-    let front = stepped (barriers-due c) in
-    next (barriersPart values) _ front (omega (arith, room at-room, front .ended, to-steps values (start at-room .args .steps .now)))
+    let front = stepped (intervals-due c) in
+    next (intervalsPart values) _ front (omega (arith, room at-room, front .ended, to-steps values (start at-room .args .steps .now)))
     (lines-at .ensures .0) (lines-at .ensures .1)
 
 -- The cells stand behind them.
 celled : (c : tie.After-slice-known5)
     → let each-at = c .before .before .each-at2 in
-    let at-room = head-due (steps-due (barriers-due (cells-due c))) in
+    let at-room = head-due (steps-due (intervals-due (cells-due c))) in
     let args = start at-room .args in
     Stands (args .out .now) (each-at .last .1 .1 .0) (toCells (at-room .run-values .result) (args .steps .now) (args .cells .now)) (each-at .result)
 unfolding text
 celled c =
     let each-at = c .before .before .each-at2 in
-    let at-room = head-due (steps-due (barriers-due (cells-due c))) in
+    let at-room = head-due (steps-due (intervals-due (cells-due c))) in
     let args = start at-room .args in
-    let front = barred (cells-due c) in
-    next (cellsPart (args .cells .now)) _ front (omega (arith, room at-room, front .ended, to-barriers (at-room .run-values .result) (args .steps .now)))
+    let front = counted (cells-due c) in
+    next (cellsPart (args .cells .now)) _ front (omega (arith, room at-room, front .ended, to-intervals (at-room .run-values .result) (args .steps .now)))
     (each-at .ensures .0) (each-at .ensures .1)
 
 lines-at-requires : tie.Need-lines-at-requires
@@ -107,15 +107,15 @@ lines-at-requires-2 c κs =
 each-at-requires-2 : tie.Need-each-at-requires-2
 unfolding text
 each-at-requires-2 c κs =
-    let front = barred (c .before .before) in
-    let at-room = head-due (steps-due (barriers-due (c .before .before))) in
-    let size = to-barriers (at-room .run-values .result) (start at-room .args .steps .now) in
+    let front = counted (c .before .before) in
+    let at-room = head-due (steps-due (intervals-due (c .before .before))) in
+    let size = to-intervals (at-room .run-values .result) (start at-room .args .steps .now) in
     omega (arith, room at-room, same-size front, front .ended, size)
 
 lines-at-requires-3 : tie.Need-lines-at-requires-3
 lines-at-requires-3 c κs =
     let front = celled (c .before) in
-    let at-room = head-due (steps-due (barriers-due (cells-due (c .before)))) in
+    let at-room = head-due (steps-due (intervals-due (cells-due (c .before)))) in
     let args = start at-room .args in
     let size = to-cells (at-room .run-values .result) (args .steps .now) (args .cells .now) in
     (search needs, omega (arith, room at-room, same-size front, front .ended, size))
@@ -126,7 +126,7 @@ returns c =
     let lines-at = c .before .before .lines-at3 in
     let at-celled = c .before .before .before .before in
     let front = celled at-celled in
-    let at-room = head-due (steps-due (barriers-due (cells-due at-celled))) in
+    let at-room = head-due (steps-due (intervals-due (cells-due at-celled))) in
     let values = at-room .run-values .result in
     let args = start at-room .args in
     let written = next (last values) _ front (omega (arith, room at-room, front .ended, to-cells values (args .steps .now) (args .cells .now)))

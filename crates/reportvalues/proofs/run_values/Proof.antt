@@ -3,7 +3,7 @@ use mathlib.Core.Path.{ap}
 use mathlib.Core.List.{[], _∷_, _++_}
 use Rattle.spec.specs.declared.Details.{Details}
 use Rattle.spec.specs.declared.Value.the-variants as value
-use Rattle.spec.specs.Report.{headWith, barriersLine}
+use Rattle.spec.specs.Report.{headWith, intervalLines}
 use Rattle.reportvalues.specs.Values.{valuesOf}
 use Rattle.reportvalues.proofs.Lines.{listed}
 use borrow.Author.Needs.{needs}
@@ -17,7 +17,7 @@ returns : tie.Need-returns
 unfolding listed
 returns c =
     let o = c .before .args .outcome in
-    ap (λ (d : Details). valuesOf (headWith o d ++ (barriersLine o ∷ [])) ++ (value.Hyphen ∷ value.Hyphen ∷ value.Report ∷ [])) (c .details .ensures)
+    ap (λ (d : Details). valuesOf (headWith o d ++ intervalLines o) ++ (value.Hyphen ∷ value.Hyphen ∷ value.Report ∷ [])) (c .details .ensures)
 
 pub run-values-spec : {M : Type 1} → statement M
 run-values-spec = tie.close (tie.spec details-requires returns)

@@ -19,6 +19,7 @@ use Rattle.constructs.proofs.Barrier.{barrier-counts}
 use Rattle.stepcounts.proofs.NextCounts.{counts-on, moved-on, counts-barrier, done-since, counts-construct, after-settled}
 use Rattle.step.proofs.Tables.{compute-op, compute-asks, row-here, inside-row}
 use Rattle.step.proofs.Plain.{compute-after}
+use Rattle.step.proofs.Recorded.{recorded-plain, recorded-at, after-plain, construct-barriers}
 use Rattle.step.proofs.Registers.{regs-computed, regs-accessed, regs-kept}
 use borrow.Author.Needs.{needs}
 use Rattle.step.proofs.step.Statement.{statement}
@@ -38,7 +39,7 @@ compute-row-requires c κs =
     let b = c .before .before .index3 in
     let a = c .before .before .before .before .index2 in
     let d = c .before .before .before .before .before .before .index in
-    let start = c .before .before .before .before .before .before .before .before .before .before .before .before in (
+    let start = c .before .before .before .before .before .before .before .before .before .before .before .before .before in (
       few start,
       a .ensures .1,
       b .ensures .1,
@@ -53,7 +54,7 @@ returns c =
     let b = c .before .before .before .before .index3 in
     let a = c .before .before .before .before .before .before .index2 in
     let d = c .before .before .before .before .before .before .before .before .index in
-    let start = c .before .before .before .before .before .before .before .before .before .before .before .before .before .before in
+    let start = c .before .before .before .before .before .before .before .before .before .before .before .before .before .before .before in
     let args = start .args in
     let table = args .table .now in
     let regs = args .regs .now in
@@ -84,15 +85,18 @@ returns c =
         openers-are = slots .1;
       },
       counts-on code (args .s) (next.Go (c .moved .result)) (args .counts .now) (omega (arith, computes)) (start .pre .1 .size) (moved-on (args .s) (c .moved .result) (c .moved .ensures)),
+      recorded-plain code (args .n) _ (args .s) (args .records .now) (args .stamps .now) (next.Go (c .moved .result)) _ (λ h l. omega (arith, computes)) (start .pre .2)
+          (sym (after-plain (args .s) (c .moved .result) (args .records .now) (ap (λ z. z .barriers) (c .moved .ensures)))),
     )
 
 access-row-requires : tie.Need-access-row-requires
 access-row-requires c κs =
-    let accesses = c .before .before .before .if2 .taken in
-    let no-computing = c .before .before .before .before .if1 .left in
-    let a = c .before .before .before .before .before .before .before .index2 in
-    let d = c .before .before .before .before .before .before .before .before .before .index in
-    let start = c .before .before .before .before .before .before .before .before .before .before .before .before .before .before .before in
+    let accesses = c .before .before .before .before .before .if2 .taken in
+    let no-computing = c .before .before .before .before .before .before .if1 .left in
+    let a = c .before .before .before .before .before .before .before .before .before .index2 in
+    let at-index = c .before .before .before .before .before .before .before .before .before .before .before in
+    let d = at-index .index in
+    let start = at-index .before .before .before .before .before .before .before in
     let pre = start .pre .0 in
     let q = pre .asks .accesses no-computing accesses in (
       pre .room,
@@ -106,18 +110,20 @@ access-row-requires c κs =
         cells-few = pre .cells-few;
       },
       record { state = pre .stands .state; memory = pre .stands .rep .memory },
+      start .pre .2,
+      start .pre .3,
     )
 
 returns-2 : tie.Need-returns-2
 returns-2 c =
-    let at-access-row = c .before .before .before .before in
+    let at-access-row = c .before .before .before .before .before .before in
     let access-row = at-access-row .access-row in
-    let accesses = at-access-row .before .before .before .before .if2 .taken in
-    let no-computing = at-access-row .before .before .before .before .before .if1 .left in
-    let a = at-access-row .before .before .before .before .before .before .before .before .index2 in
-    let at-index = at-access-row .before .before .before .before .before .before .before .before .before .before in
+    let accesses = at-access-row .before .before .before .before .before .before .if2 .taken in
+    let no-computing = at-access-row .before .before .before .before .before .before .before .if1 .left in
+    let a = at-access-row .before .before .before .before .before .before .before .before .before .before .index2 in
+    let at-index = at-access-row .before .before .before .before .before .before .before .before .before .before .before .before in
     let d = at-index .index in
-    let start = at-index .before .before .before .before .before .before in
+    let start = at-index .before .before .before .before .before .before .before in
     let args = start .args in
     let table = args .table .now in
     let saved = args .saved .now in
@@ -137,6 +143,7 @@ returns-2 c =
         openers-are = slots .1;
       },
       counts-on code (args .s) (access-row .result) (args .counts .now) accesses (start .pre .1 .size) (access-row .ensures .2),
+      recorded-at (args .s) _ _ _ _ _ _ _ _ _ _ (args .regs .now) (d .ensures .0) (a .ensures .0) (access-row .ensures .3),
     )
 
 construct-row-requires : tie.Need-construct-row-requires
@@ -146,7 +153,7 @@ construct-row-requires c κs =
     let no-access = at-index4 .before .before .before .if2 .left in
     let at-index2 = at-index4 .before .before .before .before .before .before .before in
     let a = at-index2 .index2 in
-    let pre = at-index2 .before .before .before .before .before .before .before .before .pre .0 in (
+    let pre = at-index2 .before .before .before .before .before .before .before .before .before .pre .0 in (
       pre .room,
       at-index4 .index4 .ensures .1,
       no-access,
@@ -162,7 +169,7 @@ construct-row-requires c κs =
 settle-requires : tie.Need-settle-requires
 settle-requires c κs =
     let o = c .before .construct-row in
-    let start = c .before .before .before .before .before .before .before .before .before .before .before .before .before .before .before .before .before .before .before .before in
+    let start = c .before .before .before .before .before .before .before .before .before .before .before .before .before .before .before .before .before .before .before .before .before in
     let since = done-since (o .ensures) in
     (omega (arith, since), subst (λ k. Roomy (start .args .s .mask) k (start .args .counts .now)) (sym since) (start .pre .1))
 
@@ -175,7 +182,7 @@ returns-3 c =
     let no-access = at-index4 .before .before .before .if2 .left in
     let at-index2 = at-index4 .before .before .before .before .before .before .before in
     let a = at-index2 .index2 in
-    let start = at-index2 .before .before .before .before .before .before .before .before in
+    let start = at-index2 .before .before .before .before .before .before .before .before .before in
     let args = start .args in
     let pre = start .pre .0 in
     let table = args .table .now in
@@ -186,7 +193,8 @@ returns-3 c =
     let openers = args .openers .now in
     let code = getD table (args .s .row * 4) 0 in
     let settled = c .settle .ensures in
-    let since = done-since (o .ensures) in (
+    let since = done-since (o .ensures) in
+    let same-barriers = ap (λ z. z .barriers) (settled .state-is) ∙ construct-barriers _ _ _ _ _ _ _ _ _ _ (o .ensures) in (
       record {
         counts = counted-settled (args .s) (o .result) (c .settle .result) (o .ensures .counted) (settled .state-is) (settled .since-few);
         done = λ z R.
@@ -205,14 +213,16 @@ returns-3 c =
         openers-are = o .ensures .openers-are;
       },
       counts-construct code (args .s) (o .result) (c .settle .result) (args .counts .now) (c .settle .last .0) constructs since settled,
+      recorded-plain code (args .n) _ (args .s) (args .records .now) (args .stamps .now) (next.Go (c .settle .result)) _ (λ h l. omega (arith, no-access)) (start .pre .2)
+          (sym (after-plain (args .s) (c .settle .result) (args .records .now) same-barriers)),
     )
 
 returns-4 : tie.Need-returns-4
 returns-4 c =
-    let at-barrier-row = c .before .before in
+    let at-barrier-row = c .before .before .before .before in
     let barrier-row = at-barrier-row .barrier-row in
-    let no-construct = at-barrier-row .before .before .if3 .left in
-    let start = at-barrier-row .before .before .before .before .before .before .before .before .before .before .before .before .before .before .before in
+    let no-construct = at-barrier-row .before .before .before .if3 .left in
+    let start = at-barrier-row .before .before .before .before .before .before .before .before .before .before .before .before .before .before .before .before .before in
     let args = start .args in
     let table = args .table .now in
     let regs = args .regs .now in
@@ -228,12 +238,13 @@ returns-4 c =
         done = λ z R.
             let E = row-here table (args .n) z (args .s) regs cells log saved openers R (inside-row table (args .s .row) (start .pre .0 .inside)) in
             barrier-after (args .n) z (args .s) regs cells log saved openers R (rowsOf table) (shapeBy (args .n) cells) (rowAt (rowsOf table) (z .row)) code
-            (ap (λ x. x .op) E) (start .pre .0 .some) e (barrier-row .result) (barrier-row .last .0) (barrier-row .ensures);
+            (ap (λ x. x .op) E) (start .pre .0 .some) e (barrier-row .result) (barrier-row .last .0) (barrier-row .ensures .0, barrier-row .ensures .1);
         regs-are = regs-kept code (args .n) (args .s .mask) _ _ _ regs (omega arith);
         saved-are = slots .0;
         openers-are = slots .1;
       },
       counts-barrier code (args .n) (args .s) (barrier-row .result) (args .counts .now) e (start .pre .1 .size) (barrier-row .ensures .0),
+      recorded-plain code (args .n) _ (args .s) (args .records .now) (args .stamps .now) (barrier-row .result) _ (λ h l. omega (arith, e)) (start .pre .2) (barrier-row .ensures .2),
     )
 
 pub step-spec : {M : Type 1} → statement M
@@ -247,11 +258,11 @@ step-spec =
     (λ c κs. search needs)
     returns
     access-row-requires
-    (λ c. search needs) (λ c. search needs)
+    (λ c. search needs) (λ c. search needs) (λ c. search needs)
     returns-2
     (λ c. search needs) (λ c κs. search needs)
     construct-row-requires
     settle-requires
     returns-3
-    (λ c κs. search needs) (λ c. search needs)
+    (λ c κs. search needs) (λ c. search needs) (λ c. search needs)
     returns-4)

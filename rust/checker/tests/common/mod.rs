@@ -2,10 +2,11 @@
 #![allow(dead_code)]
 
 use checker::{
-    bare_launch, check_file, Outcome, Refusal, Verdict, LENT_CELLS, LENT_LOG, REPORT_ROOM,
+    bare_launch, check_file, Outcome, Refusal, Verdict, INTERVAL_WORDS, LENT_CELLS, LENT_LOG,
+    REPORT_ROOM,
 };
 
-/// What lent words of steps hold: no count is as large.
+/// What lent words of steps and of intervals hold: no count is as large.
 pub const JUNK: u32 = 0xdead_beef;
 
 pub type Row = [u8; 4];
@@ -91,8 +92,9 @@ pub fn run_logged(
     let mut log = vec![7; 3 * cells.len()];
     let mut steps = [JUNK; 32];
     let (table, count) = (rows.concat(), cells.len() as u32);
+    let mut list = [JUNK; INTERVAL_WORDS];
     let ran = bare_launch(
-        &table, threads, count, limit, &mut after, &mut log, &mut steps,
+        &table, threads, count, limit, &mut after, &mut log, &mut list, &mut steps,
     );
     let ran = ran.expect("a launch that isn't refused");
     (found(ran, threads, &steps), after, log)
@@ -102,16 +104,18 @@ pub fn run_logged(
 pub fn refused(rows: &[Row]) -> Refusal {
     let (mut cells, mut log) = ([5; 2], [6; 6]);
     let (table, mut steps) = (rows.concat(), [JUNK; 32]);
-    let refused = bare_launch(&table, 2, 2, 9, &mut cells, &mut log, &mut steps);
+    let mut list = [JUNK; INTERVAL_WORDS];
+    let refused = bare_launch(&table, 2, 2, 9, &mut cells, &mut log, &mut list, &mut steps);
     assert_eq!((cells, log, steps), ([5; 2], [6; 6], [JUNK; 32]));
+    assert_eq!(list, [JUNK; INTERVAL_WORDS]);
     refused.unwrap_err()
 }
 
 /// The whole-file entry with buffers as it wants them; gives the report.
 pub fn check(file: &[u8]) -> Result<String, Refusal> {
     let (mut cells, mut log) = (vec![5; LENT_CELLS], vec![6; LENT_LOG]);
-    let mut out = vec![b'?'; REPORT_ROOM];
-    let result = check_file(file, &mut cells, &mut log, &mut out);
+    let (mut list, mut out) = (vec![JUNK; INTERVAL_WORDS], vec![b'?'; REPORT_ROOM]);
+    let result = check_file(file, &mut cells, &mut log, &mut list, &mut out);
     match result {
         Ok(len) => {
             assert!(out[len..].iter().all(|&byte| byte == b'?'));
@@ -120,6 +124,7 @@ pub fn check(file: &[u8]) -> Result<String, Refusal> {
         Err(refusal) => {
             let kept = cells.iter().all(|&word| word == 5) && log.iter().all(|&word| word == 6);
             assert!(kept && out.iter().all(|&byte| byte == b'?'));
+            assert!(list.iter().all(|&word| word == JUNK));
             Err(refusal)
         }
     }

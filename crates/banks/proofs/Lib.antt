@@ -1,0 +1,4 @@
+-- Laws of bank conflicts. Assumes nothing.
+pub mod Order
+pub mod Stamps
+pub mod Costing

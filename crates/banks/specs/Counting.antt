@@ -1,0 +1,47 @@
+-- How stamps and counts stand for the cells that a row has used. Assumes nothing.
+use mathlib.Core.Path.{_≡_}
+use mathlib.Core.List.{List, _∷_, map}
+use mathlib.Core.Bool.{true, false}
+use Prim.Native.Nat.{ℕ, _+_, _<_, _≤_}
+use lib.Dec.{eqb}
+use lib.ListN.{length, getD}
+use Rattle.spec.specs.Limits.{banks}
+use Rattle.spec.specs.Lists.{anyOf}
+use Rattle.spec.specs.Mask.{Mask, maskWord, members}
+use Rattle.spec.specs.Banks.{different, inBank, mostInBank, conflictCost}
+use Rattle.spec.specs.declared.Verdict.{Verdict}
+use Rattle.layout.specs.declared.Access.the-variants.{Done, Stop}
+use Rattle.layout.specs.declared.Turns.{Turns}
+
+-- Every stamp is an earlier row's.
+pub record Older (stamp : ℕ) (stamps : List ℕ) : Type 0 where
+  pub size : length stamps ≡ 1024
+  pub below : (i : ℕ) → i < 1024 → getD stamps i 0 < stamp
+
+-- The cells used so far, by the row with this stamp.
+pub record Banked (used : List ℕ) (stamp : ℕ) (stamps counts : List ℕ) (most : ℕ) : Type 0 where
+  pub size : length stamps ≡ 1024
+  pub sixteen : length counts ≡ 16
+  pub marked : (i : ℕ) → i < 1024 → anyOf (eqb i) used ≡ true → getD stamps i 0 ≡ stamp
+  pub unmarked : (i : ℕ) → i < 1024 → anyOf (eqb i) used ≡ false → getD stamps i 0 < stamp
+  pub each : (b : ℕ) → b < 16 → getD counts b 0 ≡ inBank b (different used)
+  pub most-is : most ≡ mostInBank banks (different used)
+
+-- No count is above the largest, which has room for one more.
+pub record Fit (counts : List ℕ) (most : ℕ) : Type 0 where
+  pub room : most < 4294967295
+  pub below : (b : ℕ) → b < 16 → getD counts b 0 ≤ most
+
+-- Cell i is one of the used cells now.
+pub record Counted (stamp i : ℕ) (stamps counts : List ℕ) (most : ℕ) (stamps′ counts′ : List ℕ) (most′ : ℕ) : Type 0 where
+  pub grows : most′ ≤ most + 1
+  pub fits : (b : ℕ) → b < 16 → getD counts′ b 0 ≤ most′
+  pub older : Older (stamp + 1) stamps → Older (stamp + 1) stamps′
+  pub banked : (used : List ℕ) → Banked used stamp stamps counts most → Banked (i ∷ used) stamp stamps′ counts′ most′
+
+-- What a row's threads cost, `cell t` being the cell of thread t. A row that was not finished costs nothing, and is over all the same.
+pub record Costs (cell : ℕ → ℕ) (n mask stamp : ℕ) (r : Turns) (stamps′ : List ℕ) : Type 0 where
+  pub done : r .access ≡ Done → (E : Mask) → mask ≡ maskWord E → length E ≡ n → r .cost ≡ conflictCost (map cell (members E))
+  pub stopped : (v : Verdict) → r .access ≡ Stop v → r .cost ≡ 0
+  pub few : r .cost ≤ 31
+  pub older : Older (stamp + 1) stamps′

@@ -1,0 +1,3 @@
+-- Laws of the records. Assumes nothing.
+pub mod AddingUp
+pub mod Ledger

@@ -1,0 +1,2 @@
+-- Laws of a row's accesses. Assumes nothing.
+pub mod Accessing

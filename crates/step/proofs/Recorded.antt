@@ -1,0 +1,114 @@
+-- What a row does to the records, by its op. Assumes nothing.
+use mathlib.Core.Path.{_≡_, refl, sym, _∙_, ap, subst, subst₂}
+use mathlib.Core.Logic.{_⊎_, inl, inr}
+use mathlib.Core.List.{List}
+use mathlib.Core.Bool.{Bool, true, false, cond}
+use Prim.Native.Nat.{ℕ, _+_, _-_, _*_, _^_, _<_, _≤_}
+use native.Mathlib.Omega.{arith}
+use borrow.Author.Tests.{lt-ltb, le-ltb}
+use lib.Dec.{eqb, ltb}
+use lib.ListN.{length, getD, set}
+use lib.Seq.{set-getD}
+use Rattle.spec.specs.declared.Verdict.{Verdict}
+use Rattle.layout.specs.declared.Access.{Access}
+use Rattle.layout.specs.declared.Access.the-variants.{Done, Stop}
+use Rattle.layout.specs.declared.Turns.{Turns}
+use Rattle.layout.specs.declared.State.{State}
+use Rattle.layout.specs.declared.Next.{Next}
+use Rattle.layout.specs.declared.Next.the-variants as next
+use Rattle.layout.specs.Represents.{goneOn, movedOn, reached, accessed}
+use Rattle.layout.specs.Constructs.{ConstructDone, constructState, whileState, passedState, divergedNext, barrierNext}
+use Rattle.layout.specs.Memory.{holdingWord, cellIn}
+use Rattle.banks.specs.Counting.{Older, Costs}
+use Rattle.intervals.specs.Records.{inUse, charged, recordsAfter}
+use Rattle.step.specs.Recording.{RowRecorded}
+
+older-still : (k : ℕ) (stamps : List ℕ) → Older (k + 1) stamps → Older (k + 2) stamps
+older-still k stamps O = record { size = O .size; below = λ i h. omega (arith, O .below i h) }
+
+-- Where no barrier is passed, a row's cost is charged; a cost of 0 changes nothing.
+pub charged-none : (barriers cost : ℕ) (records : List ℕ) → cost ≡ 0 → charged barriers cost records ≡ records
+unfolding charged
+charged-none barriers cost records e =
+    let p = inUse barriers * 3 + 2 in
+    let same : getD records p 0 + cost ≡ getD records p 0 = omega arith in
+    ap (set records p) same ∙ set-getD records p 0
+
+after-charged : (cost : ℕ) (s r : State) (records : List ℕ) → r .barriers ≡ s .barriers → recordsAfter cost s (next.Go r) records ≡ charged (s .barriers) cost records
+unfolding recordsAfter
+after-charged cost s r records e = rw (le-ltb (s .barriers) (r .barriers) (omega arith)) refl
+
+pub after-plain : (s r : State) (records : List ℕ) → r .barriers ≡ s .barriers → recordsAfter 0 s (next.Go r) records ≡ records
+after-plain s r records e = after-charged 0 s r records e ∙ charged-none (s .barriers) 0 records refl
+
+module _ (op n : ℕ) (cell : ℕ → ℕ) (s : State) (records stamps : List ℕ) where
+  -- a row without accesses
+  pub recorded-plain : (r : Next) (records′ : List ℕ) → (16 ≤ op → op < 32 → ⊥) → Older (s .rows + 1) stamps → records′ ≡ recordsAfter 0 s r records → RowRecorded op n cell s r records records′ stamps
+  recorded-plain r records′ f O e =
+      record {
+        cost = 0;
+        few = omega arith;
+        plain = λ p. refl;
+        access = λ h l q p E m k. absurd (f h l);
+        words = e;
+        older = older-still (s .rows) stamps O;
+      }
+
+  pub recorded-access : (t : Turns) (r : Next) (records′ : List ℕ) → 16 ≤ op → op < 32 → Costs cell n (s .mask) (s .rows + 1) t stamps
+      → r ≡ accessed (reached s (t .reach)) (t .access) → records′ ≡ charged (s .barriers) (t .cost) records
+      → RowRecorded op n cell s r records records′ stamps
+  recorded-access t r records′ low high C er ew =
+      record {
+        cost = t .cost;
+        few = C .few;
+        plain = λ p. absurd (neither p);
+        access = λ h l q p E m k. C .done (went (t .access) q (sym er ∙ p)) E m k;
+        words = ew ∙ sym (ap (λ z. recordsAfter (t .cost) s z records) er ∙ left (t .access) refl);
+        older = subst (λ k. Older k stamps) (let z : s .rows + 1 + 1 ≡ s .rows + 2 = omega arith in z) (C .older);
+      }
+    where
+      neither : (op < 16) ⊎ (32 ≤ op) → ⊥
+      neither (inl h) = omega arith
+      neither (inr h) = omega arith
+
+      went : (a : Access) (q : State) → accessed (reached s (t .reach)) a ≡ next.Go q → a ≡ Done
+      went Done q e = refl
+      went (Stop v) q e = let z : _≡_ {A = ℕ} 0 1 = cc in absurd (omega arith)
+
+      left : (a : Access) → t .access ≡ a → recordsAfter (t .cost) s (accessed (reached s (t .reach)) (t .access)) records ≡ charged (s .barriers) (t .cost) records
+      left Done e = ap (λ x. recordsAfter (t .cost) s (accessed (reached s (t .reach)) x) records) e ∙ after-charged (t .cost) s _ records refl
+      left (Stop v) e =
+          ap (λ x. recordsAfter (t .cost) s (accessed (reached s (t .reach)) x) records) e ∙ stopped
+          ∙ sym (charged-none (s .barriers) (t .cost) records (C .stopped v e))
+        where
+          stopped : recordsAfter (t .cost) s (next.Stop v (reached s (t .reach))) records ≡ records
+          stopped = unfold recordsAfter in refl
+
+-- The cells of the row's own bytes.
+pub recorded-at : (s : State) (op n d a d′ a′ : ℕ) (r : Next) (records records′ stamps′ regs : List ℕ) → d ≡ d′ → a ≡ a′
+    → RowRecorded op n (cellIn op d a regs) s r records records′ stamps′ → RowRecorded op n (cellIn op d′ a′ regs) s r records records′ stamps′
+recorded-at s op n d a d′ a′ r records records′ stamps′ regs ed ea R =
+    subst₂ (λ x y. RowRecorded op n (cellIn op x y regs) s r records records′ stamps′) ed ea R
+
+-- The rows of constructs pass no barrier.
+pub construct-barriers : (op a e : ℕ) (regs : List ℕ) (s : State) (saved openers : List ℕ) (r : State) (saved′ openers′ : List ℕ)
+    → ConstructDone op a e regs s saved openers r saved′ openers′ → r .barriers ≡ s .barriers
+unfolding constructState whileState
+construct-barriers op a e regs s saved openers r saved′ openers′ D =
+    ap (λ z. z .barriers) (D .state-is)
+    ∙ keep (eqb op 32) _ _ refl (keep (eqb op 33) _ _ refl (keep (eqb op 34) _ _ refl (keep (eqb op 35) _ _ (keep (eqb (holdingWord (s .mask) a regs) 0) _ _ refl refl) refl)))
+  where
+    keep : (b : Bool) (x y : State) → x .barriers ≡ s .barriers → y .barriers ≡ s .barriers → cond b x y .barriers ≡ s .barriers
+    keep true x y p q = p
+    keep false x y p q = q
+
+-- A barrier that lets the run go on is a row.
+pub barrier-goes : (n : ℕ) (s z : State) → barrierNext n s ≡ next.Go z → (z .row ≡ s .row + 1) × (z .rows ≡ s .rows + 1)
+unfolding barrierNext
+barrier-goes n s z = by (eqb (s .mask) (2 ^ n - 1)) (eqb (s .mask) 0)
+  where
+    by : (all none : Bool) → cond all (next.Go (passedState s)) (cond none (next.Go (movedOn s)) (divergedNext n s)) ≡ next.Go z
+        → (z .row ≡ s .row + 1) × (z .rows ≡ s .rows + 1)
+    by true none e = let same : passedState s ≡ z = cc in (sym (ap (λ x. x .row) same), sym (ap (λ x. x .rows) same))
+    by false true e = let same : movedOn s ≡ z = cc in (sym (ap (λ x. x .row) same), sym (ap (λ x. x .rows) same))
+    by false false e = let q : _≡_ {A = ℕ} 0 1 = cc in absurd (omega arith)
