@@ -3,7 +3,7 @@ ghost use mathlib.Core.Path.{_≡_};
 ghost use Prim.Native.Nat.{_+_, _*_, _^_, _<_};
 ghost use lib.ListN.{length};
 ghost use Rattle.layout.specs.Logging.{SameBut};
-ghost use Rattle.layout.specs.Memory.{AccessAsks, AccessOne, Inside, KeptBut, Transferred, CellRegister, CellNumber};
+ghost use Rattle.layout.specs.Memory.{AccessAsks, AccessOne, KeptBut, Transferred, CellRegister, CellNumber};
 
 fn index(x: u32) -> usize
     ensures { λ r. ⌜ r ≡ x ⌝ }
@@ -34,7 +34,7 @@ fn transfer(
 }
 
 // The register with the cell's number: a LOAD has it in Ra, the others in Rd.
-fn cell_register(op: u8, d: usize, a: usize) -> usize
+pub fn cell_register(op: u8, d: usize, a: usize) -> usize
     requires { ⌜ (d < 16) × (a < 16) ⌝ }
     ensures { λ r. ⌜ CellRegister op d a r ⌝ }
 {
@@ -66,7 +66,7 @@ pub fn access_one(
     requires { ⌜ (t < 32) × AccessAsks op d a (now cells) (now log) × (bit ≡ 2 ^ t) × CellNumber op d a t (now regs) x ⌝ }
     ensures { λ r. ⌜ AccessOne op t d a (now (regs .entry)) (now (cells .entry)) (now (log .entry)) r
         (now (regs .exit)) (now (cells .exit)) (now (log .exit)) × KeptBut d (t + 1) (now (regs .entry)) (now (regs .exit))
-        × SameBut x (length (now (cells .entry))) (now (log .entry)) (now (log .exit)) × Inside x (now (cells .entry)) r ⌝ }
+        × SameBut x (length (now (cells .entry))) (now (log .entry)) (now (log .exit)) ⌝ }
 {
     let j = index(t);
     let i = index(x);

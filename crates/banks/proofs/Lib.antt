@@ -2,3 +2,5 @@
 pub mod Order
 pub mod Stamps
 pub mod Costing
+pub mod Distance
+pub mod Memory

@@ -1,17 +1,14 @@
 -- How stamps and counts stand for the cells that a row has used. Assumes nothing.
 use mathlib.Core.Path.{_≡_}
-use mathlib.Core.List.{List, _∷_, map}
+use mathlib.Core.List.{List, [], _∷_, map}
 use mathlib.Core.Bool.{true, false}
-use Prim.Native.Nat.{ℕ, _+_, _<_, _≤_}
+use Prim.Native.Nat.{ℕ, _+_, _*_, _<_, _≤_}
 use lib.Dec.{eqb}
 use lib.ListN.{length, getD}
 use Rattle.spec.specs.Limits.{banks}
 use Rattle.spec.specs.Lists.{anyOf}
 use Rattle.spec.specs.Mask.{Mask, maskWord, members}
 use Rattle.spec.specs.Banks.{different, inBank, mostInBank, conflictCost}
-use Rattle.spec.specs.declared.Verdict.{Verdict}
-use Rattle.layout.specs.declared.Access.the-variants.{Done, Stop}
-use Rattle.layout.specs.declared.Turns.{Turns}
 
 -- Every stamp is an earlier row's.
 pub record Older (stamp : ℕ) (stamps : List ℕ) : Type 0 where
@@ -39,9 +36,18 @@ pub record Counted (stamp i : ℕ) (stamps counts : List ℕ) (most : ℕ) (stam
   pub older : Older (stamp + 1) stamps → Older (stamp + 1) stamps′
   pub banked : (used : List ℕ) → Banked used stamp stamps counts most → Banked (i ∷ used) stamp stamps′ counts′ most′
 
--- What a row's threads cost, `cell t` being the cell of thread t. A row that was not finished costs nothing, and is over all the same.
-pub record Costs (cell : ℕ → ℕ) (n mask stamp : ℕ) (r : Turns) (stamps′ : List ℕ) : Type 0 where
-  pub done : r .access ≡ Done → (E : Mask) → mask ≡ maskWord E → length E ≡ n → r .cost ≡ conflictCost (map cell (members E))
-  pub stopped : (v : Verdict) → r .access ≡ Stop v → r .cost ≡ 0
-  pub few : r .cost ≤ 31
+-- The numbers in register r, thread by thread.
+abbrev pub numbersIn : (regs : List ℕ) → (r t : ℕ) → ℕ
+numbersIn regs r t = getD regs (r * 32 + t) 0
+
+-- Each of these numbers is a cell's.
+abbrev pub AllCells : List ℕ → Type 0
+AllCells [] = Unit {0}
+AllCells (c ∷ cs) = (c < 1024) × AllCells cs
+
+-- The row's cost, `cell t` being the number of thread t; 32 where not all of them are cells'.
+pub record RowCounted (cell : ℕ → ℕ) (mask stamp : ℕ) (r : ℕ) (stamps′ : List ℕ) : Type 0 where
+  pub done : r < 32 → (E : Mask) → mask ≡ maskWord E → length E ≤ 32 → AllCells (map cell (members E)) × (r ≡ conflictCost (map cell (members E)))
+  pub outside : 32 ≤ r → (E : Mask) → mask ≡ maskWord E → length E ≤ 32 → AllCells (map cell (members E)) → ⊥
+  pub few : r ≤ 32
   pub older : Older (stamp + 1) stamps′

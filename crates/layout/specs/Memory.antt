@@ -146,10 +146,6 @@ AccessOne op t d a regs cells log r regs′ cells′ log′ =
     (n : ℕ) (m : Mem) (x : Row) → opOf op ≡ MEM m → t < n → x .d ≡ d → x .a ≡ a
     → OneTurn (accessTurn (shapeBy n cells) m x) n t regs cells log r regs′ cells′ log′
 
--- A cell that an access was made of is one of the cells.
-abbrev pub Inside : (x : ℕ) → (cells : List ℕ) → Access → Type 0
-Inside x cells r = r ≡ Done → x < length cells
-
 abbrev pub AccessAll : (op n mask d a : ℕ) → (regs cells log : List ℕ) → Turns → (regs′ cells′ log′ : List ℕ) → Type 0
 AccessAll op n mask d a regs cells log r regs′ cells′ log′ =
     (m : Mem) (x : Row) → opOf op ≡ MEM m → x .d ≡ d → x .a ≡ a

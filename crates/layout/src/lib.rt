@@ -9,11 +9,10 @@ pub enum Access {
     Stop(spec::Verdict),
 }
 
-// What a row's accesses come to, a number that no cell which they accessed is above, and what their bank conflicts cost.
+// What a row's accesses come to, and a number that no cell which they accessed is above.
 pub struct Turns {
     pub access: Access,
     pub reach: u32,
-    pub cost: u32,
 }
 
 // The small part of the state, which goes by value. Above the cell numbered `reach` nothing has been logged since the log was cleared.

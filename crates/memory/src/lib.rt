@@ -1,37 +1,24 @@
-// A row's accesses, thread by thread. The cells' numbers are put together bit by bit on the way: none is above what comes out. The cells are counted
-// by banks, which gives the row's cost.
-ghost use mathlib.Core.Path.{_≡_};
+// A row's accesses, thread by thread. The cells' numbers are put together bit by bit on the way: none is above what comes out.
 ghost use Prim.Native.Nat.{_-_, _^_, _<_};
-ghost use Rattle.layout.specs.Memory.{AccessRowAsks, AccessRow, cellIn};
-ghost use Rattle.banks.specs.Counting.{Older, Costs};
-
-fn index(x: u32) -> usize
-    ensures { λ r. ⌜ r ≡ x ⌝ }
-{
-    x as usize
-}
+ghost use Rattle.layout.specs.Memory.{AccessRowAsks, AccessRow};
 
 // The accesses of all n threads, lowest first.
 fn access_all(
     regs: &mut [u32; 512],
     cells: &mut [u32],
     log: &mut [u32],
-    stamps: &mut [u32; 1024],
-    stamp: u32,
     n: u32,
     op: u8,
     d: usize,
     a: usize,
 ) -> layout::Turns
-    requires { ⌜ AccessRowAsks op n d a (now regs) (now cells) (now log) × Older stamp (now stamps) ⌝ }
+    requires { ⌜ AccessRowAsks op n d a (now regs) (now cells) (now log) ⌝ }
     ensures { λ r. ⌜ AccessRow op n (2 ^ n - 1) d a (now (regs .entry)) (now (cells .entry)) (now (log .entry)) r
-        (now (regs .exit)) (now (cells .exit)) (now (log .exit)) × Costs (cellIn op d a (now (regs .entry))) n (2 ^ n - 1) stamp r (now (stamps .exit)) ⌝ }
+        (now (regs .exit)) (now (cells .exit)) (now (log .exit)) ⌝ }
 {
     let mut t: u32 = 0;
     let mut bit: u32 = 1;
     let mut reach: u32 = 0;
-    let mut counts: [u32; 16] = [0; 16];
-    let mut most: u32 = 0;
     while t < n {
         let x = access::cell_number(regs, t, op, d, a);
         reach = reach | x;
@@ -41,18 +28,15 @@ fn access_all(
                 return layout::Turns {
                     access: layout::Access::Stop(v),
                     reach: reach,
-                    cost: 0,
                 };
             }
         }
-        most = banks::count(stamps, &mut counts, stamp, index(x), most);
         bit = bit << 1;
         t += 1;
     }
     layout::Turns {
         access: layout::Access::Done,
         reach: reach,
-        cost: banks::cost(most),
     }
 }
 
@@ -61,24 +45,20 @@ fn access_enabled(
     regs: &mut [u32; 512],
     cells: &mut [u32],
     log: &mut [u32],
-    stamps: &mut [u32; 1024],
-    stamp: u32,
     n: u32,
     mask: u32,
     op: u8,
     d: usize,
     a: usize,
 ) -> layout::Turns
-    requires { ⌜ (mask < 2 ^ n) × AccessRowAsks op n d a (now regs) (now cells) (now log) × Older stamp (now stamps) ⌝ }
+    requires { ⌜ (mask < 2 ^ n) × AccessRowAsks op n d a (now regs) (now cells) (now log) ⌝ }
     ensures { λ r. ⌜ AccessRow op n mask d a (now (regs .entry)) (now (cells .entry)) (now (log .entry)) r
-        (now (regs .exit)) (now (cells .exit)) (now (log .exit)) × Costs (cellIn op d a (now (regs .entry))) n mask stamp r (now (stamps .exit)) ⌝ }
+        (now (regs .exit)) (now (cells .exit)) (now (log .exit)) ⌝ }
 {
     let mut m = mask;
     let mut t: u32 = 0;
     let mut bit: u32 = 1;
     let mut reach: u32 = 0;
-    let mut counts: [u32; 16] = [0; 16];
-    let mut most: u32 = 0;
     while m != 0 {
         if m % 2 == 1 {
             let x = access::cell_number(regs, t, op, d, a);
@@ -89,11 +69,9 @@ fn access_enabled(
                     return layout::Turns {
                         access: layout::Access::Stop(v),
                         reach: reach,
-                        cost: 0,
                     };
                 }
             }
-            most = banks::count(stamps, &mut counts, stamp, index(x), most);
         }
         m = m / 2;
         bit = bit << 1;
@@ -102,7 +80,6 @@ fn access_enabled(
     layout::Turns {
         access: layout::Access::Done,
         reach: reach,
-        cost: banks::cost(most),
     }
 }
 
@@ -111,49 +88,45 @@ fn full_row(
     regs: &mut [u32; 512],
     cells: &mut [u32],
     log: &mut [u32],
-    stamps: &mut [u32; 1024],
-    stamp: u32,
     n: u32,
     op: u8,
     d: usize,
     a: usize,
 ) -> layout::Turns
-    requires { ⌜ AccessRowAsks op n d a (now regs) (now cells) (now log) × Older stamp (now stamps) ⌝ }
+    requires { ⌜ AccessRowAsks op n d a (now regs) (now cells) (now log) ⌝ }
     ensures { λ r. ⌜ AccessRow op n (2 ^ n - 1) d a (now (regs .entry)) (now (cells .entry)) (now (log .entry)) r
-        (now (regs .exit)) (now (cells .exit)) (now (log .exit)) × Costs (cellIn op d a (now (regs .entry))) n (2 ^ n - 1) stamp r (now (stamps .exit)) ⌝ }
+        (now (regs .exit)) (now (cells .exit)) (now (log .exit)) ⌝ }
 {
     if op == 16 {
-        return access_all(regs, cells, log, stamps, stamp, n, 16, d, a);
+        return access_all(regs, cells, log, n, 16, d, a);
     }
     if op == 17 {
-        return access_all(regs, cells, log, stamps, stamp, n, 17, d, a);
+        return access_all(regs, cells, log, n, 17, d, a);
     }
-    access_all(regs, cells, log, stamps, stamp, n, 18, d, a)
+    access_all(regs, cells, log, n, 18, d, a)
 }
 
 fn partial_row(
     regs: &mut [u32; 512],
     cells: &mut [u32],
     log: &mut [u32],
-    stamps: &mut [u32; 1024],
-    stamp: u32,
     n: u32,
     mask: u32,
     op: u8,
     d: usize,
     a: usize,
 ) -> layout::Turns
-    requires { ⌜ (mask < 2 ^ n) × AccessRowAsks op n d a (now regs) (now cells) (now log) × Older stamp (now stamps) ⌝ }
+    requires { ⌜ (mask < 2 ^ n) × AccessRowAsks op n d a (now regs) (now cells) (now log) ⌝ }
     ensures { λ r. ⌜ AccessRow op n mask d a (now (regs .entry)) (now (cells .entry)) (now (log .entry)) r
-        (now (regs .exit)) (now (cells .exit)) (now (log .exit)) × Costs (cellIn op d a (now (regs .entry))) n mask stamp r (now (stamps .exit)) ⌝ }
+        (now (regs .exit)) (now (cells .exit)) (now (log .exit)) ⌝ }
 {
     if op == 16 {
-        return access_enabled(regs, cells, log, stamps, stamp, n, mask, 16, d, a);
+        return access_enabled(regs, cells, log, n, mask, 16, d, a);
     }
     if op == 17 {
-        return access_enabled(regs, cells, log, stamps, stamp, n, mask, 17, d, a);
+        return access_enabled(regs, cells, log, n, mask, 17, d, a);
     }
-    access_enabled(regs, cells, log, stamps, stamp, n, mask, 18, d, a)
+    access_enabled(regs, cells, log, n, mask, 18, d, a)
 }
 
 // The accesses of a row. Where all threads are enabled, no thread is looked up in the mask.
@@ -161,20 +134,18 @@ pub fn access_row(
     regs: &mut [u32; 512],
     cells: &mut [u32],
     log: &mut [u32],
-    stamps: &mut [u32; 1024],
-    stamp: u32,
     n: u32,
     mask: u32,
     op: u8,
     d: usize,
     a: usize,
 ) -> layout::Turns
-    requires { ⌜ (mask < 2 ^ n) × AccessRowAsks op n d a (now regs) (now cells) (now log) × Older stamp (now stamps) ⌝ }
+    requires { ⌜ (mask < 2 ^ n) × AccessRowAsks op n d a (now regs) (now cells) (now log) ⌝ }
     ensures { λ r. ⌜ AccessRow op n mask d a (now (regs .entry)) (now (cells .entry)) (now (log .entry)) r
-        (now (regs .exit)) (now (cells .exit)) (now (log .exit)) × Costs (cellIn op d a (now (regs .entry))) n mask stamp r (now (stamps .exit)) ⌝ }
+        (now (regs .exit)) (now (cells .exit)) (now (log .exit)) ⌝ }
 {
     if mask == masks::all(n) {
-        return full_row(regs, cells, log, stamps, stamp, n, op, d, a);
+        return full_row(regs, cells, log, n, op, d, a);
     }
-    partial_row(regs, cells, log, stamps, stamp, n, mask, op, d, a)
+    partial_row(regs, cells, log, n, mask, op, d, a)
 }

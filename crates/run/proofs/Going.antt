@@ -20,7 +20,7 @@ use Rattle.spec.specs.LockStep.{LockState, Step, continues, stops, topOpener, r
 use Rattle.spec.specs.LockStep.{advance, countSteps, endifRow, pop, topMask}
 use Rattle.spec.specs.Steps.{allStepped}
 use Rattle.spec.specs.Banks.{conflictCost}
-use Rattle.spec.specs.Intervals.{Interval, Intervals, rowCost, allOf, started, withRow, behind, intervalsAfter, intervalsFrom, recordsOf, intervalRecords}
+use Rattle.spec.specs.Intervals.{Interval, Intervals, usedCells, rowCost, allOf, started, withRow, behind, intervalsAfter, intervalsFrom, recordsOf, intervalRecords}
 use Rattle.spec.specs.Entries.{over}
 use Rattle.spec.specs.Threads.{Group, machine, initialGroup}
 use Rattle.spec.specs.Runs.{after}
@@ -46,18 +46,21 @@ use Rattle.layout.specs.Running.{RowAsks, Ready, Runnable, Steps, RunIs, startS
 use Rattle.layout.specs.Counting.{Roomy, Added, stepping, NextCounted, actedBefore, ThreadFits, Tally}
 use Rattle.stepcounts.proofs.RowSteps.{whoSteps, RowSteps, StoppedRow, row-steps}
 use Rattle.stepcounts.proofs.Tallies.{tally-start, tally-room, tally-row, tally-end, tally-fits, tally-stop-room, tally-stop}
-use Rattle.banks.specs.Counting.{Older}
+use Rattle.banks.specs.Counting.{AllCells, Older}
+use Rattle.banks.specs.Remembering.{Memo}
+use Rattle.banks.proofs.Memory.{memo-start}
+use Rattle.spec.proofs.UsedCells.{used-below}
 use Rattle.intervals.specs.Records.{inUse, begun, ended, released, recordsAfter, costsUpTo, RecordAsks, EndAsks}
 use Rattle.intervals.proofs.Ledger.{Ledger, ledger-start, ledger-asks, ledger-row, ledger-release, ledger-words, ledger-conflicts, ledger-ends}
 use Rattle.step.specs.Recording.{RowRecorded, cellDue}
 use Rattle.step.proofs.Tables.{row-inside, row-here, compute-op, mem-op}
 use Rattle.run.proofs.RowBytes.{row-asks}
 use Rattle.run.proofs.Recording.{intervals-start, intervals-row, intervals-end, intervals-spent, release-free, grown-one, plain-free, used-are, last}
-use Rattle.run.proofs.Recording.{row-went, row-stopped, behind-none, behind-more, after-none, after-more}
+use Rattle.run.proofs.Recording.{all-cells, row-went, row-stopped, behind-none, behind-more, after-none, after-more}
 
 -- Between two rows: the code's state stands for some state of the lock-step run, which is simulated by the threads' machine, and from which the rest of the run
 -- is the whole run.
-pub record Going (table : List ℕ) (n limit : ℕ) (cells₀ lent : List ℕ) (s : State) (regs cells log saved openers counts stamps records : List ℕ) : Type 0 where
+pub record Going (table : List ℕ) (n limit : ℕ) (cells₀ lent : List ℕ) (s : State) (regs cells log saved openers counts stamps memo records : List ℕ) : Type 0 where
   pub here : LockState
   pub frames : List Frame
   pub group : Group
@@ -70,6 +73,7 @@ pub record Going (table : List ℕ) (n limit : ℕ) (cells₀ lent : List ℕ) (
   pub since-few : s .since ≤ s .rows
   pub barriers-few : s .barriers ≤ s .rows
   pub older : Older (s .rows + 1) stamps
+  pub remembered : Memo memo
   pub ledger : Ledger (intervalRecords (rowsOf table) n cells₀ limit) lent (intervalsFrom (rowsOf table) (shapeBy n cells₀) (limit - s .rows) here)
       (s .barriers) (s .rows) records
 
@@ -85,7 +89,7 @@ start-regs n l =
 
 go-fresh : (table ends : List ℕ) (n limit m : ℕ) (cells log lent : List ℕ) → Runnable table ends → n ≤ 32 → m ≡ 2 ^ n - 1
     → length log ≡ logPerCell * length cells → recordsLent ≤ length lent → (log′ records : List ℕ) → log′ ≡ replicate (length log) 0 → records ≡ begun 0 0 0 lent
-    → Going table n limit cells lent (startState m) (replicate 512 0) cells log′ (replicate 8 0) (replicate 8 0) (replicate 32 0) (replicate 1024 0) records
+    → Going table n limit cells lent (startState m) (replicate 512 0) cells log′ (replicate 8 0) (replicate 8 0) (replicate 32 0) (replicate 1024 0) (replicate 544 0) records
 unfolding initialState lockstep shapeOf intervalRecords
 go-fresh table ends n limit m cells log lent A l em el eb log′ records ez er =
     record {
@@ -118,15 +122,16 @@ go-fresh table ends n limit m cells log lent A l em el eb log′ records ez er =
       since-few = omega arith;
       barriers-few = omega arith;
       older = record { size = length-replicate {A = ℕ} 1024 0; below = λ i h. let z = getD-replicate {A = ℕ} 1024 i 0 0 h in omega arith };
+      remembered = memo-start;
       ledger = ledger-start _ lent _ records eb er (intervals-start (rowsOf table) (shapeBy n cells) (limit - 0) (initialState n cells))
           (ap (λ k. recordsOf 1024 (allOf (intervalsFrom (rowsOf table) (shapeBy n cells) k (initialState n cells)))) (let z : limit ≡ limit - 0 = omega arith in z));
     }
 
 pub go-start : (table ends : List ℕ) (n limit : ℕ) (cells log lent : List ℕ) (s : State) → Runnable table ends → n ≤ 32 → s ≡ startState (2 ^ n - 1)
     → length log ≡ logPerCell * length cells → recordsLent ≤ length lent → (log′ records : List ℕ) → log′ ≡ replicate (length log) 0 → records ≡ begun 0 0 0 lent
-    → Going table n limit cells lent s (replicate 512 0) cells log′ (replicate 8 0) (replicate 8 0) (replicate 32 0) (replicate 1024 0) records
+    → Going table n limit cells lent s (replicate 512 0) cells log′ (replicate 8 0) (replicate 8 0) (replicate 32 0) (replicate 1024 0) (replicate 544 0) records
 go-start table ends n limit cells log lent s A l es el eb log′ records ez er =
-    subst (λ x. Going table n limit cells lent x (replicate 512 0) cells log′ (replicate 8 0) (replicate 8 0) (replicate 32 0) (replicate 1024 0) records) (sym es)
+    subst (λ x. Going table n limit cells lent x (replicate 512 0) cells log′ (replicate 8 0) (replicate 8 0) (replicate 32 0) (replicate 1024 0) (replicate 544 0) records) (sym es)
     (go-fresh table ends n limit (2 ^ n - 1) cells log lent A l refl el eb log′ records ez er)
 
 -- How deep a row of an accepted table is.
@@ -287,8 +292,8 @@ module _ (n k d a b : ℕ) (asks : RowAsks k d a b) (T : Table) (L : Shape) (x :
       by (inr h) (inl l) = let m = mem-op k h (asks .accesses h l .0) in plain (MEM (m .0)) (m .1) l refl
       by (inr h) (inr l) = construct l
 
-module _ (table ends : List ℕ) (n limit : ℕ) (cells₀ lent : List ℕ) (s : State) (regs cells log saved openers counts stamps records : List ℕ)
-    (G : Going table n limit cells₀ lent s regs cells log saved openers counts stamps records) (A : Runnable table ends) where
+module _ (table ends : List ℕ) (n limit : ℕ) (cells₀ lent : List ℕ) (s : State) (regs cells log saved openers counts stamps memo records : List ℕ)
+    (G : Going table n limit cells₀ lent s regs cells log saved openers counts stamps memo records) (A : Runnable table ends) where
   abbrev T : Table
   T = rowsOf table
 
@@ -459,10 +464,10 @@ module _ (table ends : List ℕ) (n limit : ℕ) (cells₀ lent : List ℕ) (s :
     counted : RowSteps (rowAt T (G .here .row) .op) (G .here) done
     counted = row-steps T L (rowAt T (G .here .row)) (G .here) (rowAt T (G .here .row) .op)
 
-    module _ (len : length cells ≡ length cells₀) (r : Next) (regs′ cells′ log′ saved′ openers′ counts′ stamps′ records′ : List ℕ)
+    module _ (len : length cells ≡ length cells₀) (few-cells : length cells₀ ≤ 1024) (r : Next) (regs′ cells′ log′ saved′ openers′ counts′ stamps′ memo′ records′ : List ℕ)
         (S : Steps table n s regs cells log saved openers r regs′ cells′ log′ saved′ openers′)
         (C : NextCounted (getD table (s .row * 4) 0) s r counts counts′)
-        (K : RowRecorded (getD table (s .row * 4) 0) n (cellDue table s regs) s r records records′ stamps′) where
+        (K : RowRecorded (getD table (s .row * 4) 0) n (cellDue table s regs) s r records records′ stamps′ memo′) where
       stepped : After n done r regs′ cells′ log′ saved′ openers′
       stepped =
           subst (λ k. After n (runRow T (record { threads = n; cells = k }) (rowAt T (G .here .row)) (G .here) (rowAt T (G .here .row) .op)) r regs′
@@ -486,8 +491,9 @@ module _ (table ends : List ℕ) (n limit : ℕ) (cells₀ lent : List ℕ) (s :
           )
 
       -- what the row costs by the definition
-      row-costs : (s′ : State) → r ≡ next.Go s′ → K .cost ≡ rowCost (rowAt T (G .here .row)) (G .here) (rowAt T (G .here .row) .op)
-      row-costs s′ e = by (lt-or-le byte 16) (lt-or-le byte 32) ∙ ap (rowCost (rowAt T (G .here .row)) (G .here)) (sym row-byte)
+      row-costs : (s′ : State) (z : LockState) → r ≡ next.Go s′ → done ≡ continues z
+          → K .cost ≡ rowCost (rowAt T (G .here .row)) (G .here) (rowAt T (G .here .row) .op)
+      row-costs s′ z e d = by (lt-or-le byte 16) (lt-or-le byte 32) ∙ ap (rowCost (rowAt T (G .here .row)) (G .here)) (sym row-byte)
         where
           asks : RowAsks byte (getD table (s .row * 4 + 1) 0) (getD table (s .row * 4 + 2) 0) (getD table (s .row * 4 + 3) 0)
           asks = row-asks table (A .accepted) (s .row) inside
@@ -502,9 +508,12 @@ module _ (table ends : List ℕ) (n limit : ℕ) (cells₀ lent : List ℕ) (s :
               let q = asks .accesses h l in
               let m = mem-op byte h (q .0) in
               let x = row-here table n (G .here) s regs cells log saved openers (G .rep) inside in
+              let used = used-are n (G .here) regs cells log (G .rep .memory) (G .rep .enabled-size) (rowAt T (G .here .row)) byte _ _ h (q .0) (q .1) (q .2)
+              (ap (λ y. y .d) x) (ap (λ y. y .a) x) (m .0) (m .1) in
+              let went = sym (ap (runRow T L (rowAt T (G .here .row)) (G .here)) (row-byte ∙ m .1)) ∙ d in
               K .access h l s′ e (G .here .enabled) (G .rep .enabled-is) (G .rep .enabled-size)
-              ∙ ap conflictCost (sym (used-are n (G .here) regs cells log (G .rep .memory) (G .rep .enabled-size) (rowAt T (G .here .row)) byte _ _ h (q .0) (q .1) (q .2)
-              (ap (λ y. y .d) x) (ap (λ y. y .a) x) (m .0) (m .1)))
+              (subst AllCells used (all-cells (length cells₀) few-cells (usedCells (m .0) (rowAt T (G .here .row)) (G .here)) (used-below T L (rowAt T (G .here .row)) (G .here) z (m .0) went)))
+              ∙ ap conflictCost (sym used)
               ∙ sym (ap (rowCost (rowAt T (G .here .row)) (G .here)) (m .1) ∙ (unfold rowCost in refl))
 
       -- the intervals from here on, with the row taken off
@@ -528,7 +537,7 @@ module _ (table ends : List ℕ) (n limit : ℕ) (cells₀ lent : List ℕ) (s :
           grows = subst (Leaves (G .here) (suc (G .here .rows)) (grown (G .here) op)) d (leaves-row T L (rowAt T (G .here .row)) (G .here) op) .1
 
           cost : K .cost ≡ rowCost (rowAt T (G .here .row)) (G .here) op
-          cost = row-costs s′ e
+          cost = row-costs s′ z e d
 
           rest-is : rest ≡ withRow (G .here .row) (K .cost) (behind (G .here) z after-row)
           rest-is =
@@ -560,7 +569,7 @@ module _ (table ends : List ℕ) (n limit : ℕ) (cells₀ lent : List ℕ) (s :
               (intervals-start T L (limit - s′ .rows) z ∙ sym row)
               (words ∙ after-more (K .cost) s s′ records (omega (arith, more)) ∙ ap (λ k. released (s .barriers) (s′ .row) k records) (one .rows-one)))
 
-      pub go-next : (s′ : State) → r ≡ next.Go s′ → Going table n limit cells₀ lent s′ regs′ cells′ log′ saved′ openers′ counts′ stamps′ records′
+      pub go-next : (s′ : State) → r ≡ next.Go s′ → Going table n limit cells₀ lent s′ regs′ cells′ log′ saved′ openers′ counts′ stamps′ memo′ records′
       go-next s′ e = by done refl stepped sims came
         where
           one : Counted s s′
@@ -568,7 +577,7 @@ module _ (table ends : List ℕ) (n limit : ℕ) (cells₀ lent : List ℕ) (s :
 
           by : (o : Step) → done ≡ o → After n o r regs′ cells′ log′ saved′ openers′ → RowDone T L (G .here) (G .group) o
               → resultOf o (runFrom T L (limit - (s .rows + 1))) ≡ lockstep T n cells₀ limit
-              → Going table n limit cells₀ lent s′ regs′ cells′ log′ saved′ openers′ counts′ stamps′ records′
+              → Going table n limit cells₀ lent s′ regs′ cells′ log′ saved′ openers′ counts′ stamps′ memo′ records′
           by (stops v z) d (u, f, R) W q = let y : _≡_ {A = ℕ} 0 1 = cc in absurd (omega arith)
           by (continues z) d (u, f, R) W q =
               let eu : u ≡ s′ = cc in
@@ -587,6 +596,7 @@ module _ (table ends : List ℕ) (n limit : ℕ) (cells₀ lent : List ℕ) (s :
                 since-few = omega (arith, one .rows-one, one .since-one, G .since-few);
                 barriers-few = omega (arith, one .rows-one, one .barriers-one, G .barriers-few);
                 older = older-next s′ one;
+                remembered = K .memo;
                 ledger = ledger-next s′ z e d rep one;
               }
 

@@ -19,6 +19,8 @@ use Rattle.spec.specs.Banks.{conflictCost}
 use Rattle.spec.specs.LockStep.{LockState, LockResult, Step, continues, stops, reg, runRow}
 use Rattle.spec.specs.Intervals.{Interval, Intervals, usedCells, rowCost, allOf, started, withRow, behind, intervalsAfter, intervalsFrom, recordsOf, intervalRecords, recordWords}
 use Rattle.spec.proofs.Laws.{lt-or-le, byte-if, byte-else, byte-endif, byte-while, byte-endwhile, byte-barrier}
+use Rattle.spec.proofs.UsedCells.{Below}
+use Rattle.banks.specs.Counting.{AllCells}
 use Rattle.allruns.proofs.Counts.{passes, passedAt, grown}
 use Rattle.accesslog.proofs.LogTests.{mem-load, mem-store, mem-add, which}
 use Rattle.layout.specs.Memory.{Memory, cellIn}
@@ -115,6 +117,11 @@ map-members f g k [] h = refl
 map-members f g k (false ∷ E) h = map-members f g (suc k) E (λ t l. h t (omega arith))
 map-members f g k (true ∷ E) h =
     ap (λ c. c ∷ map f (membersFrom (suc k) E)) (h k (omega arith)) ∙ ap (λ l. g k ∷ l) (map-members f g (suc k) E (λ t l. h t (omega arith)))
+
+-- Numbers below the count of the cells are cells'.
+pub all-cells : (k : ℕ) → k ≤ 1024 → (cs : List ℕ) → Below k cs → AllCells cs
+all-cells k h [] b = tt
+all-cells k h (c ∷ cs) b = (let l = b .0 in omega arith, all-cells k h cs (b .1))
 
 -- The cells that a row of accesses uses, by its bytes and the registers.
 pub used-are : (n : ℕ) (s : LockState) (regs cells log : List ℕ) → Memory n s regs cells log → length (s .enabled) ≡ n → (x : Row) (k d a : ℕ)

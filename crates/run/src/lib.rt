@@ -71,6 +71,7 @@ pub fn run(
     let mut saved: [u32; 8] = [0; 8];
     let mut openers: [usize; 8] = [0; 8];
     let mut stamps: [u32; 1024] = [0; 1024];
+    let mut memo: [u32; 544] = [0; 544];
     accesslog::clear(log, cells.len());
     intervals::launch(records);
     *counts = [0; 32];
@@ -90,6 +91,7 @@ pub fn run(
             &mut openers,
             counts,
             &mut stamps,
+            &mut memo,
             records,
             s,
         ) {

@@ -4,6 +4,7 @@ pub mod LogLaws
 pub mod ClearingLaws
 pub mod BankLaws
 pub mod IntervalLaws
+pub mod UsedCells
 pub mod Computing
 pub mod OpTable
 pub mod RefusalTable

@@ -5,7 +5,8 @@ use mathlib.Core.List.{List}
 use mathlib.Core.Bool.{Bool, true, false, cond}
 use Prim.Native.Nat.{ℕ, _+_, _-_, _*_, _^_, _<_, _≤_}
 use native.Mathlib.Omega.{arith}
-use borrow.Author.Tests.{lt-ltb, le-ltb}
+use native.Mathlib.Decide.{ℕ-discrete}
+use borrow.Author.Tests.{lt-ltb, le-ltb, eq-eqb, ne-eqb}
 use lib.Dec.{eqb, ltb}
 use lib.ListN.{length, getD, set}
 use lib.Seq.{set-getD}
@@ -18,10 +19,11 @@ use Rattle.layout.specs.declared.Next.{Next}
 use Rattle.layout.specs.declared.Next.the-variants as next
 use Rattle.layout.specs.Represents.{goneOn, movedOn, reached, accessed}
 use Rattle.layout.specs.Constructs.{ConstructDone, constructState, whileState, passedState, divergedNext, barrierNext}
-use Rattle.layout.specs.Memory.{holdingWord, cellIn}
-use Rattle.banks.specs.Counting.{Older, Costs}
+use Rattle.layout.specs.Memory.{holdingWord, cellIn, CellRegister}
+use Rattle.banks.specs.Counting.{numbersIn, Older}
+use Rattle.banks.specs.Remembering.{Memo, RowCosts}
 use Rattle.intervals.specs.Records.{inUse, charged, recordsAfter}
-use Rattle.step.specs.Recording.{RowRecorded}
+use Rattle.step.specs.Recording.{RowRecorded, paid}
 
 older-still : (k : ℕ) (stamps : List ℕ) → Older (k + 1) stamps → Older (k + 2) stamps
 older-still k stamps O = record { size = O .size; below = λ i h. omega (arith, O .below i h) }
@@ -41,10 +43,11 @@ after-charged cost s r records e = rw (le-ltb (s .barriers) (r .barriers) (omega
 pub after-plain : (s r : State) (records : List ℕ) → r .barriers ≡ s .barriers → recordsAfter 0 s (next.Go r) records ≡ records
 after-plain s r records e = after-charged 0 s r records e ∙ charged-none (s .barriers) 0 records refl
 
-module _ (op n : ℕ) (cell : ℕ → ℕ) (s : State) (records stamps : List ℕ) where
+module _ (op n : ℕ) (cell : ℕ → ℕ) (s : State) (records stamps memo : List ℕ) where
   -- a row without accesses
-  pub recorded-plain : (r : Next) (records′ : List ℕ) → (16 ≤ op → op < 32 → ⊥) → Older (s .rows + 1) stamps → records′ ≡ recordsAfter 0 s r records → RowRecorded op n cell s r records records′ stamps
-  recorded-plain r records′ f O e =
+  pub recorded-plain : (r : Next) (records′ : List ℕ) → (16 ≤ op → op < 32 → ⊥) → Older (s .rows + 1) stamps → Memo memo
+      → records′ ≡ recordsAfter 0 s r records → RowRecorded op n cell s r records records′ stamps memo
+  recorded-plain r records′ f O M e =
       record {
         cost = 0;
         few = omega arith;
@@ -52,43 +55,47 @@ module _ (op n : ℕ) (cell : ℕ → ℕ) (s : State) (records stamps : List �
         access = λ h l q p E m k. absurd (f h l);
         words = e;
         older = older-still (s .rows) stamps O;
+        memo = M;
       }
 
-  pub recorded-access : (t : Turns) (r : Next) (records′ : List ℕ) → 16 ≤ op → op < 32 → Costs cell n (s .mask) (s .rows + 1) t stamps
-      → r ≡ accessed (reached s (t .reach)) (t .access) → records′ ≡ charged (s .barriers) (t .cost) records
-      → RowRecorded op n cell s r records records′ stamps
-  recorded-access t r records′ low high C er ew =
+  -- a finished row of accesses is charged its cost, a stopped one nothing
+  pub recorded-access : (t : Turns) (cost : ℕ) (r : Next) (records′ : List ℕ) → 16 ≤ op → op < 32 → RowCosts cell n (s .mask) (s .rows + 1) cost stamps memo
+      → r ≡ accessed (reached s (t .reach)) (t .access) → records′ ≡ paid (t .access) (s .barriers) cost records
+      → RowRecorded op n cell s r records records′ stamps memo
+  recorded-access t cost r records′ low high C er ew =
       record {
-        cost = t .cost;
+        cost = cost;
         few = C .few;
         plain = λ p. absurd (neither p);
-        access = λ h l q p E m k. C .done (went (t .access) q (sym er ∙ p)) E m k;
-        words = ew ∙ sym (ap (λ z. recordsAfter (t .cost) s z records) er ∙ left (t .access) refl);
+        access = λ h l q p E m k a. C .cost-is E m k a;
+        words = ew ∙ sym (ap (λ z. recordsAfter cost s z records) er ∙ left (t .access));
         older = subst (λ k. Older k stamps) (let z : s .rows + 1 + 1 ≡ s .rows + 2 = omega arith in z) (C .older);
+        memo = C .memo;
       }
     where
       neither : (op < 16) ⊎ (32 ≤ op) → ⊥
       neither (inl h) = omega arith
       neither (inr h) = omega arith
 
-      went : (a : Access) (q : State) → accessed (reached s (t .reach)) a ≡ next.Go q → a ≡ Done
-      went Done q e = refl
-      went (Stop v) q e = let z : _≡_ {A = ℕ} 0 1 = cc in absurd (omega arith)
-
-      left : (a : Access) → t .access ≡ a → recordsAfter (t .cost) s (accessed (reached s (t .reach)) (t .access)) records ≡ charged (s .barriers) (t .cost) records
-      left Done e = ap (λ x. recordsAfter (t .cost) s (accessed (reached s (t .reach)) x) records) e ∙ after-charged (t .cost) s _ records refl
-      left (Stop v) e =
-          ap (λ x. recordsAfter (t .cost) s (accessed (reached s (t .reach)) x) records) e ∙ stopped
-          ∙ sym (charged-none (s .barriers) (t .cost) records (C .stopped v e))
-        where
-          stopped : recordsAfter (t .cost) s (next.Stop v (reached s (t .reach))) records ≡ records
-          stopped = unfold recordsAfter in refl
+      left : (a : Access) → recordsAfter cost s (accessed (reached s (t .reach)) a) records ≡ paid a (s .barriers) cost records
+      left Done = after-charged cost s _ records refl
+      left (Stop v) = unfold recordsAfter in refl
 
 -- The cells of the row's own bytes.
-pub recorded-at : (s : State) (op n d a d′ a′ : ℕ) (r : Next) (records records′ stamps′ regs : List ℕ) → d ≡ d′ → a ≡ a′
-    → RowRecorded op n (cellIn op d a regs) s r records records′ stamps′ → RowRecorded op n (cellIn op d′ a′ regs) s r records records′ stamps′
-recorded-at s op n d a d′ a′ r records records′ stamps′ regs ed ea R =
-    subst₂ (λ x y. RowRecorded op n (cellIn op x y regs) s r records records′ stamps′) ed ea R
+pub recorded-at : (s : State) (op n d a d′ a′ : ℕ) (r : Next) (records records′ stamps′ memo′ regs : List ℕ) → d ≡ d′ → a ≡ a′
+    → RowRecorded op n (cellIn op d a regs) s r records records′ stamps′ memo′ → RowRecorded op n (cellIn op d′ a′ regs) s r records records′ stamps′ memo′
+recorded-at s op n d a d′ a′ r records records′ stamps′ memo′ regs ed ea R =
+    subst₂ (λ x y. RowRecorded op n (cellIn op x y regs) s r records records′ stamps′ memo′) ed ea R
+
+-- The register with the numbers.
+pub costs-in : (op d a r n mask stamp cost : ℕ) (regs stamps memo : List ℕ) → CellRegister op d a r → RowCosts (numbersIn regs r) n mask stamp cost stamps memo
+    → RowCosts (cellIn op d a regs) n mask stamp cost stamps memo
+unfolding cellIn
+costs-in op d a r n mask stamp cost regs stamps memo R C = subst (λ x. RowCosts (numbersIn regs x) n mask stamp cost stamps memo) (by (ℕ-discrete op 16)) C
+  where
+    by : Dec (op ≡ 16) → r ≡ cond (eqb op 16) a d
+    by (yes e) = R .of-load e ∙ sym (ap (λ b. cond b a d) (eq-eqb op 16 e))
+    by (no f) = R .of-other f ∙ sym (ap (λ b. cond b a d) (ne-eqb op 16 f))
 
 -- The rows of constructs pass no barrier.
 pub construct-barriers : (op a e : ℕ) (regs : List ℕ) (s : State) (saved openers : List ℕ) (r : State) (saved′ openers′ : List ℕ)

@@ -10,19 +10,28 @@ use Rattle.layout.specs.declared.State.{State}
 use Rattle.layout.specs.declared.Next.{Next}
 use Rattle.layout.specs.declared.Next.the-variants as next
 use Rattle.layout.specs.Memory.{cellIn}
-use Rattle.banks.specs.Counting.{Older}
-use Rattle.intervals.specs.Records.{recordsAfter}
+use Rattle.layout.specs.declared.Access.{Access}
+use Rattle.layout.specs.declared.Access.the-variants.{Done, Stop}
+use Rattle.banks.specs.Counting.{AllCells, Older}
+use Rattle.banks.specs.Remembering.{Memo}
+use Rattle.intervals.specs.Records.{charged, recordsAfter}
 
 -- The cell of thread t, where the row due is one of accesses.
 abbrev pub cellDue : (table : List ℕ) → State → (regs : List ℕ) → (t : ℕ) → ℕ
 cellDue table s regs t = cellIn (getD table (s .row * 4) 0) (getD table (s .row * 4 + 1) 0) (getD table (s .row * 4 + 2) 0) regs t
 
--- The row's cost, which is that of its accesses; what it leaves in the records; and no stamp is a later row's.
-pub record RowRecorded (op n : ℕ) (cell : ℕ → ℕ) (s : State) (r : Next) (records records′ stamps′ : List ℕ) : Type 0 where
+-- The records after a row's accesses: a row that is finished is charged.
+abbrev pub paid : Access → (barriers cost : ℕ) → List ℕ → List ℕ
+paid Done barriers cost records = charged barriers cost records
+paid (Stop v) barriers cost records = records
+
+-- The row's cost, which is that of its accesses; what it leaves in the records; no stamp is a later row's, and what is remembered is right.
+pub record RowRecorded (op n : ℕ) (cell : ℕ → ℕ) (s : State) (r : Next) (records records′ stamps′ memo′ : List ℕ) : Type 0 where
   pub cost : ℕ
   pub few : cost ≤ 31
   pub plain : (op < 16) ⊎ (32 ≤ op) → cost ≡ 0
   pub access : 16 ≤ op → op < 32 → (q : State) → r ≡ next.Go q → (E : Mask) → s .mask ≡ maskWord E → length E ≡ n
-      → cost ≡ conflictCost (map cell (members E))
+      → AllCells (map cell (members E)) → cost ≡ conflictCost (map cell (members E))
   pub words : records′ ≡ recordsAfter cost s r records
   pub older : Older (s .rows + 2) stamps′
+  pub memo : Memo memo′

@@ -10,8 +10,9 @@ ghost use Rattle.layout.specs.Represents.{Room, reached, accessed};
 ghost use Rattle.layout.specs.Running.{AccessDone, Ready, Steps};
 ghost use Rattle.layout.specs.Counting.{Roomy, StepsOn, NextCounted};
 ghost use Rattle.banks.specs.Counting.{Older};
+ghost use Rattle.banks.specs.Remembering.{Memo};
 ghost use Rattle.intervals.specs.Records.{RecordAsks, recordsAfter};
-ghost use Rattle.step.specs.Recording.{RowRecorded, cellDue};
+ghost use Rattle.step.specs.Recording.{RowRecorded, cellDue, paid};
 
 fn index(x: u8) -> usize
     ensures { λ r. ⌜ (r ≡ x) × (r < 256) ⌝ }
@@ -35,25 +36,29 @@ fn reached(s: layout::State, h: u32) -> layout::State
     }
 }
 
-// The state after a row's accesses: on to the next row, or stopped at this one.
-fn after_access(r: layout::Turns, s: layout::State) -> layout::Next
-    requires { ⌜ Room s ⌝ }
-    ensures { λ q. ⌜ q ≡ accessed (reached s (r .reach)) (r .access) ⌝ }
+// The state after a row's accesses: on to the next row, which charges this one's cost, or stopped at this one.
+fn after_access(records: &mut [u32], r: layout::Turns, cost: u32, s: layout::State) -> layout::Next
+    requires { ⌜ Room s × RecordAsks (s .barriers) (s .rows) (now records) × (cost ≤ 31) ⌝ }
+    ensures { λ q. ⌜ (q ≡ accessed (reached s (r .reach)) (r .access)) × (now (records .exit) ≡ paid (r .access) (s .barriers) cost (now (records .entry))) ⌝ }
 {
     let c = r.access;
     let z = reached(s, r.reach);
     match c {
-        layout::Access::Done => layout::Next::Go(constructs::moved(z)),
+        layout::Access::Done => {
+            intervals::charge(records, s.barriers, cost);
+            layout::Next::Go(constructs::moved(z))
+        }
         layout::Access::Stop(v) => layout::Next::Stop(v, z),
     }
 }
 
-// The accesses of a row, stamped by its number, and what they cost.
+// The accesses of a row, and what they cost: that is found first, since a LOAD may put something else where the number of its cell was.
 fn access_row(
     regs: &mut [u32; 512],
     cells: &mut [u32],
     log: &mut [u32],
     stamps: &mut [u32; 1024],
+    memo: &mut [u32; 544],
     records: &mut [u32],
     n: u32,
     op: u8,
@@ -62,14 +67,28 @@ fn access_row(
     s: layout::State,
 ) -> layout::Next
     requires { ⌜ Room s × (s .mask < 2 ^ n) × AccessAsks op d a (now cells) (now log) × InMemory n (now regs) (now cells) (now log)
-        × Older (s .rows + 1) (now stamps) × RecordAsks (s .barriers) (s .rows) (now records) ⌝ }
+        × Older (s .rows + 1) (now stamps) × Memo (now memo) × RecordAsks (s .barriers) (s .rows) (now records) ⌝ }
     ensures { λ r. ⌜ AccessDone op n d a s (now (regs .entry)) (now (cells .entry)) (now (log .entry)) r
         (now (regs .exit)) (now (cells .exit)) (now (log .exit)) × KeptBut d n (now (regs .entry)) (now (regs .exit)) × StepsOn s r
-        × RowRecorded op n (cellIn op d a (now (regs .entry))) s r (now (records .entry)) (now (records .exit)) (now (stamps .exit)) ⌝ }
+        × RowRecorded op n (cellIn op d a (now (regs .entry))) s r (now (records .entry)) (now (records .exit)) (now (stamps .exit)) (now (memo .exit)) ⌝ }
 {
-    let r = memory::access_row(regs, cells, log, stamps, s.rows + 1, n, s.mask, op, d, a);
-    intervals::charge(records, s.barriers, r.cost);
-    after_access(r, s)
+    let numbers = access::cell_register(op, d, a);
+    let cost = banks::row_cost(
+        regs,
+        numbers,
+        n,
+        s.mask,
+        stamps,
+        s.rows + 1,
+        memo,
+        s.row % 16,
+    );
+    after_access(
+        records,
+        memory::access_row(regs, cells, log, n, s.mask, op, d, a),
+        cost,
+        s,
+    )
 }
 
 // After a barrier that lets the run go on: where all have passed it, the next interval starts at the row behind it.
@@ -114,17 +133,19 @@ pub fn step(
     openers: &mut [usize; 8],
     counts: &mut [u32; 32],
     stamps: &mut [u32; 1024],
+    memo: &mut [u32; 544],
     records: &mut [u32],
     s: layout::State,
 ) -> layout::Next
     requires { ⌜ Ready (now table) (now ends) n s (now regs) (now cells) (now log) (now saved) (now openers)
-        × Roomy (s .mask) (s .since + 1) (now counts) × Older (s .rows + 1) (now stamps) × RecordAsks (s .barriers) (s .rows) (now records) ⌝ }
+        × Roomy (s .mask) (s .since + 1) (now counts) × Older (s .rows + 1) (now stamps) × Memo (now memo)
+        × RecordAsks (s .barriers) (s .rows) (now records) ⌝ }
     ensures { λ r. ⌜ Steps (now (table .entry)) n s
         (now (regs .entry)) (now (cells .entry)) (now (log .entry)) (now (saved .entry)) (now (openers .entry)) r
         (now (regs .exit)) (now (cells .exit)) (now (log .exit)) (now (saved .exit)) (now (openers .exit))
         × NextCounted (getD (now (table .entry)) (s .row * 4) 0) s r (now (counts .entry)) (now (counts .exit))
         × RowRecorded (getD (now (table .entry)) (s .row * 4) 0) n (cellDue (now (table .entry)) s (now (regs .entry))) s r
-        (now (records .entry)) (now (records .exit)) (now (stamps .exit)) ⌝ }
+        (now (records .entry)) (now (records .exit)) (now (stamps .exit)) (now (memo .exit)) ⌝ }
 {
     let row = s.row;
     let op = table[row * 4];
@@ -136,7 +157,7 @@ pub fn step(
         return layout::Next::Go(constructs::moved(s));
     }
     if op < 32 {
-        return access_row(regs, cells, log, stamps, records, n, op, d, a, s);
+        return access_row(regs, cells, log, stamps, memo, records, n, op, d, a, s);
     }
     if op < 37 {
         let end = index(ends[row]);

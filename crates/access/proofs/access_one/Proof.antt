@@ -1,11 +1,8 @@
 -- `access::access_one` meets its contract. Assumes nothing.
-use mathlib.Core.Path.{_≡_, refl, sym, subst}
-use Prim.Native.Nat.{ℕ, _<_}
+use mathlib.Core.Path.{refl, sym, subst}
 use native.Mathlib.Omega.{arith}
 use lib.ListN.{length}
 use Rattle.masks.proofs.Bits.{or-more}
-use Rattle.spec.specs.declared.Verdict.{Verdict}
-use Rattle.layout.specs.declared.Access.the-variants.{Done, Stop}
 use Rattle.layout.specs.Memory.{CellNumber}
 use Rattle.layout.specs.Logging.{SameBut}
 use Rattle.layout.proofs.Reach.{entered-but}
@@ -13,10 +10,6 @@ use Rattle.access.proofs.Accesses.{transfer-keeps, outside-did, race-di
 use borrow.Author.Needs.{needs}
 use Rattle.access.proofs.access_one.Statement.{statement}
 use Rattle.access.proofs.access_one.Tie as tie
-
--- An access that stopped was not made.
-stopped : {A : Type 0} {v : Verdict} → Stop v ≡ Done → A
-stopped e = let z : _≡_ {A = ℕ} 0 1 = cc in absurd (omega arith)
 
 returns : tie.Need-returns
 returns c =
@@ -31,7 +24,6 @@ returns c =
           (pre .known) (pre .small) number ed ea (pre .target) (pre .source) (thread .ensures) _ (sym (cell .ensures)) (c .if1 .taken),
       λ i off. refl,
       λ j off. refl,
-      λ made. stopped made,
     )
 
 returns-2 : tie.Need-returns-2
@@ -55,7 +47,6 @@ returns-2 c =
           (c .before .before .transfer .ensures),
       subst (λ k. SameBut k (length (args .cells .now)) (args .log .now) (at-enter .enter .last .0)) (cell .ensures)
           (entered-but (args .op) (length (args .cells .now)) (cell .result) (args .bit) (args .log .now) _ within (at-enter .enter .ensures)),
-      λ made. subst (λ k. k < length (args .cells .now)) (cell .ensures) within,
     )
 
 bit-met : tie.Need-sub-lowest
@@ -95,7 +86,6 @@ returns-3 c =
           (c .before .before .lowest .ensures .0) (c .race-kind .ensures),
       λ i off. refl,
       λ j off. refl,
-      λ made. stopped made,
     )
 
 pub access-one-spec : {M : Type 1} → statement M

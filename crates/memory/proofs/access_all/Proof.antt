@@ -1,117 +1,142 @@
 -- `memory::access_all` does the turns of all threads, one after the other. Assumes nothing.
 use borrow.Author.Needs.{needs}
-use mathlib.Core.Path.{_≡_, refl, ap, _∙_, subst}
-use Prim.Native.Nat.{ℕ, _+_, _-_, _^_}
+use mathlib.Core.Path.{_≡_, refl, sym, ap, _∙_, subst}
+use Prim.Native.Nat.{ℕ, _+_, _-_, _^_, _≤_, _<_}
 use native.Mathlib.Omega.{arith}
-use Rattle.layout.specs.declared.Access.the-variants.{Done}
-use Rattle.masks.proofs.Bits.{left-odd, left-less}
-use Rattle.memory.proofs.Accessing.{Accessing, accessing-start, accessing-asks, accessing-fit, accessing-in, accessing-stop, accessing-whole}
+use lib.ListN.{length}
+use Rattle.spec.specs.Op.{Mem, MEM, opOf}
+use Rattle.spec.specs.Table.{Row}
+use Rattle.spec.specs.LockStep.{accessTurn}
+use Rattle.layout.specs.Memory.{KeptBut, shapeBy}
+use Rattle.layout.specs.Logging.{SameAbove}
+use Rattle.layout.proofs.Reach.{same-more}
+use Rattle.layout.proofs.Turning.{Turning, Turns, turn-start, turn-whole, go-in, go-stop}
+use Rattle.masks.proofs.Bits.{next-bit, left-odd, left-less}
+use Rattle.access.proofs.Accesses.{asks-still, turn-still, keeps-on}
 use Rattle.memory.proofs.access_all.Statement.{statement}
 use Rattle.memory.proofs.access_all.Tie as tie
 
 -- Of the mask of all threads, those from t on are left.
 abbrev Inv-loop : tie.InvT-loop
-Inv-loop regs₀ cells₀ log₀ stamps₀ stamp n op d a t₀ bit₀ reach₀ counts₀ most₀ regs cells log stamps t bit reach counts most =
-    Accessing op n (2 ^ n - 1) d a stamp regs₀ cells₀ log₀ t (2 ^ (n - t) - 1) regs cells log stamps bit reach counts most
+Inv-loop regs₀ cells₀ log₀ n op d a t₀ bit₀ reach₀ regs cells log t bit reach =
+    (t ≤ n) × (length cells ≡ length cells₀) × (length log ≡ length log₀)
+    × ((y : Mem) (x : Row) → opOf op ≡ MEM y → x .d ≡ d → x .a ≡ a
+    → Turns (accessTurn (shapeBy n cells₀) y x) n (2 ^ n - 1) regs₀ cells₀ log₀ t (2 ^ (n - t) - 1) regs cells log)
+    × (t < 32 → bit ≡ 2 ^ t) × KeptBut d n regs₀ regs × SameAbove reach (length cells₀) log₀ log
 
 abbrev μ-loop : tie.MeasureT-loop
-μ-loop regs₀ cells₀ log₀ stamps₀ stamp n op d a t₀ bit₀ reach₀ counts₀ most₀ regs cells log stamps t bit reach counts most = n - t
+μ-loop regs₀ cells₀ log₀ n op d a t₀ bit₀ reach₀ regs cells log t bit reach = n - t
 
 loop-holds : tie.Need-loop-holds Inv-loop μ-loop
 loop-holds c =
-    let start = c .before .before in
-    let whole : start .args .n - 0 ≡ start .args .n = omega arith in
-    accessing-start _ _ _ _ _ _ _ _ _ _ _ (ap (λ (k : ℕ). 2 ^ k - 1) whole) (start .pre .1)
+    let args = c .before .before .args in
+    let memory = args .cells .now in (
+      omega arith,
+      refl,
+      refl,
+      λ y x o ed ea s e l M.
+          let whole : args .n ≡ args .n - 0 = omega arith in
+          turn-start (accessTurn (shapeBy (args .n) memory) y x) (args .n) s (2 ^ (args .n - 0) - 1) (args .regs .now) memory (args .log .now)
+          (ap (λ (k : ℕ). 2 ^ k - 1) (sym whole) ∙ e) l M,
+      λ h. refl,
+      λ i off. refl,
+      λ j h. refl,
+    )
 
 cell-number-requires : tie.Need-cell-number-requires Inv-loop μ-loop
 cell-number-requires c κs =
-    let pre = c .before .before .before .before .before .pre .0 in
+    let pre = c .before .before .before .before .before .pre in
     (omega (arith, c .before .loop-test .taken, pre .1 .memory .few), pre .0 .target, pre .0 .source)
 
 access-one-requires : tie.Need-access-one-requires Inv-loop μ-loop
 access-one-requires c κs =
     let turn = c .before .before .before .before .before .before .loop in
-    let pre = c .before .before .before .before .before .before .before .before .before .pre .0 in
-    let some-left = c .before .before .before .before .before .loop-test .taken in
-    let few = pre .1 .memory .few in (
-      omega (arith, some-left, few),
-      accessing-asks _ _ _ _ _ _ _ _ _ _ _ _ _ _ _ _ _ _ _ (turn .inv) some-left few (pre .0),
-      turn .inv .bit-is (omega (arith, some-left, few)),
+    let pre = c .before .before .before .before .before .before .before .before .before .pre in
+    let some-left = c .before .before .before .before .before .loop-test .taken in (
+      omega (arith, some-left, pre .1 .memory .few),
+      asks-still _ _ _ _ _ _ _ (pre .0) (turn .inv .1) (turn .inv .2),
+      turn .inv .4 (omega (arith, some-left, pre .1 .memory .few)),
       c .before .before .before .cell-number .ensures,
     )
 
 same-length : tie.Need-same-length Inv-loop μ-loop
 same-length c =
     let access-one = c .before .before .before .before .before .before .before .access-one in
-    let turn = c .before .before .before .before .before .before .before .before .before .before .before .before .before .before .loop in
-    access-one .kept .1 .0 ∙ turn .inv .cells-size
+    access-one .kept .1 .0 ∙ c .before .before .before .before .before .before .before .before .before .before .before .before .before .before .loop .inv .1
 
 same-length-2 : tie.Need-same-length-2 Inv-loop μ-loop
 same-length-2 c =
     let access-one = c .before .before .before .before .before .before .before .access-one in
-    let turn = c .before .before .before .before .before .before .before .before .before .before .before .before .before .before .loop in
-    access-one .kept .1 .1 .0 ∙ turn .inv .log-size
+    access-one .kept .1 .1 .0 ∙ c .before .before .before .before .before .before .before .before .before .before .before .before .before .before .loop .inv .2
 
 returns : tie.Need-returns Inv-loop μ-loop
 returns c =
     let access-one = c .before .before .before .before .before .before .before .access-one in
-    let at-test = c .before .before .before .before .before .before .before .before .before .before .before .before .before in
-    let some-left = at-test .loop-test .taken in
-    let turn = at-test .before .loop in
-    let start = at-test .before .before .before .before in
-    accessing-stop _ _ _ _ _ _ _ _ _ _ _ _ _ _ _ _ _ _ _ (turn .inv) some-left (start .pre .0 .1 .memory .few) _ (access-one .result) _ _ _
-    (access-one .ensures .0) (access-one .ensures .1) (access-one .ensures .2) (left-odd (start .args .n) (turn .t) some-left) _ _ (c .before .v .given .1) refl
-
--- The cell is one of the cells, and its bank's count has room.
-count-requires : tie.Need-count-requires Inv-loop μ-loop
-count-requires c κs =
-    let access-one = c .before .before .before .before .before .before .before .before .before .access-one in
-    let at-test = c .before .before .before .before .before .before .before .before .before .before .before .before .before .before .before in
-    let turn = at-test .before .loop in
-    let pre = at-test .before .before .before .before .pre .0 in
-    let within = access-one .ensures .3 (c .before .before .before .enum-told .given .1) in (
-      omega (arith, within, c .index .ensures, turn .inv .cells-size, pre .0 .cells-few),
-      accessing-fit _ _ _ _ _ _ _ _ _ _ _ _ _ _ _ _ _ _ _ (turn .inv) (at-test .loop-test .taken) (pre .1 .memory .few),
+    let some-left = c .before .before .before .before .before .before .before .before .before .before .before .before .before .loop-test .taken in
+    let turn = c .before .before .before .before .before .before .before .before .before .before .before .before .before .before .loop in
+    let start = c .before .before .before .before .before .before .before .before .before .before .before .before .before .before .before .before .before in
+    let args = start .args in
+    let memory = args .cells .now in (
+      λ y x o ed ea s e q M.
+          go-stop (accessTurn (shapeBy (args .n) memory) y x) (args .n) s (turn .t) (2 ^ (args .n - turn .t) - 1) (turn .regs) (turn .cells) (turn .log)
+          (turn .inv .3 y x o ed ea s e q M) (access-one .result) _ (access-one .last .0) (access-one .last .1 .0)
+          (access-one .last .1 .1 .0) some-left (left-odd (args .n) (turn .t) some-left)
+          (turn-still (args .n) (turn .t) y x memory _ _ _ _ _ _ _ (turn .inv .1) (access-one .ensures .0 (args .n) y x o some-left ed ea)) (c .before .v .given .1),
+      keeps-on (args .d) (args .n) (turn .t) (args .regs .now) (turn .regs) (access-one .last .0) some-left (turn .inv .5) (access-one .ensures .1),
+      same-more (turn .reach) _ (length memory) (length (turn .cells)) (args .log .now) (turn .log) (access-one .last .1 .1 .0) (turn .inv .6) (turn .inv .1)
+          (access-one .ensures .2),
     )
 
 next-thread : tie.Need-add-t Inv-loop μ-loop
 next-thread c =
-    let at-test = c .before .before .before .before .before .before .before .before .before .before .before .before .before .before .before .before in
-    omega (arith, at-test .loop-test .taken, at-test .before .before .before .before .pre .0 .1 .memory .few)
+    let at-test = c .before .before .before .before .before .before .before .before .before .before .before .before in
+    omega (arith, at-test .loop-test .taken, at-test .before .before .before .before .pre .1 .memory .few)
 
 loop-less : tie.Need-loop-less Inv-loop μ-loop
-loop-less c =
-    let at-test = c .before .before .before .before .before .before .before .before .before .before .before .before .before .before .before .before in
-    omega (arith, at-test .loop-test .taken)
+loop-less c = omega (arith, c .before .before .before .before .before .before .before .before .before .before .before .before .loop-test .taken)
 
 loop-again : tie.Need-loop-again Inv-loop μ-loop
 loop-again c =
-    let made = c .before .before .before .before .enum-told .given .1 in
-    let access-one = c .before .before .before .before .before .before .before .before .before .before .access-one in
-    let number = c .before .before .before .before .before .before .before .before .before .before .before .before .before .before .cell-number .ensures in
-    let at-test = c .before .before .before .before .before .before .before .before .before .before .before .before .before .before .before .before in
-    let some-left = at-test .loop-test .taken in
-    let turn = at-test .before .loop in
-    let start = at-test .before .before .before .before in
-    let n = start .args .n in
-    accessing-in _ _ _ _ _ _ _ _ _ _ _ _ _ _ _ _ _ _ _ (turn .inv) some-left (start .pre .0 .1 .memory .few) _ (access-one .result) _ _ _
-    (access-one .ensures .0) (access-one .ensures .1) (access-one .ensures .2) (left-odd n (turn .t) some-left) _ _ _ _ made
-    (access-one .kept .1 .0) (access-one .kept .1 .1 .0) number (c .before .index .ensures) (c .count .ensures) _ (left-less n (turn .t) some-left)
+    let access-one = c .before .before .before .before .before .before .access-one in
+    let some-left = c .before .before .before .before .before .before .before .before .before .before .before .before .loop-test .taken in
+    let turn = c .before .before .before .before .before .before .before .before .before .before .before .before .before .loop in
+    let args = c .before .before .before .before .before .before .before .before .before .before .before .before .before .before .before .before .args in
+    let memory = args .cells .now in (
+      omega (arith, some-left),
+      access-one .kept .1 .0 ∙ turn .inv .1,
+      access-one .kept .1 .1 .0 ∙ turn .inv .2,
+      λ y x o ed ea s e q M.
+          subst (λ m. Turning (accessTurn (shapeBy (args .n) memory) y x) (args .n) s (turn .t + 1) m (access-one .last .0) (access-one .last .1 .0)
+          (access-one .last .1 .1 .0)) (left-less (args .n) (turn .t) some-left)
+          (go-in (accessTurn (shapeBy (args .n) memory) y x) (args .n) s (turn .t) (2 ^ (args .n - turn .t) - 1) (turn .regs) (turn .cells) (turn .log)
+          (turn .inv .3 y x o ed ea s e q M) (access-one .result) (access-one .last .0) (access-one .last .1 .0) (access-one .last .1 .1 .0) _ _ _
+          some-left (left-odd (args .n) (turn .t) some-left)
+          (turn-still (args .n) (turn .t) y x memory _ _ _ _ _ _ _ (turn .inv .1) (access-one .ensures .0 (args .n) y x o some-left ed ea)) (c .enum-told .given .1) refl refl refl),
+      next-bit (turn .t) (turn .bit) (turn .inv .4),
+      keeps-on (args .d) (args .n) (turn .t) (args .regs .now) (turn .regs) (access-one .last .0) some-left (turn .inv .5) (access-one .ensures .1),
+      same-more (turn .reach) _ (length memory) (length (turn .cells)) (args .log .now) (turn .log) (access-one .last .1 .1 .0) (turn .inv .6) (turn .inv .1)
+          (access-one .ensures .2),
+    )
 
 same-length-3 : tie.Need-same-length-3 Inv-loop μ-loop
-same-length-3 c = c .before .before .loop .inv .cells-size
+same-length-3 c = c .before .loop .inv .1
 
 same-length-4 : tie.Need-same-length-4 Inv-loop μ-loop
-same-length-4 c = c .before .before .loop .inv .log-size
+same-length-4 c = c .before .loop .inv .2
 
 returns-2 : tie.Need-returns-2 Inv-loop μ-loop
 returns-2 c =
-    let turn = c .before .before .loop in
-    let start = c .before .before .before .before .before in
-    let n = start .args .n in
-    let nobody : n - turn .t ≡ 0 = omega (arith, c .before .loop-test .left) in
-    accessing-whole _ _ _ _ _ _ _ _ _ _ _ _ _ _ _ _ _ _ _ (turn .inv) (ap (λ (k : ℕ). 2 ^ k - 1) nobody) (start .pre .0 .1 .memory .few) _
-    (ap (λ k. record { access = Done; reach = turn .reach; cost = k }) (c .cost .ensures))
+    let turn = c .before .loop in
+    let start = c .before .before .before .before in
+    let args = start .args in
+    let memory = args .cells .now in
+    let none-left : 2 ^ (args .n - turn .t) - 1 ≡ 0 = ap (λ (k : ℕ). 2 ^ k - 1) (let z : args .n - turn .t ≡ 0 = omega (arith, c .loop-test .left) in z) in (
+      λ y x o ed ea s e q M.
+          turn-whole (accessTurn (shapeBy (args .n) memory) y x) (args .n) s (turn .t) (2 ^ (args .n - turn .t) - 1) (turn .regs) (turn .cells) (turn .log)
+          (turn .inv .3 y x o ed ea s e q M) none-left,
+      turn .inv .5,
+      turn .inv .6,
+    )
 
 pub access-all-spec : {M : Type 1} → statement M
 access-all-spec =
@@ -126,12 +151,9 @@ access-all-spec =
     same-length
     same-length-2
     returns
-    (λ c κs. search needs)
-    count-requires
     next-thread
     loop-less
     loop-again
-    (λ c κs. search needs)
     same-length-3
     same-length-4
     returns-2)

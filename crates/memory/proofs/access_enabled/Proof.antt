@@ -1,36 +1,55 @@
 -- `memory::access_enabled` does the turns of the enabled threads, one after the other. Assumes nothing.
 use borrow.Author.Needs.{needs}
-use mathlib.Core.Path.{_≡_, refl, ap, _∙_, subst}
+use mathlib.Core.Path.{_≡_, refl, sym, ap, _∙_, subst, subst₂}
 use mathlib.Core.Logic.{⊎-elim}
-use Prim.Native.Nat.{ℕ, _-_, _^_, _<_}
+use Prim.Native.Nat.{ℕ, _+_, _-_, _^_, _≤_, _<_}
 use native.Mathlib.Omega.{arith}
-use Rattle.layout.specs.declared.Access.the-variants.{Done}
-use Rattle.masks.proofs.Bits.{left-some, left-half}
-use Rattle.memory.proofs.Accessing.{Accessing, accessing-start, accessing-asks, accessing-fit, accessing-in, accessing-out, accessing-as, accessing-stop}
-use Rattle.memory.proofs.Accessing.{accessing-whole}
+use lib.ListN.{length}
+use Rattle.spec.specs.Op.{Mem, MEM, opOf}
+use Rattle.spec.specs.Table.{Row}
+use Rattle.spec.specs.LockStep.{accessTurn}
+use Rattle.layout.specs.Memory.{KeptBut, shapeBy}
+use Rattle.layout.specs.Logging.{SameAbove}
+use Rattle.layout.proofs.Reach.{same-more}
+use Rattle.layout.proofs.Turning.{Turns, turn-start, turn-whole, go-in, go-out, go-stop}
+use Rattle.masks.proofs.Bits.{next-bit, left-some, left-half}
+use Rattle.access.proofs.Accesses.{asks-still, turn-still, keeps-on}
 use Rattle.memory.proofs.access_enabled.Statement.{statement}
 use Rattle.memory.proofs.access_enabled.Tie as tie
 
 -- m is what is left of the mask when the threads below t are gone.
 abbrev Inv-loop : tie.InvT-loop
-Inv-loop regs₀ cells₀ log₀ stamps₀ stamp n mask op d a m₀ t₀ bit₀ reach₀ counts₀ most₀ regs cells log stamps m t bit reach counts most =
-    (m < 2 ^ (n - t)) × Accessing op n mask d a stamp regs₀ cells₀ log₀ t m regs cells log stamps bit reach counts most
+Inv-loop regs₀ cells₀ log₀ n mask op d a m₀ t₀ bit₀ reach₀ regs cells log m t bit reach =
+    (t ≤ n) × (m < 2 ^ (n - t)) × (length cells ≡ length cells₀) × (length log ≡ length log₀)
+    × ((y : Mem) (x : Row) → opOf op ≡ MEM y → x .d ≡ d → x .a ≡ a
+    → Turns (accessTurn (shapeBy n cells₀) y x) n mask regs₀ cells₀ log₀ t m regs cells log)
+    × (t < 32 → bit ≡ 2 ^ t) × KeptBut d n regs₀ regs × SameAbove reach (length cells₀) log₀ log
 
 abbrev μ-loop : tie.MeasureT-loop
-μ-loop regs₀ cells₀ log₀ stamps₀ stamp n mask op d a m₀ t₀ bit₀ reach₀ counts₀ most₀ regs cells log stamps m t bit reach counts most = m
+μ-loop regs₀ cells₀ log₀ n mask op d a m₀ t₀ bit₀ reach₀ regs cells log m t bit reach = m
 
 loop-holds : tie.Need-loop-holds Inv-loop μ-loop
 loop-holds c =
     let start = c .before .before in
-    let whole : start .args .n ≡ start .args .n - 0 = omega arith in
-    (subst (λ (k : ℕ). start .args .mask < 2 ^ k) whole (start .pre .0), accessing-start _ _ _ _ _ _ _ _ _ _ _ refl (start .pre .2))
+    let args = start .args in
+    let memory = args .cells .now in (
+      omega arith,
+      subst (λ (k : ℕ). args .mask < 2 ^ k) (let z : args .n ≡ args .n - 0 = omega arith in z) (start .pre .0),
+      refl,
+      refl,
+      λ y x o ed ea s e l M.
+          turn-start (accessTurn (shapeBy (args .n) memory) y x) (args .n) s (args .mask) (args .regs .now) memory (args .log .now) e l M,
+      λ h. refl,
+      λ i off. refl,
+      λ j h. refl,
+    )
 
 cell-number-requires : tie.Need-cell-number-requires Inv-loop μ-loop
 cell-number-requires c κs =
     let turn = c .before .before .before .loop in
     let start = c .before .before .before .before .before .before in
     let pre = start .pre .1 in
-    let some-left = left-some (start .args .n) (turn .t) (turn .m) (turn .inv .0) (c .before .before .loop-test .taken) in
+    let some-left = left-some (start .args .n) (turn .t) (turn .m) (turn .inv .1) (c .before .before .loop-test .taken) in
     (omega (arith, some-left, pre .1 .memory .few), pre .0 .target, pre .0 .source)
 
 access-one-requires : tie.Need-access-one-requires Inv-loop μ-loop
@@ -38,11 +57,10 @@ access-one-requires c κs =
     let turn = c .before .before .before .before .before .before .before .loop in
     let start = c .before .before .before .before .before .before .before .before .before .before in
     let pre = start .pre .1 in
-    let few = pre .1 .memory .few in
-    let some-left = left-some (start .args .n) (turn .t) (turn .m) (turn .inv .0) (c .before .before .before .before .before .before .loop-test .taken) in (
-      omega (arith, some-left, few),
-      accessing-asks _ _ _ _ _ _ _ _ _ _ _ _ _ _ _ _ _ _ _ (turn .inv .1) some-left few (pre .0),
-      turn .inv .1 .bit-is (omega (arith, some-left, few)),
+    let some-left = left-some (start .args .n) (turn .t) (turn .m) (turn .inv .1) (c .before .before .before .before .before .before .loop-test .taken) in (
+      omega (arith, some-left, pre .1 .memory .few),
+      asks-still _ _ _ _ _ _ _ (pre .0) (turn .inv .2) (turn .inv .3),
+      turn .inv .5 (omega (arith, some-left, pre .1 .memory .few)),
       c .before .before .before .cell-number .ensures,
     )
 
@@ -50,43 +68,39 @@ same-length : tie.Need-same-length Inv-loop μ-loop
 same-length c =
     let access-one = c .before .before .before .before .before .before .before .access-one in
     let turn = c .before .before .before .before .before .before .before .before .before .before .before .before .before .before .before .loop in
-    access-one .kept .1 .0 ∙ turn .inv .1 .cells-size
+    access-one .kept .1 .0 ∙ turn .inv .2
 
 same-length-2 : tie.Need-same-length-2 Inv-loop μ-loop
 same-length-2 c =
     let access-one = c .before .before .before .before .before .before .before .access-one in
     let turn = c .before .before .before .before .before .before .before .before .before .before .before .before .before .before .before .loop in
-    access-one .kept .1 .1 .0 ∙ turn .inv .1 .log-size
+    access-one .kept .1 .1 .0 ∙ turn .inv .3
 
 returns : tie.Need-returns Inv-loop μ-loop
 returns c =
     let access-one = c .before .before .before .before .before .before .before .access-one in
-    let at-if = c .before .before .before .before .before .before .before .before .before .before .before .before .before in
-    let turn = at-if .before .before .loop in
-    let start = at-if .before .before .before .before .before in
-    let some-left = left-some (start .args .n) (turn .t) (turn .m) (turn .inv .0) (at-if .before .loop-test .taken) in
-    accessing-stop _ _ _ _ _ _ _ _ _ _ _ _ _ _ _ _ _ _ _ (turn .inv .1) some-left (start .pre .1 .1 .memory .few) _ (access-one .result) _ _ _
-    (access-one .ensures .0) (access-one .ensures .1) (access-one .ensures .2) (at-if .if1 .taken) _ _ (c .before .v .given .1) refl
-
--- The cell is one of the cells, and its bank's count has room.
-count-requires : tie.Need-count-requires Inv-loop μ-loop
-count-requires c κs =
-    let access-one = c .before .before .before .before .before .before .before .before .before .access-one in
-    let at-if = c .before .before .before .before .before .before .before .before .before .before .before .before .before .before .before in
-    let turn = at-if .before .before .loop in
-    let start = at-if .before .before .before .before .before in
-    let pre = start .pre .1 in
-    let some-left = left-some (start .args .n) (turn .t) (turn .m) (turn .inv .0) (at-if .before .loop-test .taken) in
-    let within = access-one .ensures .3 (c .before .before .before .enum-told .given .1) in (
-      omega (arith, within, c .index .ensures, turn .inv .1 .cells-size, pre .0 .cells-few),
-      accessing-fit _ _ _ _ _ _ _ _ _ _ _ _ _ _ _ _ _ _ _ (turn .inv .1) some-left (pre .1 .memory .few),
+    let enabled = c .before .before .before .before .before .before .before .before .before .before .before .before .before .if1 .taken in
+    let at-test = c .before .before .before .before .before .before .before .before .before .before .before .before .before .before in
+    let turn = at-test .before .loop in
+    let start = at-test .before .before .before .before in
+    let args = start .args in
+    let memory = args .cells .now in
+    let some-left = left-some (args .n) (turn .t) (turn .m) (turn .inv .1) (at-test .loop-test .taken) in (
+      λ y x o ed ea s e q M.
+          go-stop (accessTurn (shapeBy (args .n) memory) y x) (args .n) s (turn .t) (turn .m) (turn .regs) (turn .cells) (turn .log)
+          (turn .inv .4 y x o ed ea s e q M) (access-one .result) _ (access-one .last .0) (access-one .last .1 .0)
+          (access-one .last .1 .1 .0) some-left enabled
+          (turn-still (args .n) (turn .t) y x memory _ _ _ _ _ _ _ (turn .inv .2) (access-one .ensures .0 (args .n) y x o some-left ed ea)) (c .before .v .given .1),
+      keeps-on (args .d) (args .n) (turn .t) (args .regs .now) (turn .regs) (access-one .last .0) some-left (turn .inv .6) (access-one .ensures .1),
+      same-more (turn .reach) _ (length memory) (length (turn .cells)) (args .log .now) (turn .log) (access-one .last .1 .1 .0) (turn .inv .7) (turn .inv .2)
+          (access-one .ensures .2),
     )
 
 next-thread : tie.Need-add-t Inv-loop μ-loop
 next-thread c =
     let turn = c .before .before .loop in
     let start = c .before .before .before .before .before in
-    let some-left = left-some (start .args .n) (turn .t) (turn .m) (turn .inv .0) (c .before .loop-test .taken) in
+    let some-left = left-some (start .args .n) (turn .t) (turn .m) (turn .inv .1) (c .before .loop-test .taken) in
     omega (arith, some-left, start .pre .1 .1 .memory .few)
 
 loop-less : tie.Need-loop-less Inv-loop μ-loop
@@ -95,35 +109,59 @@ loop-less c = omega (arith, c .before .loop-test .taken)
 loop-again : tie.Need-loop-again Inv-loop μ-loop
 loop-again c =
     let turn = c .before .before .loop in
-    let start = c .before .before .before .before .before in
-    let few = start .pre .1 .1 .memory .few in
-    let some-left = left-some (start .args .n) (turn .t) (turn .m) (turn .inv .0) (c .before .loop-test .taken) in (
-      left-half (start .args .n) (turn .t) (turn .m) some-left (turn .inv .0),
-      ⊎-elim
-          (λ w.
-          let access-one = w .6 in
-          accessing-as _ _ _ _ _ _ _ _ _ _ _ _ _ _ _ _ _ _ _ _ _ _ _ _ _ _ (w .17) (w .18) (w .19) (w .20) (w .21) (w .22) (w .23)
-          (accessing-in _ _ _ _ _ _ _ _ _ _ _ _ _ _ _ _ _ _ _ (turn .inv .1) some-left few _ (access-one .result) _ _ _
-          (access-one .ensures .0) (access-one .ensures .1) (access-one .ensures .2) (w .0 .taken) _ _ _ _ (w .12 .given .1)
-          (access-one .kept .1 .0) (access-one .kept .1 .1 .0) (w .2 .ensures) (w .15 .ensures) (w .16 .ensures) _ refl))
-          (λ w.
-          accessing-as _ _ _ _ _ _ _ _ _ _ _ _ _ _ _ _ _ _ _ _ _ _ _ _ _ _ (w .1) (w .2) (w .3) (w .4) (w .5) (w .6) (w .7)
-          (accessing-out _ _ _ _ _ _ _ _ _ _ _ _ _ _ _ _ _ _ _ (turn .inv .1) some-left few (w .0 .left)))
-          (c .if1 .came),
-    )
+    let args = c .before .before .before .before .before .args in
+    let memory = args .cells .now in
+    let some-left = left-some (args .n) (turn .t) (turn .m) (turn .inv .1) (c .before .loop-test .taken) in
+    let fewer = left-half (args .n) (turn .t) (turn .m) some-left (turn .inv .1) in
+    ⊎-elim
+    (λ w. (
+      omega (arith, some-left),
+      fewer,
+      ap length (w .14) ∙ w .6 .kept .1 .0 ∙ turn .inv .2,
+      ap length (w .15) ∙ w .6 .kept .1 .1 .0 ∙ turn .inv .3,
+      λ y x o ed ea s e q M.
+          go-in (accessTurn (shapeBy (args .n) memory) y x) (args .n) s (turn .t) (turn .m) (turn .regs) (turn .cells) (turn .log)
+          (turn .inv .4 y x o ed ea s e q M) (w .6 .result) (w .6 .last .0) (w .6 .last .1 .0) (w .6 .last .1 .1 .0) _ _ _ some-left (w .0 .taken)
+          (turn-still (args .n) (turn .t) y x memory _ _ _ _ _ _ _ (turn .inv .2) (w .6 .ensures .0 (args .n) y x o some-left ed ea))
+          (w .12 .given .1) (w .13) (w .14) (w .15),
+      next-bit (turn .t) (turn .bit) (turn .inv .5),
+      keeps-on (args .d) (args .n) (turn .t) (args .regs .now) (turn .regs) (c .if1 .regs) some-left (turn .inv .6)
+          (subst (KeptBut (args .d) (turn .t + 1) (turn .regs)) (sym (w .13)) (w .6 .ensures .1)),
+      subst₂ (λ h l. SameAbove h (length memory) (args .log .now) l) (sym (w .16)) (sym (w .15))
+          (same-more (turn .reach) _ (length memory) (length (turn .cells)) (args .log .now) (turn .log) (w .6 .last .1 .1 .0) (turn .inv .7) (turn .inv .2)
+          (w .6 .ensures .2)),
+    ))
+    (λ w. (
+      omega (arith, some-left),
+      fewer,
+      ap length (w .2) ∙ turn .inv .2,
+      ap length (w .3) ∙ turn .inv .3,
+      λ y x o ed ea s e q M.
+          go-out (accessTurn (shapeBy (args .n) memory) y x) (args .n) s (turn .t) (turn .m) (turn .regs) (turn .cells) (turn .log)
+          (turn .inv .4 y x o ed ea s e q M) _ _ _ some-left (w .0 .left) (w .1) (w .2) (w .3),
+      next-bit (turn .t) (turn .bit) (turn .inv .5),
+      subst (KeptBut (args .d) (args .n) (args .regs .now)) (sym (w .1)) (turn .inv .6),
+      subst₂ (λ h l. SameAbove h (length memory) (args .log .now) l) (sym (w .4)) (sym (w .3)) (turn .inv .7),
+    ))
+    (c .if1 .came)
 
 same-length-3 : tie.Need-same-length-3 Inv-loop μ-loop
-same-length-3 c = c .before .before .loop .inv .1 .cells-size
+same-length-3 c = c .before .loop .inv .2
 
 same-length-4 : tie.Need-same-length-4 Inv-loop μ-loop
-same-length-4 c = c .before .before .loop .inv .1 .log-size
+same-length-4 c = c .before .loop .inv .3
 
 returns-2 : tie.Need-returns-2 Inv-loop μ-loop
 returns-2 c =
-    let turn = c .before .before .loop in
-    accessing-whole _ _ _ _ _ _ _ _ _ _ _ _ _ _ _ _ _ _ _ (turn .inv .1) (c .before .loop-test .left)
-    (c .before .before .before .before .before .pre .1 .1 .memory .few) _
-    (ap (λ k. record { access = Done; reach = turn .reach; cost = k }) (c .cost .ensures))
+    let turn = c .before .loop in
+    let args = c .before .before .before .before .args in
+    let memory = args .cells .now in (
+      λ y x o ed ea s e q M.
+          turn-whole (accessTurn (shapeBy (args .n) memory) y x) (args .n) s (turn .t) (turn .m) (turn .regs) (turn .cells) (turn .log)
+          (turn .inv .4 y x o ed ea s e q M) (c .loop-test .left),
+      turn .inv .6,
+      turn .inv .7,
+    )
 
 pub access-enabled-spec : {M : Type 1} → statement M
 access-enabled-spec =
@@ -138,12 +176,9 @@ access-enabled-spec =
     same-length
     same-length-2
     returns
-    (λ c κs. search needs)
-    count-requires
     next-thread
     loop-less
     loop-again
-    (λ c κs. search needs)
     same-length-3
     same-length-4
     returns-2)

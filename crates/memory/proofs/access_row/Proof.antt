@@ -6,7 +6,7 @@ use Rattle.memory.proofs.access_row.Tie as tie
 
 returns : tie.Need-returns
 returns c =
-    let all-enabled = c .before .before .before .before .before .before .before .before .before in
+    let all-enabled = c .before .before .before .before .before .before .before .before in
     rw (all-enabled .if1 .taken ∙ all-enabled .before .all .ensures) (c .before .before .before .before .full-row .ensures)
 
 pub access-row-spec : {M : Type 1} → statement M

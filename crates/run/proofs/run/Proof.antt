@@ -21,12 +21,12 @@ use Rattle.run.proofs.run.Statement.{statement}
 use Rattle.run.proofs.run.Tie as tie
 
 abbrev Inv-loop : tie.InvT-loop
-Inv-loop table ends n limit cells₀ log₀ records₀ counts₀ count regs₀ saved₀ openers₀ stamps₀ s₀ cells log records counts regs saved openers stamps s =
+Inv-loop table ends n limit cells₀ log₀ records₀ counts₀ count regs₀ saved₀ openers₀ stamps₀ memo₀ s₀ cells log records counts regs saved openers stamps memo s =
     (length cells ≡ length cells₀) × (length log ≡ length log₀) × (length records ≡ length records₀)
-    × Going table n limit cells₀ records₀ s regs cells log saved openers counts stamps records
+    × Going table n limit cells₀ records₀ s regs cells log saved openers counts stamps memo records
 
 abbrev μ-loop : tie.MeasureT-loop
-μ-loop table ends n limit cells₀ log₀ records₀ counts₀ count regs₀ saved₀ openers₀ stamps₀ s₀ cells log records counts regs saved openers stamps s = limit - s .rows
+μ-loop table ends n limit cells₀ log₀ records₀ counts₀ count regs₀ saved₀ openers₀ stamps₀ memo₀ s₀ cells log records counts regs saved openers stamps memo s = limit - s .rows
 
 start-requires : tie.Need-start-requires Inv-loop μ-loop
 start-requires c κs = c .before .before .before .before .before .before .before .before .before .before .before .before .before .pre .2
@@ -60,12 +60,12 @@ ended-requires c κs =
     let start = at-turn .before .before .before .before .before .before .before .before .before .before .before .before .before .before .before in
     let args = start .args in (
       go-row (args .table .now) (args .ends .now) (args .n) (args .limit) (args .cells .now) (at-turn .before .before .before .before .before .launch .last .0)
-          (turn .s) (turn .regs) (turn .cells) (turn .log) (turn .saved) (turn .openers) (turn .counts) (turn .stamps) (turn .records) going (start .pre .0),
+          (turn .s) (turn .regs) (turn .cells) (turn .log) (turn .saved) (turn .openers) (turn .counts) (turn .stamps) (turn .memo) (turn .records) going (start .pre .0),
       go-room (args .table .now) (args .ends .now) (args .n) (args .limit) (args .cells .now) (at-turn .before .before .before .before .before .launch .last .0)
-          (turn .s) (turn .regs) (turn .cells) (turn .log) (turn .saved) (turn .openers) (turn .counts) (turn .stamps) (turn .records) going (start .pre .0)
+          (turn .s) (turn .regs) (turn .cells) (turn .log) (turn .saved) (turn .openers) (turn .counts) (turn .stamps) (turn .memo) (turn .records) going (start .pre .0)
           (turn .s .since) (omega arith) (start .pre .3),
       go-ends (args .table .now) (args .ends .now) (args .n) (args .limit) (args .cells .now) (at-turn .before .before .before .before .before .launch .last .0)
-          (turn .s) (turn .regs) (turn .cells) (turn .log) (turn .saved) (turn .openers) (turn .counts) (turn .stamps) (turn .records) going (start .pre .0)
+          (turn .s) (turn .regs) (turn .cells) (turn .log) (turn .saved) (turn .openers) (turn .counts) (turn .stamps) (turn .memo) (turn .records) going (start .pre .0)
           (inr spent) (start .pre .3) (records-lent at-turn),
     )
 
@@ -90,70 +90,11 @@ returns c =
     let args = start .args in
     ran-lent _ _ _ _ _ _ _ _ _ _ _ _ (at-turn .before .before .before .before .before .launch .ensures)
     (go-spent (args .table .now) (args .ends .now) (args .n) (args .limit) (args .cells .now) (at-turn .before .before .before .before .before .launch .last .0)
-    (turn .s) (turn .regs) (turn .cells) (turn .log) (turn .saved) (turn .openers) (turn .counts) (turn .stamps) (turn .records) going (start .pre .0)
+    (turn .s) (turn .regs) (turn .cells) (turn .log) (turn .saved) (turn .openers) (turn .counts) (turn .stamps) (turn .memo) (turn .records) going (start .pre .0)
     inside spent (ended .result) (ended .last .0) (ended .last .1 .0) (ended .ensures .0) (ended .ensures .1 .0) (ended .ensures .1 .1))
 
 step-requires : tie.Need-step-requires Inv-loop μ-loop
 step-requires c κs =
-    let unspent = c .before .before .before .before .before .before .before .before .if2 .left in
-    let inside = c .before .before .before .before .before .before .before .before .before .before .if1 .taken in
-    let at-turn = c .before .before .before .before .before .before .before .before .before .before .before .before in
-    let turn = at-turn .loop in
-    let going = turn .inv .3 in
-    let start = at-turn .before .before .before .before .before .before .before .before .before .before .before .before .before .before .before in
-    let args = start .args in
-    let clear = at-turn .before .before .before .before .before .before .before .before .before .clear in
-    let pre = start .pre in (
-      go-ready (args .table .now) (args .ends .now) (args .n) (args .limit) (args .cells .now) (at-turn .before .before .before .before .before .launch .last .0)
-          (turn .s) (turn .regs) (turn .cells) (turn .log) (turn .saved) (turn .openers) (turn .counts) (turn .stamps) (turn .records) going (start .pre .0)
-          inside unspent (pre .1) (pre .3) (omega (arith, turn .inv .0, turn .inv .1, clear .kept .0, pre .4)) (omega (arith, turn .inv .0, pre .5)),
-      go-room (args .table .now) (args .ends .now) (args .n) (args .limit) (args .cells .now) (at-turn .before .before .before .before .before .launch .last .0)
-          (turn .s) (turn .regs) (turn .cells) (turn .log) (turn .saved) (turn .openers) (turn .counts) (turn .stamps) (turn .records) going (start .pre .0)
-          (turn .s .since + 1) (omega arith) (pre .3),
-      going .older,
-      go-asks (args .table .now) (args .ends .now) (args .n) (args .limit) (args .cells .now) (at-turn .before .before .before .before .before .launch .last .0)
-          (turn .s) (turn .regs) (turn .cells) (turn .log) (turn .saved) (turn .openers) (turn .counts) (turn .stamps) (turn .records) going (start .pre .0)
-          unspent (pre .3) (records-lent at-turn),
-    )
-
-loop-less : tie.Need-loop-less Inv-loop μ-loop
-loop-less c =
-    let at-step = c .before .before .before .before .before .before .before .before .before in
-    let unspent = at-step .before .before .before .before .before .before .before .before .before .if2 .left in
-    let turn = at-step .before .before .before .before .before .before .before .before .before .before .before .before .before .loop in
-    let C = subst (Counts (turn .s)) (c .before .z .given .1) (at-step .step .ensures .0 .counts) in
-    omega (arith, C .rows-one, turn .inv .3 .rows-most, unspent)
-
-loop-again : tie.Need-loop-again Inv-loop μ-loop
-loop-again c =
-    let at-step = c .before .before .before .before .before .before .before .before .before in
-    let step = at-step .step in
-    let unspent = at-step .before .before .before .before .before .before .before .before .before .if2 .left in
-    let inside = at-step .before .before .before .before .before .before .before .before .before .before .before .if1 .taken in
-    let at-turn = at-step .before .before .before .before .before .before .before .before .before .before .before .before .before in
-    let turn = at-turn .loop in
-    let going = turn .inv .3 in
-    let start = at-turn .before .before .before .before .before .before .before .before .before .before .before .before .before .before .before in
-    let args = start .args in (
-      step .kept .1 .1 .1 .1 .0 ∙ turn .inv .0,
-      step .kept .1 .1 .1 .1 .1 .0 ∙ turn .inv .1,
-      step .kept .1 .1 .1 .1 .1 .1 .1 .1 .1 .1 .0 ∙ turn .inv .2,
-      go-next (args .table .now) (args .ends .now) (args .n) (args .limit) (args .cells .now) (at-turn .before .before .before .before .before .launch .last .0)
-          (turn .s) (turn .regs) (turn .cells) (turn .log) (turn .saved) (turn .openers) (turn .counts) (turn .stamps) (turn .records) going (start .pre .0)
-          inside unspent (turn .inv .0) (step .result) _ _ _ _ _ _ _ _ (step .ensures .0) (step .ensures .1) (step .ensures .2) _ (c .before .z .given .1),
-    )
-
--- A row that stops.
-stops : (c : tie.After-step Inv-loop μ-loop) (v : Verdict) (s′ : State) → c .step .result ≡ next.Stop v s′
-    → let at-turn = c .before .before .before .before .before .before .before .before .before .before .before .before .before in
-    let start = at-turn .before .before .before .before .before .before .before .before .before .before .before .before .before .before .before in
-    let args = start .args in
-    let left = c .step .last .1 .1 .1 .1 in
-    let T = rowsOf (args .table .now) in
-    Stops (lockstep T (args .n) (args .cells .now) (args .limit)) (intervalRecords T (args .n) (args .cells .now) (args .limit)) (at-turn .before .before .before .before .before .launch .last .0)
-    v s′ (left .0) (left .1 .0) (left .1 .1 .1 .1 .0) (left .1 .1 .1 .1 .1 .1 .0)
-stops c v s′ e =
-    let step = c .step in
     let unspent = c .before .before .before .before .before .before .before .before .before .if2 .left in
     let inside = c .before .before .before .before .before .before .before .before .before .before .before .if1 .taken in
     let at-turn = c .before .before .before .before .before .before .before .before .before .before .before .before .before in
@@ -161,10 +102,70 @@ stops c v s′ e =
     let going = turn .inv .3 in
     let start = at-turn .before .before .before .before .before .before .before .before .before .before .before .before .before .before .before in
     let args = start .args in
+    let clear = at-turn .before .before .before .before .before .before .before .before .before .clear in
+    let pre = start .pre in (
+      go-ready (args .table .now) (args .ends .now) (args .n) (args .limit) (args .cells .now) (at-turn .before .before .before .before .before .launch .last .0)
+          (turn .s) (turn .regs) (turn .cells) (turn .log) (turn .saved) (turn .openers) (turn .counts) (turn .stamps) (turn .memo) (turn .records) going (start .pre .0)
+          inside unspent (pre .1) (pre .3) (omega (arith, turn .inv .0, turn .inv .1, clear .kept .0, pre .4)) (omega (arith, turn .inv .0, pre .5)),
+      go-room (args .table .now) (args .ends .now) (args .n) (args .limit) (args .cells .now) (at-turn .before .before .before .before .before .launch .last .0)
+          (turn .s) (turn .regs) (turn .cells) (turn .log) (turn .saved) (turn .openers) (turn .counts) (turn .stamps) (turn .memo) (turn .records) going (start .pre .0)
+          (turn .s .since + 1) (omega arith) (pre .3),
+      going .older,
+      going .remembered,
+      go-asks (args .table .now) (args .ends .now) (args .n) (args .limit) (args .cells .now) (at-turn .before .before .before .before .before .launch .last .0)
+          (turn .s) (turn .regs) (turn .cells) (turn .log) (turn .saved) (turn .openers) (turn .counts) (turn .stamps) (turn .memo) (turn .records) going (start .pre .0)
+          unspent (pre .3) (records-lent at-turn),
+    )
+
+loop-less : tie.Need-loop-less Inv-loop μ-loop
+loop-less c =
+    let at-step = c .before .before .before .before .before .before .before .before .before in
+    let unspent = at-step .before .before .before .before .before .before .before .before .before .before .if2 .left in
+    let turn = at-step .before .before .before .before .before .before .before .before .before .before .before .before .before .before .loop in
+    let C = subst (Counts (turn .s)) (c .before .z .given .1) (at-step .step .ensures .0 .counts) in
+    omega (arith, C .rows-one, turn .inv .3 .rows-most, unspent)
+
+loop-again : tie.Need-loop-again Inv-loop μ-loop
+loop-again c =
+    let at-step = c .before .before .before .before .before .before .before .before .before in
+    let step = at-step .step in
+    let unspent = at-step .before .before .before .before .before .before .before .before .before .before .if2 .left in
+    let inside = at-step .before .before .before .before .before .before .before .before .before .before .before .before .if1 .taken in
+    let at-turn = at-step .before .before .before .before .before .before .before .before .before .before .before .before .before .before in
+    let turn = at-turn .loop in
+    let going = turn .inv .3 in
+    let start = at-turn .before .before .before .before .before .before .before .before .before .before .before .before .before .before .before in
+    let args = start .args in (
+      step .kept .1 .1 .1 .1 .0 ∙ turn .inv .0,
+      step .kept .1 .1 .1 .1 .1 .0 ∙ turn .inv .1,
+      step .kept .1 .1 .1 .1 .1 .1 .1 .1 .1 .1 .1 .0 ∙ turn .inv .2,
+      go-next (args .table .now) (args .ends .now) (args .n) (args .limit) (args .cells .now) (at-turn .before .before .before .before .before .launch .last .0)
+          (turn .s) (turn .regs) (turn .cells) (turn .log) (turn .saved) (turn .openers) (turn .counts) (turn .stamps) (turn .memo) (turn .records) going (start .pre .0)
+          inside unspent (turn .inv .0) (start .pre .5) (step .result) _ _ _ _ _ _ _ _ _ (step .ensures .0) (step .ensures .1) (step .ensures .2) _ (c .before .z .given .1),
+    )
+
+-- A row that stops.
+stops : (c : tie.After-step Inv-loop μ-loop) (v : Verdict) (s′ : State) → c .step .result ≡ next.Stop v s′
+    → let at-turn = c .before .before .before .before .before .before .before .before .before .before .before .before .before .before in
+    let start = at-turn .before .before .before .before .before .before .before .before .before .before .before .before .before .before .before in
+    let args = start .args in
+    let left = c .step .last .1 .1 .1 .1 in
+    let T = rowsOf (args .table .now) in
+    Stops (lockstep T (args .n) (args .cells .now) (args .limit)) (intervalRecords T (args .n) (args .cells .now) (args .limit)) (at-turn .before .before .before .before .before .launch .last .0)
+    v s′ (left .0) (left .1 .0) (left .1 .1 .1 .1 .0) (left .1 .1 .1 .1 .1 .1 .1 .0)
+stops c v s′ e =
+    let step = c .step in
+    let unspent = c .before .before .before .before .before .before .before .before .before .before .if2 .left in
+    let inside = c .before .before .before .before .before .before .before .before .before .before .before .before .if1 .taken in
+    let at-turn = c .before .before .before .before .before .before .before .before .before .before .before .before .before .before in
+    let turn = at-turn .loop in
+    let going = turn .inv .3 in
+    let start = at-turn .before .before .before .before .before .before .before .before .before .before .before .before .before .before .before in
+    let args = start .args in
     go-stops (args .table .now) (args .ends .now) (args .n) (args .limit) (args .cells .now) (at-turn .before .before .before .before .before .launch .last .0)
-    (turn .s) (turn .regs) (turn .cells) (turn .log) (turn .saved) (turn .openers) (turn .counts) (turn .stamps) (turn .records) going (start .pre .0)
-    inside unspent (turn .inv .0) (step .result) _ _ _ _ _ _ _ _ (step .ensures .0) (step .ensures .1) (step .ensures .2) v s′ e (start .pre .3)
-    (omega (arith, records-lent at-turn, step .kept .1 .1 .1 .1 .1 .1 .1 .1 .1 .1 .0))
+    (turn .s) (turn .regs) (turn .cells) (turn .log) (turn .saved) (turn .openers) (turn .counts) (turn .stamps) (turn .memo) (turn .records) going (start .pre .0)
+    inside unspent (turn .inv .0) (start .pre .5) (step .result) _ _ _ _ _ _ _ _ _ (step .ensures .0) (step .ensures .1) (step .ensures .2) v s′ e (start .pre .3)
+    (omega (arith, records-lent at-turn, step .kept .1 .1 .1 .1 .1 .1 .1 .1 .1 .1 .1 .0))
 
 stop-requires : tie.Need-stop-requires Inv-loop μ-loop
 stop-requires c κs = let S = stops (c .before .before .before .before .before .before .before .before .before .before) _ _ (c .before .before .v .given .1) in (S .fits, S .room)
@@ -176,19 +177,19 @@ ended-requires-2 c κs =
     (S .row, S .rest (stop .last .0) (stop .ensures), S .ends)
 
 same-length-4 : tie.Need-same-length-4 Inv-loop μ-loop
-same-length-4 c = let at-step = c .before .before .before .before .before .before .before .before .before .before .before .before .before .before .before .before in at-step .step .kept .1 .1 .1 .1 .0 ∙ at-step .before .before .before .before .before .before .before .before .before .before .before .before .before .loop .inv .0
+same-length-4 c = let at-step = c .before .before .before .before .before .before .before .before .before .before .before .before .before .before .before .before in at-step .step .kept .1 .1 .1 .1 .0 ∙ at-step .before .before .before .before .before .before .before .before .before .before .before .before .before .before .loop .inv .0
 
 same-length-5 : tie.Need-same-length-5 Inv-loop μ-loop
 same-length-5 c =
     let at-step = c .before .before .before .before .before .before .before .before .before .before .before .before .before .before .before .before in
-    let at-turn = at-step .before .before .before .before .before .before .before .before .before .before .before .before .before in
+    let at-turn = at-step .before .before .before .before .before .before .before .before .before .before .before .before .before .before in
     at-step .step .kept .1 .1 .1 .1 .1 .0 ∙ at-turn .loop .inv .1 ∙ at-turn .before .before .before .before .before .before .before .before .before .clear .kept .0
 
 same-length-6 : tie.Need-same-length-6 Inv-loop μ-loop
 same-length-6 c =
     let at-step = c .before .before .before .before .before .before .before .before .before .before .before .before .before .before .before .before in
-    let at-turn = at-step .before .before .before .before .before .before .before .before .before .before .before .before .before in
-    c .before .before .ended2 .kept .0 ∙ at-step .step .kept .1 .1 .1 .1 .1 .1 .1 .1 .1 .1 .0 ∙ at-turn .loop .inv .2 ∙ at-turn .before .before .before .before .before .launch .kept .0
+    let at-turn = at-step .before .before .before .before .before .before .before .before .before .before .before .before .before .before in
+    c .before .before .ended2 .kept .0 ∙ at-step .step .kept .1 .1 .1 .1 .1 .1 .1 .1 .1 .1 .1 .0 ∙ at-turn .loop .inv .2 ∙ at-turn .before .before .before .before .before .launch .kept .0
 
 returns-2 : tie.Need-returns-2 Inv-loop μ-loop
 returns-2 c =
@@ -196,7 +197,7 @@ returns-2 c =
     let stop = c .before .before .before .before .before .stop in
     let at-step = c .before .before .before .before .before .before .before .before .before .before .before .before .before .before .before .before in
     let S = stops at-step _ _ (c .before .before .before .before .before .before .before .before .v .given .1) in
-    ran-lent _ _ _ _ _ _ _ _ _ _ _ _ (at-step .before .before .before .before .before .before .before .before .before .before .before .before .before .before .before .before .before .before .launch .ensures)
+    ran-lent _ _ _ _ _ _ _ _ _ _ _ _ (at-step .before .before .before .before .before .before .before .before .before .before .before .before .before .before .before .before .before .before .before .launch .ensures)
     (S .ran (stop .last .0) (ended .last .1 .0) (ended .last .0) (ended .result) (stop .ensures) (ended .ensures .0) (ended .ensures .1 .0) (ended .ensures .1 .1))
 
 ended-requires-3 : tie.Need-ended-requires-3 Inv-loop μ-loop
@@ -208,12 +209,12 @@ ended-requires-3 c κs =
     let start = at-turn .before .before .before .before .before .before .before .before .before .before .before .before .before .before .before in
     let args = start .args in (
       go-row (args .table .now) (args .ends .now) (args .n) (args .limit) (args .cells .now) (at-turn .before .before .before .before .before .launch .last .0)
-          (turn .s) (turn .regs) (turn .cells) (turn .log) (turn .saved) (turn .openers) (turn .counts) (turn .stamps) (turn .records) going (start .pre .0),
+          (turn .s) (turn .regs) (turn .cells) (turn .log) (turn .saved) (turn .openers) (turn .counts) (turn .stamps) (turn .memo) (turn .records) going (start .pre .0),
       go-room (args .table .now) (args .ends .now) (args .n) (args .limit) (args .cells .now) (at-turn .before .before .before .before .before .launch .last .0)
-          (turn .s) (turn .regs) (turn .cells) (turn .log) (turn .saved) (turn .openers) (turn .counts) (turn .stamps) (turn .records) going (start .pre .0)
+          (turn .s) (turn .regs) (turn .cells) (turn .log) (turn .saved) (turn .openers) (turn .counts) (turn .stamps) (turn .memo) (turn .records) going (start .pre .0)
           (turn .s .since) (omega arith) (start .pre .3),
       go-ends (args .table .now) (args .ends .now) (args .n) (args .limit) (args .cells .now) (at-turn .before .before .before .before .before .launch .last .0)
-          (turn .s) (turn .regs) (turn .cells) (turn .log) (turn .saved) (turn .openers) (turn .counts) (turn .stamps) (turn .records) going (start .pre .0)
+          (turn .s) (turn .regs) (turn .cells) (turn .log) (turn .saved) (turn .openers) (turn .counts) (turn .stamps) (turn .memo) (turn .records) going (start .pre .0)
           (inl at-end) (start .pre .3) (records-lent at-turn),
     )
 
@@ -237,7 +238,7 @@ returns-3 c =
     let args = start .args in
     ran-lent _ _ _ _ _ _ _ _ _ _ _ _ (at-turn .before .before .before .before .before .launch .ensures)
     (go-passed (args .table .now) (args .ends .now) (args .n) (args .limit) (args .cells .now) (at-turn .before .before .before .before .before .launch .last .0)
-    (turn .s) (turn .regs) (turn .cells) (turn .log) (turn .saved) (turn .openers) (turn .counts) (turn .stamps) (turn .records) going (start .pre .0)
+    (turn .s) (turn .regs) (turn .cells) (turn .log) (turn .saved) (turn .openers) (turn .counts) (turn .stamps) (turn .memo) (turn .records) going (start .pre .0)
     at-end (ended .result) (ended .last .0) (ended .last .1 .0) (ended .ensures .0) (ended .ensures .1 .0) (ended .ensures .1 .1))
 
 pub run-spec : {M : Type 1} → statement M

@@ -85,16 +85,16 @@ returns c =
         openers-are = slots .1;
       },
       counts-on code (args .s) (next.Go (c .moved .result)) (args .counts .now) (omega (arith, computes)) (start .pre .1 .size) (moved-on (args .s) (c .moved .result) (c .moved .ensures)),
-      recorded-plain code (args .n) _ (args .s) (args .records .now) (args .stamps .now) (next.Go (c .moved .result)) _ (λ h l. omega (arith, computes)) (start .pre .2)
+      recorded-plain code (args .n) _ (args .s) (args .records .now) (args .stamps .now) (args .memo .now) (next.Go (c .moved .result)) _ (λ h l. omega (arith, computes)) (start .pre .2) (start .pre .3)
           (sym (after-plain (args .s) (c .moved .result) (args .records .now) (ap (λ z. z .barriers) (c .moved .ensures)))),
     )
 
 access-row-requires : tie.Need-access-row-requires
 access-row-requires c κs =
-    let accesses = c .before .before .before .before .before .if2 .taken in
-    let no-computing = c .before .before .before .before .before .before .if1 .left in
-    let a = c .before .before .before .before .before .before .before .before .before .index2 in
-    let at-index = c .before .before .before .before .before .before .before .before .before .before .before in
+    let accesses = c .before .before .before .before .before .before .if2 .taken in
+    let no-computing = c .before .before .before .before .before .before .before .if1 .left in
+    let a = c .before .before .before .before .before .before .before .before .before .before .index2 in
+    let at-index = c .before .before .before .before .before .before .before .before .before .before .before .before in
     let d = at-index .index in
     let start = at-index .before .before .before .before .before .before .before in
     let pre = start .pre .0 in
@@ -112,16 +112,17 @@ access-row-requires c κs =
       record { state = pre .stands .state; memory = pre .stands .rep .memory },
       start .pre .2,
       start .pre .3,
+      start .pre .4,
     )
 
 returns-2 : tie.Need-returns-2
 returns-2 c =
     let at-access-row = c .before .before .before .before .before .before in
     let access-row = at-access-row .access-row in
-    let accesses = at-access-row .before .before .before .before .before .before .if2 .taken in
-    let no-computing = at-access-row .before .before .before .before .before .before .before .if1 .left in
-    let a = at-access-row .before .before .before .before .before .before .before .before .before .before .index2 in
-    let at-index = at-access-row .before .before .before .before .before .before .before .before .before .before .before .before in
+    let accesses = at-access-row .before .before .before .before .before .before .before .if2 .taken in
+    let no-computing = at-access-row .before .before .before .before .before .before .before .before .if1 .left in
+    let a = at-access-row .before .before .before .before .before .before .before .before .before .before .before .index2 in
+    let at-index = at-access-row .before .before .before .before .before .before .before .before .before .before .before .before .before in
     let d = at-index .index in
     let start = at-index .before .before .before .before .before .before .before in
     let args = start .args in
@@ -143,7 +144,7 @@ returns-2 c =
         openers-are = slots .1;
       },
       counts-on code (args .s) (access-row .result) (args .counts .now) accesses (start .pre .1 .size) (access-row .ensures .2),
-      recorded-at (args .s) _ _ _ _ _ _ _ _ _ _ (args .regs .now) (d .ensures .0) (a .ensures .0) (access-row .ensures .3),
+      recorded-at (args .s) _ _ _ _ _ _ _ _ _ _ _ (args .regs .now) (d .ensures .0) (a .ensures .0) (access-row .ensures .3),
     )
 
 construct-row-requires : tie.Need-construct-row-requires
@@ -213,7 +214,7 @@ returns-3 c =
         openers-are = o .ensures .openers-are;
       },
       counts-construct code (args .s) (o .result) (c .settle .result) (args .counts .now) (c .settle .last .0) constructs since settled,
-      recorded-plain code (args .n) _ (args .s) (args .records .now) (args .stamps .now) (next.Go (c .settle .result)) _ (λ h l. omega (arith, no-access)) (start .pre .2)
+      recorded-plain code (args .n) _ (args .s) (args .records .now) (args .stamps .now) (args .memo .now) (next.Go (c .settle .result)) _ (λ h l. omega (arith, no-access)) (start .pre .2) (start .pre .3)
           (sym (after-plain (args .s) (c .settle .result) (args .records .now) same-barriers)),
     )
 
@@ -244,7 +245,7 @@ returns-4 c =
         openers-are = slots .1;
       },
       counts-barrier code (args .n) (args .s) (barrier-row .result) (args .counts .now) e (start .pre .1 .size) (barrier-row .ensures .0),
-      recorded-plain code (args .n) _ (args .s) (args .records .now) (args .stamps .now) (barrier-row .result) _ (λ h l. omega (arith, e)) (start .pre .2) (barrier-row .ensures .2),
+      recorded-plain code (args .n) _ (args .s) (args .records .now) (args .stamps .now) (args .memo .now) (barrier-row .result) _ (λ h l. omega (arith, e)) (start .pre .2) (start .pre .3) (barrier-row .ensures .2),
     )
 
 pub step-spec : {M : Type 1} → statement M

@@ -1,0 +1,63 @@
+-- `banks::at_one_distance` meets its contract. Assumes nothing.
+use borrow.Author.Needs.{needs}
+use mathlib.Core.Path.{_≡_, refl, sym, ap, _∙_}
+use Prim.Native.Nat.{ℕ, _+_, _-_, _*_}
+use native.Mathlib.Omega.{arith}
+use borrow.Author.Tests.{eqb-true}
+use lib.ListN.{getD}
+use Rattle.spec.specs.Word.{sub}
+use Rattle.banks.specs.Counting.{numbersIn}
+use Rattle.banks.specs.Remembering.{lanesFrom}
+use Rattle.banks.proofs.Distance.{Comparing, comparing-none, comparing-more, comparing-all, equal-one}
+use Rattle.banks.proofs.at_one_distance.Statement.{statement}
+use Rattle.banks.proofs.at_one_distance.Tie as tie
+
+abbrev Inv-loop : tie.InvT-loop
+Inv-loop regs r memo at n distance same₀ t₀ same t = Comparing (numbersIn regs r) (lanesFrom memo at) distance n same t
+
+abbrev μ-loop : tie.MeasureT-loop
+μ-loop regs r memo at n distance same₀ t₀ same t = n - t
+
+loop-holds : tie.Need-loop-holds Inv-loop μ-loop
+loop-holds c = comparing-none _ _ _ _
+
+add-same : tie.Need-add-same Inv-loop μ-loop
+add-same c =
+    let turn = c .before .before .before .before .before .loop in
+    let start = c .before .before .before .before .before .before .before .before .before in
+    let one = equal-one (c .before .sub2 .result) (c .before .before .before .before .before .before .sub .result) in
+    omega (arith, one .0, c .eq .ensures, turn .inv .few, turn .inv .come, start .pre .4)
+
+loop-again : tie.Need-loop-again Inv-loop μ-loop
+loop-again c =
+    let turn = c .before .before .before .before .before .loop in
+    comparing-more _ _ _ _ _ _ (turn .inv) _ _ (c .before .before .before .before .loop-test .taken) (c .before .sub2 .ensures) (c .eq .ensures)
+
+returns : tie.Need-returns Inv-loop μ-loop
+returns c all =
+    let turn = c .before .loop in
+    let start = c .before .before .before .before .before in
+    let alike = comparing-all _ _ _ _ _ _ (turn .inv) (c .loop-test .left) (eqb-true _ _ all) in
+    let regs = start .args .regs .now in
+    let first : numbersIn regs (start .args .r) 0 ≡ getD regs (start .args .r * 32) 0 =
+    ap (λ (i : ℕ). getD regs i 0) (let z : start .args .r * 32 + 0 ≡ start .args .r * 32 = omega arith in z) in
+    let memo = start .args .memo .now in
+    let second : lanesFrom memo (start .args .at) 0 ≡ getD memo (start .args .at) 0 =
+    ap (λ (i : ℕ). getD memo i 0) (let z : start .args .at + 0 ≡ start .args .at = omega arith in z) in
+    λ t h. alike t h ∙ c .before .before .sub .ensures ∙ sym (λ i. sub (first i) (second i))
+
+pub at-one-distance-spec : {M : Type 1} → statement M
+at-one-distance-spec =
+    tie.close
+    (tie.spec
+    Inv-loop
+    μ-loop
+    (λ c. search needs) (λ c. search needs) (λ c. search needs) (λ c. search needs) (λ c. search needs) (λ c κs. search needs)
+    loop-holds
+    (λ c. search needs) (λ c. search needs) (λ c. search needs) (λ c. search needs) (λ c. search needs) (λ c. search needs) (λ c. search needs)
+    (λ c κs. search needs) (λ c κs. search needs)
+    add-same
+    (λ c. search needs) (λ c. search needs)
+    loop-again
+    (λ c. search needs)
+    returns)

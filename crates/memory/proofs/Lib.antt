@@ -1,2 +1,0 @@
--- Laws of a row's accesses. Assumes nothing.
-pub mod Accessing
