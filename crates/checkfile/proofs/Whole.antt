@@ -160,7 +160,8 @@ module _ (file cells log records output : List ℕ) where
           (subst P (launch-printed file launch (checked-launch (fileLaunch file) byState launch e)) h)
 
   entry : (r : Written) (cells′ log′ records′ output′ : List ℕ) → r ≡ fileAnswer file cells log records output → cells′ ≡ fileCellsAfter file cells log records output
-      → log′ ≡ fileLogAfter file cells log records output → records′ ≡ fileRecordsAfter file cells log records output → output′ ≡ fileOutputAfter file cells log records output → Entry r cells′ log′ records′ output′
+      → log′ ≡ fileLogAfter file cells log records output → records′ ≡ fileRecordsAfter file cells log records output
+      → output′ ≡ fileOutputAfter file cells log records output → Entry r cells′ log′ records′ output′
   unfolding fileAnswer
   entry r cells′ log′ records′ output′ a c l w o =
       let written : (P : List ℕ → Type 0) → P (checkPrints file) → OfWritten P r output′ = λ P h. rw (a, o) (of-written P h) in (

@@ -87,8 +87,10 @@ module _ (table : List ℕ) (threads count limit : ℕ) (cells log records steps
   told-by none o = refl
   told-by (some why) o = refl
 
-  entry : (r : Answer) (cells′ log′ records′ steps′ : List ℕ) → r ≡ bareAnswer table threads count limit cells log records → cells′ ≡ bareCells table threads count limit cells log records
-      → log′ ≡ bareLog table threads count limit cells log records → records′ ≡ bareRecords table threads count limit cells log records → steps′ ≡ bareSteps table threads count limit cells log records steps → Entry r cells′ log′ records′ steps′
+  entry : (r : Answer) (cells′ log′ records′ steps′ : List ℕ) → r ≡ bareAnswer table threads count limit cells log records
+      → cells′ ≡ bareCells table threads count limit cells log records → log′ ≡ bareLog table threads count limit cells log records
+      → records′ ≡ bareRecords table threads count limit cells log records → steps′ ≡ bareSteps table threads count limit cells log records steps
+      → Entry r cells′ log′ records′ steps′
   unfolding bareAnswer
   entry r cells′ log′ records′ steps′ a c l w s = (
     a,
@@ -129,7 +131,8 @@ module _ (table : List ℕ) (threads count limit : ℕ) (cells log records steps
   state-refuses why n t e = refused why (passed byNumbers _ n ∙ passed byTable _ t ∙ found byState why _ e)
 
   pub ran : (o : Outcome) (cells′ log′ records′ steps′ : List ℕ) → byNumbers ≡ none → byTable ≡ none → byState ≡ none
-      → RunIs (lockstep (rowsOf table) threads cells limit) (intervalRecords (rowsOf table) threads cells limit) records o cells′ log′ records′ steps′ → Entry (answer.Ran o) cells′ log′ records′ steps′
+      → RunIs (lockstep (rowsOf table) threads cells limit) (intervalRecords (rowsOf table) threads cells limit) records o cells′ log′ records′ steps′
+      → Entry (answer.Ran o) cells′ log′ records′ steps′
   unfolding bareRefusal bareAnswer bareCells bareLog bareRecords bareSteps answerOf keptIf bareRun bareIntervals bareOutcome
   ran o cells′ log′ records′ steps′ n t s R =
       let e : refusal ≡ none = passed byNumbers _ n ∙ passed byTable _ t ∙ passed byState _ s ∙ ends in

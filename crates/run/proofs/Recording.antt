@@ -39,7 +39,10 @@ intervals-start T L zero s = refl
 intervals-start T L (suc k) s = by (leb (length T) (s .row)) (runRow T L (rowAt T (s .row)) s (rowAt T (s .row) .op))
   where
     by : (b : Bool) (x : Step)
-        → (elim b as (λ c. Intervals) [ true ↦ started (s .row) | false ↦ intervalsAfter (rowCost (rowAt T (s .row)) s (rowAt T (s .row) .op)) s x (intervalsFrom T L k) ]) .first .start ≡ s .row
+        → (elim b as (λ c. Intervals) [
+          | true ↦ started (s .row)
+          | false ↦ intervalsAfter (rowCost (rowAt T (s .row)) s (rowAt T (s .row) .op)) s x (intervalsFrom T L k)
+        ]) .first .start ≡ s .row
     by true x = refl
     by false (continues z) = unfold intervalsAfter withRow in refl
     by false (stops v z) = unfold intervalsAfter in refl

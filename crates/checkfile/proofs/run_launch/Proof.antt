@@ -51,8 +51,9 @@ steps-shared c =
 cells-shared : tie.Need-slice-aggregate-write-report-2
 cells-shared c =
     let at-cells2 = c .before .before .before .before .before .before .before in
-    let place = c .before .before .before .before .before .before .before .before .before .before .before .before .before .before .before .place in
-    let start = c .before .before .before .before .before .before .before .before .before .before .before .before .before .before .before .before .before .before .before .before .before .before .before in
+    let at-place = c .before .before .before .before .before .before .before .before .before .before .before .before .before .before .before in
+    let place = at-place .place in
+    let start = at-place .before .before .before .before .before .before .before .before in
     let pre = start .pre in
     front-length (length (start .args .words .now)) _
     (omega (arith, at-cells2 .cells2 .given .1, placed-length _ _ _ _ _ _ _ _ _ pre _ (place .ensures), pre .fewCells, pre .cellsLent))

@@ -47,9 +47,18 @@ loop-holds c =
           (begun-once (args .records .now) (launch .last .0) some (launch .ensures)),
     )
 
--- The lent list keeps its length.
+-- The lent buffers keep their lengths.
+abbrev start-of : tie.At-loop Inv-loop μ-loop → tie.Start
+start-of c = c .before .before .before .before .before .before .before .before .before .before .before .before .before .before .before
+
+log-kept : (c : tie.At-loop Inv-loop μ-loop) → length (c .loop .log) ≡ length (start-of c .args .log .now)
+log-kept c = c .loop .inv .1 ∙ c .before .before .before .before .before .before .before .before .before .clear .kept .0
+
+records-kept : (c : tie.At-loop Inv-loop μ-loop) → length (c .loop .records) ≡ length (start-of c .args .records .now)
+records-kept c = c .loop .inv .2 ∙ c .before .before .before .before .before .launch .kept .0
+
 records-lent : (c : tie.At-loop Inv-loop μ-loop) → recordsLent ≤ length (c .loop .records)
-records-lent c = let launch = c .before .before .before .before .before .launch in omega (arith, c .loop .inv .2, launch .kept .0, c .before .before .before .before .before .before .before .before .before .before .before .before .before .before .before .pre .6)
+records-lent c = omega (arith, records-kept c, start-of c .pre .6)
 
 ended-requires : tie.Need-ended-requires Inv-loop μ-loop
 ended-requires c κs =
@@ -57,7 +66,7 @@ ended-requires c κs =
     let at-turn = c .before .before .before .before .before .before in
     let turn = at-turn .loop in
     let going = turn .inv .3 in
-    let start = at-turn .before .before .before .before .before .before .before .before .before .before .before .before .before .before .before in
+    let start = start-of at-turn in
     let args = start .args in (
       go-row (args .table .now) (args .ends .now) (args .n) (args .limit) (args .cells .now) (at-turn .before .before .before .before .before .launch .last .0)
           (turn .s) (turn .regs) (turn .cells) (turn .log) (turn .saved) (turn .openers) (turn .counts) (turn .stamps) (turn .memo) (turn .records) going (start .pre .0),
@@ -73,10 +82,10 @@ same-length : tie.Need-same-length Inv-loop μ-loop
 same-length c = c .before .before .before .before .before .before .before .before .before .loop .inv .0
 
 same-length-2 : tie.Need-same-length-2 Inv-loop μ-loop
-same-length-2 c = let at-turn = c .before .before .before .before .before .before .before .before .before in at-turn .loop .inv .1 ∙ at-turn .before .before .before .before .before .before .before .before .before .clear .kept .0
+same-length-2 c = let at-turn = c .before .before .before .before .before .before .before .before .before in log-kept at-turn
 
 same-length-3 : tie.Need-same-length-3 Inv-loop μ-loop
-same-length-3 c = let at-turn = c .before .before .before .before .before .before .before .before .before in c .before .before .ended .kept .0 ∙ at-turn .loop .inv .2 ∙ at-turn .before .before .before .before .before .launch .kept .0
+same-length-3 c = let at-turn = c .before .before .before .before .before .before .before .before .before in c .before .before .ended .kept .0 ∙ records-kept at-turn
 
 returns : tie.Need-returns Inv-loop μ-loop
 returns c =
@@ -86,7 +95,7 @@ returns c =
     let at-turn = c .before .before .before .before .before .before .before .before .before in
     let turn = at-turn .loop in
     let going = turn .inv .3 in
-    let start = at-turn .before .before .before .before .before .before .before .before .before .before .before .before .before .before .before in
+    let start = start-of at-turn in
     let args = start .args in
     ran-lent _ _ _ _ _ _ _ _ _ _ _ _ (at-turn .before .before .before .before .before .launch .ensures)
     (go-spent (args .table .now) (args .ends .now) (args .n) (args .limit) (args .cells .now) (at-turn .before .before .before .before .before .launch .last .0)
@@ -100,7 +109,7 @@ step-requires c κs =
     let at-turn = c .before .before .before .before .before .before .before .before .before .before .before .before .before in
     let turn = at-turn .loop in
     let going = turn .inv .3 in
-    let start = at-turn .before .before .before .before .before .before .before .before .before .before .before .before .before .before .before in
+    let start = start-of at-turn in
     let args = start .args in
     let clear = at-turn .before .before .before .before .before .before .before .before .before .clear in
     let pre = start .pre in (
@@ -134,7 +143,7 @@ loop-again c =
     let at-turn = at-step .before .before .before .before .before .before .before .before .before .before .before .before .before .before in
     let turn = at-turn .loop in
     let going = turn .inv .3 in
-    let start = at-turn .before .before .before .before .before .before .before .before .before .before .before .before .before .before .before in
+    let start = start-of at-turn in
     let args = start .args in (
       step .kept .1 .1 .1 .1 .0 ∙ turn .inv .0,
       step .kept .1 .1 .1 .1 .1 .0 ∙ turn .inv .1,
@@ -147,7 +156,7 @@ loop-again c =
 -- A row that stops.
 stops : (c : tie.After-step Inv-loop μ-loop) (v : Verdict) (s′ : State) → c .step .result ≡ next.Stop v s′
     → let at-turn = c .before .before .before .before .before .before .before .before .before .before .before .before .before .before in
-    let start = at-turn .before .before .before .before .before .before .before .before .before .before .before .before .before .before .before in
+    let start = start-of at-turn in
     let args = start .args in
     let left = c .step .last .1 .1 .1 .1 in
     let T = rowsOf (args .table .now) in
@@ -160,7 +169,7 @@ stops c v s′ e =
     let at-turn = c .before .before .before .before .before .before .before .before .before .before .before .before .before .before in
     let turn = at-turn .loop in
     let going = turn .inv .3 in
-    let start = at-turn .before .before .before .before .before .before .before .before .before .before .before .before .before .before .before in
+    let start = start-of at-turn in
     let args = start .args in
     go-stops (args .table .now) (args .ends .now) (args .n) (args .limit) (args .cells .now) (at-turn .before .before .before .before .before .launch .last .0)
     (turn .s) (turn .regs) (turn .cells) (turn .log) (turn .saved) (turn .openers) (turn .counts) (turn .stamps) (turn .memo) (turn .records) going (start .pre .0)
@@ -177,19 +186,22 @@ ended-requires-2 c κs =
     (S .row, S .rest (stop .last .0) (stop .ensures), S .ends)
 
 same-length-4 : tie.Need-same-length-4 Inv-loop μ-loop
-same-length-4 c = let at-step = c .before .before .before .before .before .before .before .before .before .before .before .before .before .before .before .before in at-step .step .kept .1 .1 .1 .1 .0 ∙ at-step .before .before .before .before .before .before .before .before .before .before .before .before .before .before .loop .inv .0
+same-length-4 c =
+    let at-step = c .before .before .before .before .before .before .before .before .before .before .before .before .before .before .before .before in
+    let at-turn = at-step .before .before .before .before .before .before .before .before .before .before .before .before .before .before in
+    at-step .step .kept .1 .1 .1 .1 .0 ∙ at-turn .loop .inv .0
 
 same-length-5 : tie.Need-same-length-5 Inv-loop μ-loop
 same-length-5 c =
     let at-step = c .before .before .before .before .before .before .before .before .before .before .before .before .before .before .before .before in
     let at-turn = at-step .before .before .before .before .before .before .before .before .before .before .before .before .before .before in
-    at-step .step .kept .1 .1 .1 .1 .1 .0 ∙ at-turn .loop .inv .1 ∙ at-turn .before .before .before .before .before .before .before .before .before .clear .kept .0
+    at-step .step .kept .1 .1 .1 .1 .1 .0 ∙ log-kept at-turn
 
 same-length-6 : tie.Need-same-length-6 Inv-loop μ-loop
 same-length-6 c =
     let at-step = c .before .before .before .before .before .before .before .before .before .before .before .before .before .before .before .before in
     let at-turn = at-step .before .before .before .before .before .before .before .before .before .before .before .before .before .before in
-    c .before .before .ended2 .kept .0 ∙ at-step .step .kept .1 .1 .1 .1 .1 .1 .1 .1 .1 .1 .1 .0 ∙ at-turn .loop .inv .2 ∙ at-turn .before .before .before .before .before .launch .kept .0
+    c .before .before .ended2 .kept .0 ∙ at-step .step .kept .1 .1 .1 .1 .1 .1 .1 .1 .1 .1 .1 .0 ∙ records-kept at-turn
 
 returns-2 : tie.Need-returns-2 Inv-loop μ-loop
 returns-2 c =
@@ -197,7 +209,8 @@ returns-2 c =
     let stop = c .before .before .before .before .before .stop in
     let at-step = c .before .before .before .before .before .before .before .before .before .before .before .before .before .before .before .before in
     let S = stops at-step _ _ (c .before .before .before .before .before .before .before .before .v .given .1) in
-    ran-lent _ _ _ _ _ _ _ _ _ _ _ _ (at-step .before .before .before .before .before .before .before .before .before .before .before .before .before .before .before .before .before .before .before .launch .ensures)
+    let at-turn = at-step .before .before .before .before .before .before .before .before .before .before .before .before .before .before in
+    ran-lent _ _ _ _ _ _ _ _ _ _ _ _ (at-turn .before .before .before .before .before .launch .ensures)
     (S .ran (stop .last .0) (ended .last .1 .0) (ended .last .0) (ended .result) (stop .ensures) (ended .ensures .0) (ended .ensures .1 .0) (ended .ensures .1 .1))
 
 ended-requires-3 : tie.Need-ended-requires-3 Inv-loop μ-loop
@@ -206,7 +219,7 @@ ended-requires-3 c κs =
     let at-turn = c .before .before .before .before in
     let turn = at-turn .loop in
     let going = turn .inv .3 in
-    let start = at-turn .before .before .before .before .before .before .before .before .before .before .before .before .before .before .before in
+    let start = start-of at-turn in
     let args = start .args in (
       go-row (args .table .now) (args .ends .now) (args .n) (args .limit) (args .cells .now) (at-turn .before .before .before .before .before .launch .last .0)
           (turn .s) (turn .regs) (turn .cells) (turn .log) (turn .saved) (turn .openers) (turn .counts) (turn .stamps) (turn .memo) (turn .records) going (start .pre .0),
@@ -222,10 +235,10 @@ same-length-7 : tie.Need-same-length-7 Inv-loop μ-loop
 same-length-7 c = c .before .before .before .before .before .before .before .loop .inv .0
 
 same-length-8 : tie.Need-same-length-8 Inv-loop μ-loop
-same-length-8 c = let at-turn = c .before .before .before .before .before .before .before in at-turn .loop .inv .1 ∙ at-turn .before .before .before .before .before .before .before .before .before .clear .kept .0
+same-length-8 c = let at-turn = c .before .before .before .before .before .before .before in log-kept at-turn
 
 same-length-9 : tie.Need-same-length-9 Inv-loop μ-loop
-same-length-9 c = let at-turn = c .before .before .before .before .before .before .before in c .before .before .ended3 .kept .0 ∙ at-turn .loop .inv .2 ∙ at-turn .before .before .before .before .before .launch .kept .0
+same-length-9 c = let at-turn = c .before .before .before .before .before .before .before in c .before .before .ended3 .kept .0 ∙ records-kept at-turn
 
 returns-3 : tie.Need-returns-3 Inv-loop μ-loop
 returns-3 c =
@@ -234,7 +247,7 @@ returns-3 c =
     let at-turn = c .before .before .before .before .before .before .before in
     let turn = at-turn .loop in
     let going = turn .inv .3 in
-    let start = at-turn .before .before .before .before .before .before .before .before .before .before .before .before .before .before .before in
+    let start = start-of at-turn in
     let args = start .args in
     ran-lent _ _ _ _ _ _ _ _ _ _ _ _ (at-turn .before .before .before .before .before .launch .ensures)
     (go-passed (args .table .now) (args .ends .now) (args .n) (args .limit) (args .cells .now) (at-turn .before .before .before .before .before .launch .last .0)

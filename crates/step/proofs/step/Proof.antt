@@ -85,7 +85,8 @@ returns c =
         openers-are = slots .1;
       },
       counts-on code (args .s) (next.Go (c .moved .result)) (args .counts .now) (omega (arith, computes)) (start .pre .1 .size) (moved-on (args .s) (c .moved .result) (c .moved .ensures)),
-      recorded-plain code (args .n) _ (args .s) (args .records .now) (args .stamps .now) (args .memo .now) (next.Go (c .moved .result)) _ (λ h l. omega (arith, computes)) (start .pre .2) (start .pre .3)
+      recorded-plain code (args .n) _ (args .s) (args .records .now) (args .stamps .now) (args .memo .now) (next.Go (c .moved .result)) _
+          (λ h l. omega (arith, computes)) (start .pre .2) (start .pre .3)
           (sym (after-plain (args .s) (c .moved .result) (args .records .now) (ap (λ z. z .barriers) (c .moved .ensures)))),
     )
 
@@ -214,7 +215,8 @@ returns-3 c =
         openers-are = o .ensures .openers-are;
       },
       counts-construct code (args .s) (o .result) (c .settle .result) (args .counts .now) (c .settle .last .0) constructs since settled,
-      recorded-plain code (args .n) _ (args .s) (args .records .now) (args .stamps .now) (args .memo .now) (next.Go (c .settle .result)) _ (λ h l. omega (arith, no-access)) (start .pre .2) (start .pre .3)
+      recorded-plain code (args .n) _ (args .s) (args .records .now) (args .stamps .now) (args .memo .now) (next.Go (c .settle .result)) _
+          (λ h l. omega (arith, no-access)) (start .pre .2) (start .pre .3)
           (sym (after-plain (args .s) (c .settle .result) (args .records .now) same-barriers)),
     )
 
@@ -245,7 +247,8 @@ returns-4 c =
         openers-are = slots .1;
       },
       counts-barrier code (args .n) (args .s) (barrier-row .result) (args .counts .now) e (start .pre .1 .size) (barrier-row .ensures .0),
-      recorded-plain code (args .n) _ (args .s) (args .records .now) (args .stamps .now) (args .memo .now) (barrier-row .result) _ (λ h l. omega (arith, e)) (start .pre .2) (start .pre .3) (barrier-row .ensures .2),
+      recorded-plain code (args .n) _ (args .s) (args .records .now) (args .stamps .now) (args .memo .now) (barrier-row .result) _
+          (λ h l. omega (arith, e)) (start .pre .2) (start .pre .3) (barrier-row .ensures .2),
     )
 
 pub step-spec : {M : Type 1} → statement M
