@@ -1,5 +1,5 @@
 -- Numbers at one distance from others cost what these cost. Assumes nothing.
-use mathlib.Core.Path.{_≡_, refl, sym, _∙_, ap, subst}
+use mathlib.Core.Path.{_≡_, refl, sym, _∙_, ap}
 use mathlib.Core.Logic.{_⊎_, inl, inr}
 use mathlib.Core.List.{List, [], _∷_, map}
 use mathlib.Core.Bool.{Bool, true, false, cond, _||_}
@@ -11,7 +11,7 @@ use lib.Dec.{eqb}
 use lib.ListN.{length}
 use Rattle.spec.specs.Word.{sub, equal}
 use Rattle.spec.specs.Lists.{anyOf}
-use Rattle.spec.specs.Mask.{Mask, maskWord, members, membersFrom}
+use Rattle.spec.specs.Mask.{Mask, members, membersFrom}
 use Rattle.spec.specs.Banks.{different, inBank, mostInBank, conflictCost}
 use Rattle.spec.proofs.Laws.{lt-or-le}
 use Rattle.banks.specs.Counting.{AllCells}

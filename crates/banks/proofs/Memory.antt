@@ -3,12 +3,12 @@ use mathlib.Core.Path.{_≡_, refl, sym, _∙_, ap, subst}
 use mathlib.Core.Logic.{_⊎_, inl, inr}
 use mathlib.Core.List.{List, [], _∷_, map}
 use mathlib.Core.Bool.{true, false}
-use Prim.Native.Nat.{ℕ, suc, _+_, _-_, _*_, _^_, _<_, _≤_}
+use Prim.Native.Nat.{ℕ, suc, _+_, _-_, _*_, _<_, _≤_}
 use native.Mathlib.Omega.{arith}
 use native.Mathlib.Decide.{ℕ-discrete}
 use lib.ListN.{length, getD, set, length-set, replicate, length-replicate, getD-replicate}
 use lib.Seq.{getD-set-same, getD-set-other}
-use Rattle.spec.specs.Mask.{Mask, maskWord, members, membersFrom}
+use Rattle.spec.specs.Mask.{Mask, members, membersFrom}
 use Rattle.spec.specs.Banks.{different, inBank, mostInBank, conflictCost}
 use Rattle.spec.proofs.BankLaws.{cost-bound}
 use Rattle.spec.proofs.Laws.{lt-or-le}

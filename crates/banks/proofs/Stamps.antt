@@ -1,18 +1,18 @@
 -- Bank counts by stamps. Assumes nothing.
-use mathlib.Core.Path.{_≡_, refl, sym, _∙_, ap, subst}
+use mathlib.Core.Path.{_≡_, refl, sym, _∙_, ap}
 use mathlib.Core.List.{List, [], _∷_}
-use mathlib.Core.Bool.{Bool, true, false, cond, _||_, true≢false}
+use mathlib.Core.Bool.{Bool, true, false, cond, true≢false}
 use Prim.Native.Nat.{ℕ, zero, suc, _+_, _%_, _<_, _≤_, max}
 use native.Mathlib.Nat.{not-suc-le-zero}
 use native.Mathlib.Omega.{arith}
 use native.Mathlib.Decide.{ℕ-discrete}
 use borrow.Author.Tests.{eq-eqb, ne-eqb}
 use lib.Dec.{eqb}
-use lib.ListN.{length, getD, set, length-set}
+use lib.ListN.{getD, set, length-set}
 use lib.Seq.{getD-set-same, getD-set-other}
 use Rattle.spec.specs.Lists.{anyOf}
 use Rattle.spec.specs.Banks.{different, inBank, mostInBank}
-use Rattle.banks.specs.Counting.{Older, Banked, Fit, Counted}
+use Rattle.banks.specs.Counting.{Banked, Fit, Counted}
 use Rattle.banks.proofs.Order.{among-self, among-other}
 
 among-again : (x i : ℕ) (used : List ℕ) → anyOf (eqb i) used ≡ true → anyOf (eqb x) (i ∷ used) ≡ anyOf (eqb x) used

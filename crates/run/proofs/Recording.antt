@@ -1,5 +1,5 @@
 -- The records of the intervals, one row at a time: what the definition and the code say of a row's cost and of a release. Assumes nothing.
-use mathlib.Core.Path.{_≡_, refl, sym, _∙_, ap, subst}
+use mathlib.Core.Path.{_≡_, refl, sym, _∙_, ap}
 use mathlib.Core.Logic.{_⊎_, inl, inr}
 use mathlib.Core.List.{List, [], _∷_, map}
 use mathlib.Core.Bool.{Bool, true, false, cond}
@@ -7,18 +7,17 @@ use Prim.Native.Nat.{ℕ, zero, suc, _+_, _-_, _*_, _<_, _≤_}
 use native.Mathlib.Omega.{arith}
 use native.Mathlib.Decide.{ℕ-discrete}
 use borrow.Author.Tests.{le-leb, lt-leb, lt-ltb, le-ltb, eq-eqb, ne-eqb}
-use lib.Dec.{eqb, leb, ltb}
+use lib.Dec.{eqb, leb}
 use lib.ListN.{length, getD}
 use Rattle.spec.specs.declared.Verdict.{Verdict}
 use Rattle.spec.specs.declared.Outcome.{Outcome}
-use Rattle.spec.specs.Mask.{Mask, maskWord, members, membersFrom}
-use Rattle.spec.specs.Op.{Op, CALC, Mem, MEM, LOAD, STORE, ATOMICADD, IF, ELSE, ENDIF, WHILE, ENDWHILE, BARRIER, UNKNOWN, opOf}
-use Rattle.spec.specs.Table.{Table, Row, rowsOf, rowAt, cellByte, rowOf}
+use Rattle.spec.specs.Mask.{Mask, members, membersFrom}
+use Rattle.spec.specs.Op.{Op, CALC, Mem, MEM, IF, ELSE, ENDIF, WHILE, ENDWHILE, BARRIER, UNKNOWN, opOf}
+use Rattle.spec.specs.Table.{Table, Row, rowAt, cellByte}
 use Rattle.spec.specs.Shape.{Shape}
-use Rattle.spec.specs.Banks.{conflictCost}
 use Rattle.spec.specs.LockStep.{LockState, LockResult, Step, continues, stops, reg, runRow}
-use Rattle.spec.specs.Intervals.{Interval, Intervals, usedCells, rowCost, allOf, started, withRow, behind, intervalsAfter, intervalsFrom, recordsOf, intervalRecords, recordWords}
-use Rattle.spec.proofs.Laws.{lt-or-le, byte-if, byte-else, byte-endif, byte-while, byte-endwhile, byte-barrier}
+use Rattle.spec.specs.Intervals.{Intervals, usedCells, rowCost, allOf, started, withRow, behind, intervalsAfter, intervalsFrom, recordsOf, intervalRecords, recordWords}
+use Rattle.spec.proofs.Laws.{byte-if, byte-else, byte-endif, byte-while, byte-endwhile, byte-barrier}
 use Rattle.spec.proofs.UsedCells.{Below}
 use Rattle.banks.specs.Counting.{AllCells}
 use Rattle.allruns.proofs.Counts.{passes, passedAt, grown}
@@ -30,7 +29,7 @@ use Rattle.layout.specs.declared.Next.the-variants as next
 use Rattle.spec.specs.Entries.{over}
 use Rattle.intervals.specs.Records.{begun, charged, released, recordsAfter}
 use Rattle.intervals.proofs.Ledger.{over-begun}
-use Rattle.step.proofs.Tables.{compute-op, mem-op}
+use Rattle.step.proofs.Tables.{compute-op}
 
 -- The definition's intervals, from one row on.
 pub intervals-start : (T : Table) (L : Shape) (k : ℕ) (s : LockState) → intervalsFrom T L k s .first .start ≡ s .row

@@ -2,16 +2,16 @@
 use mathlib.Core.Path.{_≡_, refl, sym, _∙_, ap, subst}
 use mathlib.Core.List.{List, [], _∷_, map}
 use mathlib.Core.Bool.{Bool, true, false, cond}
-use Prim.Native.Nat.{ℕ, suc, _+_, _<_, _≤_}
+use Prim.Native.Nat.{ℕ, suc, _<_, _≤_}
 use native.Mathlib.Omega.{arith}
 use borrow.Author.Tests.{leb-false}
 use lib.Dec.{leb}
-use lib.ListN.{getD, set}
+use lib.ListN.{getD}
 use lib.Seq.{getD-set-other}
 use Rattle.spec.specs.Access.{Kind}
 use Rattle.spec.specs.Answers.{Verdict}
 use Rattle.spec.specs.Op.{Mem, MEM}
-use Rattle.spec.specs.Table.{Table, Row, cellByte, kindOf}
+use Rattle.spec.specs.Table.{Table, Row, cellByte}
 use Rattle.spec.specs.Shape.{Shape, bound, address}
 use Rattle.spec.specs.Mask.{Mask, any, members, membersFrom}
 use Rattle.spec.specs.Log.{conflictMask}

@@ -1,7 +1,6 @@
 -- Worked launches with ATOMIC ADD, item 1 of the change requests, each with the report and the whole log. Worked out from the papers alone, before they
 -- were computed. Assumes nothing.
 use mathlib.Core.List.{List, [], _∷_, _++_}
-use Prim.Native.Nat.{ℕ}
 use Rattle.spec.specs.Examples.{Worked, lines}
 
 unfoldable pub addExamples : List Worked

@@ -1,7 +1,6 @@
 -- More worked launches: every op and every row kind in runs of several threads, each with the report and the log that document 01 gives it.
 -- Worked out from the paper alone, before they were computed. Assumes nothing.
 use mathlib.Core.List.{List, [], _∷_, _++_}
-use Prim.Native.Nat.{ℕ}
 use lib.ListN.{replicate}
 use Rattle.spec.specs.Examples.{Worked, lines}
 

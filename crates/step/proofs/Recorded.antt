@@ -6,18 +6,17 @@ use mathlib.Core.Bool.{Bool, true, false, cond}
 use Prim.Native.Nat.{ℕ, _+_, _-_, _*_, _^_, _<_, _≤_}
 use native.Mathlib.Omega.{arith}
 use native.Mathlib.Decide.{ℕ-discrete}
-use borrow.Author.Tests.{lt-ltb, le-ltb, eq-eqb, ne-eqb}
-use lib.Dec.{eqb, ltb}
-use lib.ListN.{length, getD, set}
+use borrow.Author.Tests.{le-ltb, eq-eqb, ne-eqb}
+use lib.Dec.{eqb}
+use lib.ListN.{getD, set}
 use lib.Seq.{set-getD}
-use Rattle.spec.specs.declared.Verdict.{Verdict}
 use Rattle.layout.specs.declared.Access.{Access}
 use Rattle.layout.specs.declared.Access.the-variants.{Done, Stop}
 use Rattle.layout.specs.declared.Turns.{Turns}
 use Rattle.layout.specs.declared.State.{State}
 use Rattle.layout.specs.declared.Next.{Next}
 use Rattle.layout.specs.declared.Next.the-variants as next
-use Rattle.layout.specs.Represents.{goneOn, movedOn, reached, accessed}
+use Rattle.layout.specs.Represents.{movedOn, reached, accessed}
 use Rattle.layout.specs.Constructs.{ConstructDone, constructState, whileState, passedState, divergedNext, barrierNext}
 use Rattle.layout.specs.Memory.{holdingWord, cellIn, CellRegister}
 use Rattle.banks.specs.Counting.{numbersIn, Older}

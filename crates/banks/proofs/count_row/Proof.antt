@@ -1,12 +1,11 @@
 -- `banks::count_row` counts the cells of the enabled threads, one after the other. Assumes nothing.
 use borrow.Author.Needs.{needs}
-use mathlib.Core.Path.{_≡_, refl, sym, ap, _∙_, subst}
 use mathlib.Core.Logic.{⊎-elim}
-use Prim.Native.Nat.{ℕ, _+_, _-_, _*_, _^_, _<_, _≤_}
+use Prim.Native.Nat.{_-_, _<_}
 use native.Mathlib.Omega.{arith}
-use Rattle.masks.proofs.Bits.{left-some, left-half}
+use Rattle.masks.proofs.Bits.{left-some}
 use Rattle.banks.specs.Counting.{numbersIn}
-use Rattle.banks.proofs.Costing.{Tracking, tracking-start, tracking-fit, Costings, Going, going-start, going-in, going-out, going-outside, going-whole}
+use Rattle.banks.proofs.Costing.{tracking-fit, Going, going-start, going-in, going-out, going-outside, going-whole}
 use Rattle.banks.proofs.count_row.Statement.{statement}
 use Rattle.banks.proofs.count_row.Tie as tie
 

@@ -1,8 +1,6 @@
 -- `banks::recalls` meets its contract. Assumes nothing.
 use borrow.Author.Needs.{needs}
-use mathlib.Core.Path.{sym}
 use mathlib.Core.Bool.{false≢true}
-use native.Mathlib.Omega.{arith}
 use Rattle.banks.proofs.recalls.Statement.{statement}
 use Rattle.banks.proofs.recalls.Tie as tie
 

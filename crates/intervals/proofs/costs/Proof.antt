@@ -1,9 +1,8 @@
 -- `intervals::costs` meets its contract. Assumes nothing.
 use borrow.Author.Needs.{needs}
 use mathlib.Core.Path.{_≡_, refl, ap, _∙_}
-use Prim.Native.Nat.{ℕ, suc, _+_, _-_, _≤_}
+use Prim.Native.Nat.{ℕ, _+_, _-_, _≤_}
 use native.Mathlib.Omega.{arith}
-use native.Mathlib.Numerals.{add-one}
 use Rattle.intervals.specs.Records.{costsUpTo}
 use Rattle.intervals.proofs.AddingUp.{costs-grow, costs-next}
 use Rattle.intervals.proofs.costs.Statement.{statement}

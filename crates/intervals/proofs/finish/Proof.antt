@@ -1,9 +1,9 @@
 -- `intervals::finish` meets its contract. Assumes nothing.
 use borrow.Author.Needs.{needs}
-use mathlib.Core.Path.{_≡_, sym, ap, _∙_, subst}
-use Prim.Native.Nat.{ℕ, _+_, _*_, _<_, _≤_}
+use mathlib.Core.Path.{sym, ap, _∙_, subst}
+use Prim.Native.Nat.{ℕ, _+_, _*_, _≤_}
 use native.Mathlib.Omega.{arith}
-use lib.ListN.{length, getD}
+use lib.ListN.{getD}
 use Rattle.intervals.specs.Records.{inUse, ended, costsUpTo}
 use Rattle.intervals.proofs.finish.Statement.{statement}
 use Rattle.intervals.proofs.finish.Tie as tie

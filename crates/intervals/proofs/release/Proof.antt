@@ -1,10 +1,10 @@
 -- `intervals::release` meets its contract. Assumes nothing.
 use borrow.Author.Needs.{needs}
-use mathlib.Core.Path.{_≡_, refl, sym, ap, _∙_, subst}
+use mathlib.Core.Path.{_≡_, refl, ap, _∙_, subst}
 use Prim.Native.Nat.{ℕ, _+_, _*_, _≤_}
 use native.Mathlib.Omega.{arith}
 use borrow.Author.Tests.{lt-ltb, le-ltb}
-use lib.ListN.{length, getD}
+use lib.ListN.{getD}
 use Rattle.intervals.specs.Records.{inUse, begun, released}
 use Rattle.intervals.proofs.release.Statement.{statement}
 use Rattle.intervals.proofs.release.Tie as tie

@@ -1,5 +1,5 @@
 -- `report::run_length` meets its contract. The five parts are as long as the report. Assumes nothing.
-use mathlib.Core.Path.{_≡_, ap₂, _∙_}
+use mathlib.Core.Path.{ap₂, _∙_}
 use Prim.Native.Nat.{_+_}
 use native.Mathlib.Omega.{arith}
 use Rattle.spec.specs.Text.{text}

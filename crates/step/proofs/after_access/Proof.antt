@@ -1,5 +1,5 @@
 -- `step::after_access` meets its contract. Assumes nothing.
-use mathlib.Core.Path.{_≡_, sym, ap, _∙_}
+use mathlib.Core.Path.{sym, ap, _∙_}
 use native.Mathlib.Omega.{arith}
 use Rattle.layout.specs.declared.Next.the-variants as next
 use Rattle.layout.specs.Represents.{movedOn, reached, accessed}

@@ -1,6 +1,6 @@
 -- `step::barrier_row` meets its contract. Assumes nothing.
 use borrow.Author.Needs.{needs}
-use mathlib.Core.Path.{_≡_, refl, sym, ap, _∙_}
+use mathlib.Core.Path.{refl, sym, _∙_}
 use native.Mathlib.Omega.{arith}
 use Rattle.layout.specs.declared.Next.the-variants as next
 use Rattle.intervals.specs.Records.{recordsAfter}

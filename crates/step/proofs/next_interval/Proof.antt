@@ -1,7 +1,6 @@
 -- `step::next_interval` meets its contract. Assumes nothing.
 use borrow.Author.Needs.{needs}
-use mathlib.Core.Path.{refl, sym, _∙_}
-use native.Mathlib.Omega.{arith}
+use mathlib.Core.Path.{refl, sym}
 use borrow.Author.Tests.{lt-ltb, le-ltb}
 use Rattle.intervals.specs.Records.{recordsAfter}
 use Rattle.step.proofs.Recorded.{charged-none}
