@@ -48,7 +48,7 @@ loop-holds c =
     )
 
 -- The lent buffers keep their lengths.
-abbrev start-of : tie.At-loop Inv-loop μ-loop → tie.Start
+abbrev start-of : tie.At-loop Inv-loop μ-loop → tie.Start Inv-loop μ-loop
 start-of c = c .before .before .before .before .before .before .before .before .before .before .before .before .before .before .before
 
 log-kept : (c : tie.At-loop Inv-loop μ-loop) → length (c .loop .log) ≡ length (start-of c .args .log .now)
