@@ -11,7 +11,7 @@ use lib.Seq.{getD-set-same, getD-set-other}
 use Rattle.spec.specs.Mask.{Mask, members, membersFrom}
 use Rattle.spec.specs.Banks.{different, inBank, mostInBank, conflictCost}
 use Rattle.spec.proofs.BankLaws.{cost-bound}
-use Rattle.spec.proofs.Laws.{lt-or-le}
+use Rattle.spec.proofs.Laws.{lt-or-le, map-members}
 use Rattle.banks.specs.Counting.{AllCells, Older, RowCounted}
 use Rattle.banks.specs.Remembering.{AtOneDistance, CostOf, lanesFrom, Memo, Remembered, RowCosts}
 use Rattle.banks.proofs.Costing.{nobody-left}
@@ -70,19 +70,12 @@ module _ (cell : ℕ → ℕ) (at : ℕ) (memo₀ memo : List ℕ) (t : ℕ) (W 
       apart i (inl h) = inl h
       apart i (inr h) = inr (omega arith)
 
--- The lanes of a mask's threads.
-lanes-same : (f g : ℕ → ℕ) (k : ℕ) (E : Mask) → ((t : ℕ) → t < k + length E → f t ≡ g t) → map f (membersFrom k E) ≡ map g (membersFrom k E)
-unfolding membersFrom
-lanes-same f g k [] h = refl
-lanes-same f g k (false ∷ E) h = lanes-same f g (suc k) E (λ t l. h t (omega arith))
-lanes-same f g k (true ∷ E) h =
-    ap (λ c. c ∷ map f (membersFrom (suc k) E)) (h k (omega arith)) ∙ ap (λ l. g k ∷ l) (lanes-same f g (suc k) E (λ t l. h t (omega arith)))
-
+-- A cost is that of equal numbers.
 cost-as : (f g : ℕ → ℕ) (mask cost mask′ cost′ : ℕ) → ((t : ℕ) → t < 32 → g t ≡ f t) → mask′ ≡ mask → cost′ ≡ cost → CostOf f mask cost → CostOf g mask′ cost′
 unfolding members
 cost-as f g mask cost mask′ cost′ h em ec C E e l =
     let c = C E (sym em ∙ e) l in
-    let same = lanes-same g f 0 E (λ t q. h t (omega arith)) in
+    let same = map-members g f 0 E (λ t q m. h t (omega arith)) in
     (subst AllCells (sym same) (c .0), ec ∙ c .1 ∙ ap conflictCost (sym same))
 
 -- Nothing is remembered at first: no thread, and no cost.

@@ -17,7 +17,7 @@ use Rattle.spec.specs.Table.{Table, Row, rowAt, cellByte}
 use Rattle.spec.specs.Shape.{Shape}
 use Rattle.spec.specs.LockStep.{LockState, LockResult, Step, continues, stops, reg, runRow}
 use Rattle.spec.specs.Intervals.{Intervals, usedCells, rowCost, allOf, started, withRow, behind, intervalsAfter, intervalsFrom, recordsOf, intervalRecords, recordWords}
-use Rattle.spec.proofs.Laws.{byte-if, byte-else, byte-endif, byte-while, byte-endwhile, byte-barrier}
+use Rattle.spec.proofs.Laws.{map-members, byte-if, byte-else, byte-endif, byte-while, byte-endwhile, byte-barrier}
 use Rattle.spec.proofs.UsedCells.{Below}
 use Rattle.banks.specs.Counting.{AllCells}
 use Rattle.allruns.proofs.Counts.{passes, passedAt, grown}
@@ -112,14 +112,6 @@ module _ (x : Row) (s : LockState) (k d a b : ℕ) (asks : RowAsks k d a b) wher
       by (no f) (no g) (no i) (no j) (yes e) = at 36 ENDWHILE byte-endwhile e
       by (no f) (no g) (no i) (no j) (no l) = at 37 BARRIER byte-barrier (last k h (asks .known) f g i j l)
 
--- Functions that agree on the threads of a mask.
-map-members : (f g : ℕ → ℕ) (k : ℕ) (E : Mask) → ((t : ℕ) → t < k + length E → f t ≡ g t) → map f (membersFrom k E) ≡ map g (membersFrom k E)
-unfolding membersFrom
-map-members f g k [] h = refl
-map-members f g k (false ∷ E) h = map-members f g (suc k) E (λ t l. h t (omega arith))
-map-members f g k (true ∷ E) h =
-    ap (λ c. c ∷ map f (membersFrom (suc k) E)) (h k (omega arith)) ∙ ap (λ l. g k ∷ l) (map-members f g (suc k) E (λ t l. h t (omega arith)))
-
 -- Numbers below the count of the cells are cells'.
 pub all-cells : (k : ℕ) → k ≤ 1024 → (cs : List ℕ) → Below k cs → AllCells cs
 all-cells k h [] b = tt
@@ -130,7 +122,7 @@ pub used-are : (n : ℕ) (s : LockState) (regs cells log : List ℕ) → Memory 
     → 16 ≤ k → k ≤ 18 → d < 16 → a < 16 → x .d ≡ d → x .a ≡ a → (m : Mem) → opOf k ≡ MEM m
     → usedCells m x s ≡ map (cellIn k d a regs) (members (s .enabled))
 unfolding usedCells members reg cellIn
-used-are n s regs cells log M size x k d a low high hd ha ed ea m o = map-members _ _ 0 (s .enabled) each
+used-are n s regs cells log M size x k d a low high hd ha ed ea m o = map-members _ _ 0 (s .enabled) (λ t l h. each t h)
   where
     found : (r q t : ℕ) → q ≡ r → r < 16 → t < n → getD (getD (s .regs) t []) q 0 ≡ getD regs (r * 32 + t) 0
     found r q t e h l = ap (λ z. getD (getD (s .regs) t []) z 0) e ∙ sym (M .regs-are .at t r l h)

@@ -1,8 +1,8 @@
 -- Laws of the definitions that several crates cite: a table's rows and their bytes, the sizes of masks, and a few on numbers. Assumes nothing.
 use mathlib.Core.Path.{_≡_, refl, ap, _∙_}
 use mathlib.Core.Logic.{_⊎_, inl, inr, ⊎-elim}
-use mathlib.Core.List.{List, [], _∷_}
-use mathlib.Core.Bool.{Bool, true, _&&_, and-eq-true-iff}
+use mathlib.Core.List.{List, [], _∷_, map}
+use mathlib.Core.Bool.{Bool, true, _&&_, and-eq-true-iff, false}
 use Prim.Native.Nat.{ℕ, zero, suc, _+_, _*_, _/_, _<_, _≤_}
 use native.Mathlib.Nat.{eq-or-lt-of-le, le-of-suc-le-suc}
 use native.Mathlib.Omega.{arith}
@@ -10,7 +10,7 @@ use lib.ListN.{length, getD, replicate, take, drop}
 use lib.Seq.{take-at}
 use Rattle.spec.specs.Op.{Op, IF, ELSE, ENDIF, WHILE, ENDWHILE, BARRIER, opOf, opTable}
 use Rattle.spec.specs.Table.{rowOf, rowsOf, rowAt, role, opening}
-use Rattle.spec.specs.Mask.{Mask, minus, union, holding}
+use Rattle.spec.specs.Mask.{Mask, membersFrom, minus, union, holding}
 use Rattle.spec.specs.LockStep.{Saved, topOpener}
 use Rattle.spec.specs.Entries.{over}
 
@@ -110,6 +110,15 @@ unfolding holding
 holding-size a [] regs = refl
 holding-size a (b ∷ m) [] = ap suc (holding-size a m [])
 holding-size a (b ∷ m) (r ∷ regs) = ap suc (holding-size a m regs)
+
+-- Functions that agree on the threads of a mask, whose first is thread k.
+pub map-members : (f g : ℕ → ℕ) (k : ℕ) (E : Mask) → ((t : ℕ) → k ≤ t → t < k + length E → f t ≡ g t) → map f (membersFrom k E) ≡ map g (membersFrom k E)
+unfolding membersFrom
+map-members f g k [] h = refl
+map-members f g k (false ∷ E) h = map-members f g (suc k) E (λ t l m. h t (omega arith) (omega arith))
+map-members f g k (true ∷ E) h =
+    ap (λ c. c ∷ map f (membersFrom (suc k) E)) (h k (omega arith) (omega arith))
+    ∙ ap (λ l. g k ∷ l) (map-members f g (suc k) E (λ t l m. h t (omega arith) (omega arith)))
 
 pub top-cons : (f : Saved) (v : List Saved) → topOpener (f ∷ v) ≡ f .opener
 unfolding topOpener

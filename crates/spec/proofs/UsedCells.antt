@@ -17,6 +17,7 @@ use Rattle.spec.specs.Mask.{Mask, any, members, membersFrom}
 use Rattle.spec.specs.Log.{conflictMask}
 use Rattle.spec.specs.LockStep.{LockState, Step, continues, stops, andThen, inTurn, advance, reg, update, madeAccess, tryAccess, accessTurn, forEnabled, runRow}
 use Rattle.spec.specs.Intervals.{usedCells}
+use Rattle.spec.proofs.Laws.{map-members}
 
 -- A step that stops does not go on.
 never : {A : Type 0} (v : Verdict) (s z : LockState) → stops v s ≡ continues z → A
@@ -52,13 +53,6 @@ made L m x s t z = by (leb (L .cells) (reg s t (cellByte m x))) refl _ _
     by true q v k e = never v s z e
     by false q v k e = record { inside = leb-false (L .cells) _ q; others = try-others s t (x .d) _ (cellByte m x) k z e }
 
--- Functions that agree on the threads from k on.
-map-from : (f g : ℕ → ℕ) (k : ℕ) (E : Mask) → ((t : ℕ) → k ≤ t → f t ≡ g t) → map f (membersFrom k E) ≡ map g (membersFrom k E)
-unfolding membersFrom
-map-from f g k [] h = refl
-map-from f g k (false ∷ E) h = map-from f g (suc k) E (λ t l. h t (omega arith))
-map-from f g k (true ∷ E) h = ap (λ c. c ∷ map f (membersFrom (suc k) E)) (h k (omega arith)) ∙ ap (λ l. g k ∷ l) (map-from f g (suc k) E (λ t l. h t (omega arith)))
-
 turns-below : (L : Shape) (m : Mem) (x : Row) (k : ℕ) (E : Mask) (s z : LockState) → inTurn (accessTurn L m x) (membersFrom k E) s ≡ continues z
     → Below (L .cells) (map (λ t. reg s t (cellByte m x)) (membersFrom k E))
 unfolding membersFrom inTurn
@@ -76,7 +70,7 @@ turns-below L m x k (true ∷ E) s z e = by (accessTurn L m x s k) refl e (λ y.
     by (continues y) q w f =
         let M = made L m x s k y q in (
           M .inside,
-          subst (Below (L .cells)) (map-from (λ t. reg y t b) (λ t. reg s t b) (suc k) E (λ t l. M .others t (λ j. omega arith))) (f y (unfold andThen in w)),
+          subst (Below (L .cells)) (map-members (λ t. reg y t b) (λ t. reg s t b) (suc k) E (λ t l q. M .others t (λ j. omega arith))) (f y (unfold andThen in w)),
         )
 
 pub used-below : (T : Table) (L : Shape) (x : Row) (s z : LockState) (m : Mem) → runRow T L x s (MEM m) ≡ continues z → Below (L .cells) (usedCells m x s)
