@@ -15,7 +15,7 @@ extern "C" {
 #endif
 
 /* What sekufoyi_check_file is lent: words of cells, of log and of records, and bytes of output. Of the last two there may be more. */
-enum { SEKUFOYI_CELLS = 1024, SEKUFOYI_LOG = 3072, SEKUFOYI_RECORDS = 3075, SEKUFOYI_OUTPUT = 17408 };
+enum { SEKUFOYI_CELLS = 1024, SEKUFOYI_LOG = 5120, SEKUFOYI_RECORDS = 3075, SEKUFOYI_OUTPUT = 17408 };
 
 /* The most threads that a launch has, and the words of steps that sekufoyi_bare_launch is lent, however many threads there are. */
 enum { SEKUFOYI_THREADS = 32 };
@@ -35,7 +35,7 @@ enum {
     SEKUFOYI_ROW,
     SEKUFOYI_THREAD,
     SEKUFOYI_OTHER,
-    SEKUFOYI_KIND, /* 1 rw, 2 wr, 3 ww, 4 ra, 5 ar, 6 wa, 7 aw: what the other did, then what the thread does */
+    SEKUFOYI_KIND, /* 1 rw, 2 wr, 3 ww, 4 ra, 5 ar, 6 wa, 7 aw: what the other did that conflicts, then what the thread does */
     SEKUFOYI_AT,
     SEKUFOYI_ROWS,
     SEKUFOYI_BARRIERS,
@@ -50,8 +50,11 @@ enum {
 };
 
 /* A log has a word of readers for each cell, behind these a word of writers for each cell, and behind these a word of adders for each
- * cell: bit t is thread t. So it is three times as long as the cells. It may begin wherever a uint32_t may; where it begins at a multiple
- * of 32 bytes, barriers take the least time. */
+ * cell: bit t is thread t. Then come a first value for each cell, what the first store to it wrote, and a mark for each cell, which is 1
+ * where unequal stores were made to it and 0 otherwise. So it is five times as long as the cells, neither more nor less. All of it is of
+ * the accesses since the last barrier that all threads came to. A first value counts where the cell has a writer: the value 0 doesn't tell,
+ * since it may have been stored; without a writer, first value and mark are 0. A log may begin wherever a uint32_t may; where it begins at a
+ * multiple of 32 bytes, barriers take the least time. */
 
 /* Steps are counted for each thread by itself: word t has the rows that thread t ran. A BARRIER is a row, but nobody's step; where an
  * access stops the run, the threads that acted in its row before it have stepped, and the one that was stopped has not. */

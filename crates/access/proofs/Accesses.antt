@@ -2,12 +2,12 @@
 use mathlib.Core.Path.{_≡_, refl, sym, _∙_, ap, ap₂, subst, subst₂}
 use mathlib.Core.Logic.{_⊎_, inl, inr}
 use mathlib.Core.List.{List, []}
-use mathlib.Core.Bool.{true, false, cond}
+use mathlib.Core.Bool.{Bool, true, false, cond, not, false≢true}
 use Prim.Native.Nat.{ℕ, _+_, _-_, _*_, _^_, _<_, _≤_}
 use native.Mathlib.Omega.{arith}
-use native.Mathlib.Decide.{ℕ-discrete}
-use borrow.Author.Tests.{eq-eqb, ne-eqb, le-leb, lt-leb}
-use lib.Dec.{leb}
+use native.Mathlib.Decide.{ℕ-discrete, decLt}
+use borrow.Author.Tests.{eq-eqb, ne-eqb, eqb-true, le-leb, lt-leb}
+use lib.Dec.{eqb, leb}
 use lib.Bits.{bitAnd, bitOr}
 use lib.Count.{trailingZeros}
 use lib.ListN.{length, getD, set, length-set}
@@ -22,14 +22,15 @@ use Rattle.spec.specs.Shape.{Shape, bound, address}
 use Rattle.spec.specs.Mask.{Mask, maskWord, any, lowest}
 use Rattle.spec.specs.Log.{logged, conflictMask, raceKind}
 use Rattle.spec.specs.LockStep.{LockState, Step, continues, stops, reg, madeAccess, tryAccess, accessTurn}
-use Rattle.masks.proofs.Bits.{or-more, or-less}
+use Rattle.masks.proofs.Bits.{or-less}
 use Rattle.masks.proofs.Words.{any-none, any-some, lowest-is}
 use Rattle.layout.specs.declared.Access.{Access}
 use Rattle.layout.specs.declared.Access.the-variants.{Done, Stop}
-use Rattle.layout.specs.Memory.{Regs, LogIs, Memory, Did, OneTurn, KeptBut, AccessAsks, shapeBy, cellBy, Transferred, CellRegister, CellNumber}
+use Rattle.layout.specs.Memory.{Regs, LogIs, Memory, Did, OneTurn, KeptBut, AccessAsks, shapeBy, cellBy, Transferred, CellRegister, CellNumber, TestAsks, goesOn, Refused}
 use Rattle.layout.proofs.Buffers.{regs-set}
 use Rattle.layout.specs.Logging.{testedWord, kindWord, enteredWords}
 use Rattle.layout.proofs.LogBuffer.{conflict-size}
+use Rattle.layout.proofs.Reach.{or-left, or-right}
 use Rattle.layout.proofs.Turning.{kept-none}
 use Rattle.accesslog.proofs.LogTests.{which, mem-load, mem-store, mem-add, conflict-means, entered-means, kind-means}
 
@@ -41,6 +42,59 @@ cell-by-store op old word e = rw (eq-eqb op 17 e)
 pub cell-by-add : (op old word : ℕ) → (op ≡ 17 → ⊥) → cellBy op old word ≡ add old word
 unfolding cellBy
 cell-by-add op old word f = rw (ne-eqb op 17 f)
+
+-- The acting thread is among those that the access test comes to.
+pub bit-met : (op v k i : ℕ) (log : List ℕ) (met bit : ℕ) → met ≡ bitOr (testedWord op v k i log) bit → bit ≤ met
+bit-met op v k i log met bit e = omega (arith, e, or-right (testedWord op v k i log) bit)
+
+-- The test that decides whether an access goes on, by its two parts.
+module _ (op v bit x : ℕ) (cells log : List ℕ) where
+  pub goes-outside : length cells ≤ x → false ≡ goesOn op v bit x cells log
+  unfolding goesOn
+  goes-outside h = sym (rw (le-leb (length cells) x h))
+
+  pub goes-inside : (met : ℕ) → x < length cells → met ≡ bitOr (testedWord op v (length cells) x log) bit → eqb met bit ≡ goesOn op v bit x cells log
+  unfolding goesOn
+  goes-inside met h e = ap (λ (y : ℕ). eqb y bit) e ∙ sym (rw (lt-leb (length cells) x h))
+
+  pub goes-alone : goesOn op v bit x cells log ≡ true → (x < length cells) × (bitOr (testedWord op v (length cells) x log) bit ≡ bit)
+  goes-alone e = by (decLt x (length cells))
+    where
+      by : Dec (x < length cells) → (x < length cells) × (bitOr (testedWord op v (length cells) x log) bit ≡ bit)
+      by (yes l) = (l, eqb-true _ bit (goes-inside _ l refl ∙ e))
+      by (no l) = absurd (false≢true (goes-outside (omega arith) ∙ e))
+
+  pub goes-not : (met : ℕ) → goesOn op v bit x cells log ≡ false → x < length cells → met ≡ bitOr (testedWord op v (length cells) x log) bit → met ≡ bit → ⊥
+  goes-not met e l q z = false≢true (sym (goes-inside met l q ∙ e) ∙ eq-eqb met bit z)
+
+-- What the code's `if !` says of the answer w.
+pub halts : (w b : Bool) → w ≡ b → not w ≡ true → b ≡ false
+halts true b e q = absurd (false≢true q)
+halts false b e q = sym e
+
+pub passes : (w b : Bool) → w ≡ b → not w ≡ false → b ≡ true
+passes true b e q = sym e
+passes false b e q = absurd (false≢true (sym q))
+
+-- A thread has one number, so what the code's number is refused for, every one is.
+pub refused-at : (op d a t : ℕ) (regs cells log : List ℕ) (x bit : ℕ) → bit ≡ 2 ^ t → CellNumber op d a t regs x
+    → goesOn op (getD regs (a * 32 + t) 0) bit x cells log ≡ false → Refused op d a t regs cells log
+refused-at op d a t regs cells log x bit eb N e y Y = ap₂ (λ (b z : ℕ). goesOn op (getD regs (a * 32 + t) 0) b z cells log) (sym eb) same ∙ e
+  where
+    by : Dec (op ≡ 16) → Y .register ≡ N .register
+    by (yes q) = Y .in-register .of-load q ∙ sym (N .in-register .of-load q)
+    by (no q) = Y .in-register .of-other q ∙ sym (N .in-register .of-other q)
+
+    same : y ≡ x
+    same = Y .word ∙ ap (λ (r : ℕ). getD regs (r * 32 + t) 0) (by (ℕ-discrete op 16)) ∙ sym (N .word)
+
+-- A refused access of a cell that is there meets somebody: j, y and bit are the code's numbers of thread, cell and bit.
+pub refused-foe : (op d a t : ℕ) (regs cells log : List ℕ) (j x y met bit : ℕ) → Refused op d a t regs cells log → j ≡ t → CellNumber op d a t regs x → y ≡ x
+    → y < length cells → bit ≡ 2 ^ t → met ≡ bitOr (testedWord op (getD regs (a * 32 + j) 0) (length cells) y log) bit → met ≡ bit → ⊥
+refused-foe op d a t regs cells log j x y met bit F ej N ey l eb e =
+    goes-not op (getD regs (a * 32 + j) 0) bit y cells log met
+    (ap₂ (λ (u z : ℕ). goesOn op (getD regs (a * 32 + u) 0) bit z cells log) ej ey
+    ∙ ap (λ (b : ℕ). goesOn op (getD regs (a * 32 + t) 0) b x cells log) eb ∙ F x N) l e
 
 -- An access stores to no register but its own lane of register d; what follows one another keeps what all keep.
 pub transfer-keeps : (op d t j from i : ℕ) (regs cells regs′ cells′ : List ℕ) → j ≡ t → Transferred op (d * 32 + j) from i regs cells regs′ cells′
@@ -65,6 +119,11 @@ asks-still op d a cells₀ log₀ cells log A c l =
       sized = omega (arith, A .sized);
       cells-few = omega (arith, A .cells-few);
     }
+
+pub test-still : (op d a : ℕ) (cells₀ log₀ cells log : List ℕ) → AccessAsks op d a cells₀ log₀ → length cells ≡ length cells₀ → length log ≡ length log₀
+    → TestAsks op a cells log
+test-still op d a cells₀ log₀ cells log A c l =
+    record { known = A .known; small = A .small; source = A .source; sized = omega (arith, A .sized); cells-few = omega (arith, A .cells-few) }
 
 pub turn-still : (n t : ℕ) (y : Mem) (x : Row) (cells₀ regs cells log regs′ cells′ log′ : List ℕ) (r : Access) → length cells ≡ length cells₀
     → OneTurn (accessTurn (shapeBy n cells) y x) n t regs cells log r regs′ cells′ log′
@@ -126,13 +185,26 @@ module _ (n t : ℕ) (s : LockState) (regs cells log : List ℕ) (M : Memory n s
         did (stops (Outside t i) s) _ regs cells log (turn-at ∙ rw (le-leb (length cells) i g))
         (record { answer = ap (λ z. Stop (Outside t z)) ev; memory = M; kept = kept-none s })
 
-    module _ (l : i < length cells) (bit w : ℕ) (eb : bit ≡ 2 ^ t) (C : w ≡ testedWord op (length cells) i log)
-        (short : w < 2 ^ 32) (single : bit < 2 ^ 32) where
+    module _ (l : i < length cells) (bit met v : ℕ) (eb : bit ≡ 2 ^ t) (ev : v ≡ getD regs (a * 32 + j) 0)
+        (C : met ≡ bitOr (testedWord op v (length cells) i log) bit) (short : met < 2 ^ 32) (single : bit < 2 ^ 32) where
+      -- the value that a store stores or an add adds
+      value-is : v ≡ reg s t (x .a)
+      value-is = ev ∙ reg-is a j (x .a) ej ea la
+
       abbrev others : Mask
       others = conflictMask (s .log) i t kind
 
-      ew : bitOr w bit - bit ≡ maskWord others
-      ew = or-less w bit short single ∙ ap (λ (y : ℕ). bitAnd y (4294967295 - bit)) C ∙ conflict-means op (length cells) i log n (reg s t (x .a)) m (s .log) o p q l log-here (M .few) t bit h eb
+      abbrev tested : ℕ
+      tested = testedWord op v (length cells) i log
+
+      tested-short : tested < 2 ^ 32
+      tested-short = omega (arith, C, or-left tested bit)
+
+      ew : met - bit ≡ maskWord others
+      ew =
+          ap (λ (y : ℕ). y - bit) C ∙ or-less tested bit tested-short single
+          ∙ ap (λ (y : ℕ). bitAnd (testedWord op y (length cells) i log) (4294967295 - bit)) value-is
+          ∙ conflict-means op (length cells) i log n (reg s t (x .a)) m (s .log) o p q l log-here (M .few) t bit h eb
 
       inside : turn ≡ cond (any others) (stops (Race t (lowest others) (raceKind (s .log) i (lowest others) kind) i) s) (continues (madeAccess s t d i kind))
       unfolding tryAccess
@@ -141,16 +213,17 @@ module _ (n t : ℕ) (s : LockState) (regs cells log : List ℕ) (M : Memory n s
       size : length others ≡ n
       size = conflict-size n (length (s .cells)) (s .log) log (M .log-is) i (omega (arith, cells-size)) t kind
 
-      pub race-did : (u v : ℕ) (k : AccessKind) → v ≡ i → (bitOr w bit ≡ bit → ⊥) → u ≡ trailingZeros 32 (bitOr w bit - bit)
-          → k ≡ kindWord op (length cells) i u log
-          → Did n s turn (Stop (Race t u k v)) regs cells log
-      race-did u v k ev ne eu K =
-          let ek : k ≡ raceKind (s .log) i u kind = K ∙ kind-means op (length cells) i log n (reg s t (x .a)) m (s .log) o p q l log-here u in
-          let some : any others ≡ true = any-some others (λ e. ne (omega (arith, ew, e, or-more w bit short single))) in
+      pub race-did : (u c : ℕ) (k : AccessKind) → c ≡ i → (met ≡ bit → ⊥) → u ≡ trailingZeros 32 (met - bit)
+          → k ≡ kindWord op v (length cells) i u log
+          → Did n s turn (Stop (Race t u k c)) regs cells log
+      race-did u c k ec ne eu K =
+          let ek : k ≡ raceKind (s .log) i u kind =
+          K ∙ ap (λ y. kindWord op y (length cells) i u log) value-is ∙ kind-means op (length cells) i log n (reg s t (x .a)) m (s .log) o p q l log-here u in
+          let some : any others ≡ true = any-some others (λ e. ne (omega (arith, ew, e, bit-met op v (length cells) i log met bit C))) in
           let low : u ≡ lowest others = eu ∙ ap (trailingZeros 32) ew ∙ lowest-is others 32 (omega (arith, size, M .few)) some in
           did (stops (Race t (lowest others) (raceKind (s .log) i (lowest others) kind) i) s) _ regs cells log (inside ∙ rw some)
           (record {
-            answer = ap₂ (λ y z. Stop (Race t u y z)) ek ev ∙ ap (λ y. Stop (Race t y (raceKind (s .log) i y kind) i)) low;
+            answer = ap₂ (λ y z. Stop (Race t u y z)) ek ec ∙ ap (λ y. Stop (Race t y (raceKind (s .log) i y kind) i)) low;
             memory = M;
             kept = kept-none s;
           })
@@ -202,11 +275,11 @@ module _ (n t : ℕ) (s : LockState) (regs cells log : List ℕ) (M : Memory n s
               (unfold registersAfter in (kept-regs (λ z. omega arith)))
               (unfold cellAfter in (set-cell _ (λ z. omega arith) (cell-by-add op _ _ (λ z. omega arith))))
 
-      pub made-did : (regs′ cells′ log′ : List ℕ) → bitOr w bit ≡ bit → Transferred op (d * 32 + j) (a * 32 + j) i regs cells regs′ cells′
-          → log′ ≡ enteredWords op (length cells) i bit log → Did n s turn Done regs′ cells′ log′
+      pub made-did : (regs′ cells′ log′ : List ℕ) → met ≡ bit → Transferred op (d * 32 + j) (a * 32 + j) i regs cells regs′ cells′
+          → log′ ≡ enteredWords op v (length cells) i bit log → Did n s turn Done regs′ cells′ log′
       made-did regs′ cells′ log′ z T E =
           let G : LogIs n (length (s .cells)) (logged (s .log) i t kind) log′ =
-          subst₂ (λ k g. LogIs n k (logged (s .log) i t kind) g) cells-size (sym E)
+          subst₂ (λ k g. LogIs n k (logged (s .log) i t kind) g) cells-size (sym (E ∙ ap (λ y. enteredWords op y (length cells) i bit log) value-is))
           (entered-means op (length cells) i log n (reg s t (x .a)) m (s .log) o p q l log-here (M .few) t bit h eb) in
           let none : any others ≡ false = any-none others (sym ew ∙ omega (arith, z)) in
           did (continues (madeAccess s t d i kind)) _ regs′ cells′ log′ (inside ∙ rw none)

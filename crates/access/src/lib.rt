@@ -1,9 +1,11 @@
 // One thread's LOAD (16), STORE (17) or ATOMIC ADD (18): one path for all three.
 ghost use mathlib.Core.Path.{_≡_};
+ghost use mathlib.Core.Bool.{true};
 ghost use Prim.Native.Nat.{_+_, _*_, _^_, _<_};
-ghost use lib.ListN.{length};
+ghost use lib.ListN.{length, getD};
 ghost use Rattle.layout.specs.Logging.{SameBut};
-ghost use Rattle.layout.specs.Memory.{AccessAsks, AccessOne, KeptBut, Transferred, CellRegister, CellNumber};
+ghost use Rattle.layout.specs.declared.Access.the-variants as access;
+ghost use Rattle.layout.specs.Memory.{AccessAsks, AccessOne, KeptBut, Transferred, CellRegister, CellNumber, TestAsks, goesOn, Refused};
 
 fn index(x: u32) -> usize
     ensures { λ r. ⌜ r ≡ x ⌝ }
@@ -51,8 +53,31 @@ pub fn cell_number(regs: &[u32; 512], t: u32, op: u8, d: usize, a: usize) -> u32
     regs[b * 32 + j]
 }
 
-// Thread t's access, of the cell numbered x. The thread's bit is handed down, so that it is not shifted into place for each access.
-pub fn access_one(
+// Whether thread t's access, of the cell numbered x, goes on. The thread's bit is handed down, so that it is not shifted into place for each access.
+pub fn goes_on(
+    regs: &[u32; 512],
+    cells: &[u32],
+    log: &[u32],
+    x: u32,
+    t: u32,
+    bit: u32,
+    op: u8,
+    a: usize,
+) -> bool
+    requires { ⌜ (t < 32) × TestAsks op a (now cells) (now log) ⌝ }
+    ensures { λ r. ⌜ r ≡ goesOn op (getD (now (regs .entry)) (a * 32 + t) 0) bit x (now (cells .entry)) (now (log .entry)) ⌝ }
+{
+    let j = index(t);
+    let i = index(x);
+    let n = cells.len();
+    if n <= i {
+        return false;
+    }
+    accesslog::met(log, n, i, bit, regs[a * 32 + j], op) == bit
+}
+
+// The access itself, and its thread in the log.
+pub fn make(
     regs: &mut [u32; 512],
     cells: &mut [u32],
     log: &mut [u32],
@@ -62,26 +87,45 @@ pub fn access_one(
     op: u8,
     d: usize,
     a: usize,
-) -> layout::Access
-    requires { ⌜ (t < 32) × AccessAsks op d a (now cells) (now log) × (bit ≡ 2 ^ t) × CellNumber op d a t (now regs) x ⌝ }
-    ensures { λ r. ⌜ AccessOne op t d a (now (regs .entry)) (now (cells .entry)) (now (log .entry)) r
+)
+    requires { ⌜ (t < 32) × AccessAsks op d a (now cells) (now log) × (bit ≡ 2 ^ t) × CellNumber op d a t (now regs) x
+        × (goesOn op (getD (now regs) (a * 32 + t) 0) bit x (now cells) (now log) ≡ true) ⌝ }
+    ensures { λ _. ⌜ AccessOne op t d a (now (regs .entry)) (now (cells .entry)) (now (log .entry)) access.Done
         (now (regs .exit)) (now (cells .exit)) (now (log .exit)) × KeptBut d (t + 1) (now (regs .entry)) (now (regs .exit))
         × SameBut x (length (now (cells .entry))) (now (log .entry)) (now (log .exit)) ⌝ }
 {
     let j = index(t);
     let i = index(x);
     let n = cells.len();
+    accesslog::enter(log, n, i, bit, regs[a * 32 + j], op);
+    transfer(regs, cells, j, i, op, d, a);
+}
+
+// Why thread t's access does not go on.
+pub fn verdict(
+    regs: &[u32; 512],
+    cells: &[u32],
+    log: &[u32],
+    t: u32,
+    op: u8,
+    d: usize,
+    a: usize,
+) -> spec::Verdict
+    requires { ⌜ (t < 32) × AccessAsks op d a (now cells) (now log) × Refused op d a t (now regs) (now cells) (now log) ⌝ }
+    ensures { λ r. ⌜ AccessOne op t d a (now (regs .entry)) (now (cells .entry)) (now (log .entry)) (access.Stop r)
+        (now (regs .entry)) (now (cells .entry)) (now (log .entry)) ⌝ }
+{
+    let x = cell_number(regs, t, op, d, a);
+    let j = index(t);
+    let i = index(x);
+    let n = cells.len();
     if n <= i {
-        return layout::Access::Stop(spec::Verdict::Outside(t, x));
+        return spec::Verdict::Outside(t, x);
     }
-    // With the thread's own bit the masks are that bit alone, where nobody else is in them.
-    let met = accesslog::tested(log, n, i, op) | bit;
-    if met == bit {
-        accesslog::enter(log, n, i, bit, op);
-        transfer(regs, cells, j, i, op, d, a);
-        return layout::Access::Done;
-    }
+    let bit: u32 = 1 << t;
+    let v = regs[a * 32 + j];
+    let met = accesslog::met(log, n, i, bit, v, op);
     let other = masks::lowest(met - bit);
-    let kind = accesslog::race_kind(log, n, i, other, op);
-    layout::Access::Stop(spec::Verdict::Race(t, other, kind, x))
+    let kind = accesslog::race_kind(log, n, i, other, v, op);
+    spec::Verdict::Race(t, other, kind, x)
 }

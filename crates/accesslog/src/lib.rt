@@ -1,33 +1,71 @@
-// The access log: all reader masks, then all writer masks, then all adder masks. The access test, the log's reading and writing,
-// and the walk that clears it.
+// The access log: all reader masks, then all writer masks, all adder masks, all first values and all marks of unequal stores. The access
+// test, the log's reading and writing, and the walk that clears it.
 ghost use mathlib.Core.Path.{_≡_};
 ghost use Prim.Native.Nat.{_*_, _<_, _≤_};
+ghost use lib.Bits.{bitOr};
 ghost use lib.ListN.{length, replicate};
 ghost use Rattle.spec.specs.Limits.{logPerCell};
 ghost use Rattle.spec.specs.Log.{cellCleared, cellsCleared};
-ghost use Rattle.layout.specs.Logging.{LogAsks, modeOf, placeOf, testedWord, kindWord, enteredWords};
+ghost use Rattle.spec.specs.Access.{writes};
+ghost use Rattle.layout.specs.Logging.{LogAsks, modeOf, rank, placeOf, conflictingWord, testedWord, besideWriters, kindWord, wordOf, markEntered, valueEntered, enteredWords};
 
-// The access test: the threads, the acting one among them, whose logged accesses of cell i conflict with an access by op.
-pub fn tested(log: &[u32], cells: usize, i: usize, op: u8) -> u32
+// The writers of cell i that an access by op conflicts with: none where it stores v, as all stores to the cell did.
+fn writers_met(log: &[u32], cells: usize, i: usize, v: u32, op: u8) -> u32
     requires { ⌜ LogAsks op cells i (now log) ⌝ }
-    ensures { λ r. ⌜ r ≡ testedWord op cells i (now (log .entry)) ⌝ }
+    ensures { λ r. ⌜ r ≡ conflictingWord writes op v cells i (now (log .entry)) ⌝ }
 {
-    let w = log[cells + i];
+    if op != 17 {
+        return log[cells + i];
+    }
+    if log[4 * cells + i] != 0 {
+        return log[cells + i];
+    }
+    if v != log[3 * cells + i] {
+        return log[cells + i];
+    }
+    0
+}
+
+// The adders and readers that an access of cell i by op conflicts with, and the thread of this bit.
+fn beside(log: &[u32], cells: usize, i: usize, bit: u32, op: u8) -> u32
+    requires { ⌜ LogAsks op cells i (now log) ⌝ }
+    ensures { λ r. ⌜ r ≡ bitOr (besideWriters op cells i (now (log .entry))) bit ⌝ }
+{
     if op == 16 {
-        return w | log[2 * cells + i];
+        return log[2 * cells + i] | bit;
     }
     if op == 17 {
-        return w | (log[2 * cells + i] | log[i]);
+        return (log[2 * cells + i] | log[i]) | bit;
     }
-    w | log[i]
+    log[i] | bit
+}
+
+// The access test: the threads whose logged accesses of cell i conflict with an access by op, and the acting one, of this bit. A STORE stores v.
+pub fn met(log: &[u32], cells: usize, i: usize, bit: u32, v: u32, op: u8) -> u32
+    requires { ⌜ LogAsks op cells i (now log) ⌝ }
+    ensures { λ r. ⌜ r ≡ bitOr (testedWord op v cells i (now (log .entry))) bit ⌝ }
+{
+    let others = beside(log, cells, i, bit, op);
+    // Mostly nobody else is there, and no value has to be looked at.
+    if log[cells + i] | others == bit {
+        return bit;
+    }
+    writers_met(log, cells, i, v, op) | others
 }
 
 // The kind of a race with the thread `other` at cell i: of what it did there and op conflicts with, a write is shown before an add, an add before a read.
-pub fn race_kind(log: &[u32], cells: usize, i: usize, other: u32, op: u8) -> spec::AccessKind
+pub fn race_kind(
+    log: &[u32],
+    cells: usize,
+    i: usize,
+    other: u32,
+    v: u32,
+    op: u8,
+) -> spec::AccessKind
     requires { ⌜ (other < 32) × LogAsks op cells i (now log) ⌝ }
-    ensures { λ r. ⌜ r ≡ kindWord op cells i other (now (log .entry)) ⌝ }
+    ensures { λ r. ⌜ r ≡ kindWord op v cells i other (now (log .entry)) ⌝ }
 {
-    let wrote = masks::bit(log[cells + i], other);
+    let wrote = masks::bit(writers_met(log, cells, i, v, op), other);
     let added = masks::bit(log[2 * cells + i], other);
     if op == 16 {
         if wrote == 0 {
@@ -53,21 +91,62 @@ pub fn race_kind(log: &[u32], cells: usize, i: usize, other: u32, op: u8) -> spe
 // Where the mask of cell i stands that an access by op enters.
 fn place(cells: usize, i: usize, op: u8) -> usize
     requires { ⌜ (16 ≤ op) × (op ≤ 18) × (cells ≤ 1024) × (i < cells) ⌝ }
-    ensures { λ r. ⌜ r ≡ placeOf (modeOf op) cells i ⌝ }
+    ensures { λ r. ⌜ r ≡ placeOf (rank (modeOf op)) cells i ⌝ }
 {
     (op as usize - 16) * cells + i
 }
 
-// The thread of this bit enters the mask of cell i.
-pub fn enter(log: &mut [u32], cells: usize, i: usize, bit: u32, op: u8)
-    requires { ⌜ LogAsks op cells i (now log) ⌝ }
-    ensures { λ _. ⌜ now (log .exit) ≡ enteredWords op cells i bit (now (log .entry)) ⌝ }
+// A store of v to a cell that has a first value: another one marks the cell.
+fn enter_mark(log: &mut [u32], cells: usize, i: usize, v: u32)
+    requires { ⌜ LogAsks 17 cells i (now log) ⌝ }
+    ensures { λ _. ⌜ now (log .exit) ≡ markEntered v cells i (now (log .entry)) ⌝ }
 {
+    if v == log[3 * cells + i] {
+        return;
+    }
+    log[4 * cells + i] = 1;
+}
+
+// A store of v to a cell with the writers w: the first leaves its value.
+fn enter_value(log: &mut [u32], cells: usize, i: usize, w: u32, v: u32)
+    requires { ⌜ LogAsks 17 cells i (now log) × (w ≡ wordOf (rank writes) cells i (now log)) ⌝ }
+    ensures { λ _. ⌜ now (log .exit) ≡ valueEntered v cells i (now (log .entry)) ⌝ }
+{
+    if w == 0 {
+        log[3 * cells + i] = v;
+        return;
+    }
+    enter_mark(log, cells, i, v);
+}
+
+// A store of v by the thread of this bit. Where it alone has stored to the cell, the writers stay as they are.
+fn enter_store(log: &mut [u32], cells: usize, i: usize, bit: u32, v: u32)
+    requires { ⌜ LogAsks 17 cells i (now log) × (0 < bit) ⌝ }
+    ensures { λ _. ⌜ now (log .exit) ≡ enteredWords 17 v cells i bit (now (log .entry)) ⌝ }
+{
+    let w = log[cells + i];
+    if w == bit {
+        enter_mark(log, cells, i, v);
+        return;
+    }
+    enter_value(log, cells, i, w, v);
+    log[cells + i] = w | bit;
+}
+
+// The thread of this bit enters the mask of cell i, and of a STORE the value v.
+pub fn enter(log: &mut [u32], cells: usize, i: usize, bit: u32, v: u32, op: u8)
+    requires { ⌜ LogAsks op cells i (now log) × (0 < bit) ⌝ }
+    ensures { λ _. ⌜ now (log .exit) ≡ enteredWords op v cells i bit (now (log .entry)) ⌝ }
+{
+    if op == 17 {
+        enter_store(log, cells, i, bit, v);
+        return;
+    }
     let p = place(cells, i, op);
     log[p] = log[p] | bit;
 }
 
-// One turn of the walk: the masks of cell i, put to 0 together.
+// One turn of the walk: the words of cell i, put to 0 together.
 fn clear_cell(log: &mut [u32], cells: usize, i: usize)
     requires { ⌜ (length (now log) ≡ logPerCell * cells) × (i < cells) ⌝ }
     ensures { λ _. ⌜ now (log .exit) ≡ cellCleared cells i (now (log .entry)) ⌝ }
@@ -75,6 +154,8 @@ fn clear_cell(log: &mut [u32], cells: usize, i: usize)
     log[i] = 0;
     log[cells + i] = 0;
     log[2 * cells + i] = 0;
+    log[3 * cells + i] = 0;
+    log[4 * cells + i] = 0;
 }
 
 // n turns, from cell 0 on; more than there are cells clear them all, and nothing else.

@@ -60,20 +60,20 @@ module _ (cells k held logged recorded : ℕ) (ek : k ≡ cells) where
   bad-held n = sym (fails _ _ _ (ne-eqb held cells (λ e. n (e ∙ sym ek))))
 
   module _ (e : held ≡ k) where
-    pub bad-logged : (logged ≡ 3 * k → ⊥) → some LogLength ≡ bareLent cells held logged recorded
+    pub bad-logged : (logged ≡ 5 * k → ⊥) → some LogLength ≡ bareLent cells held logged recorded
     unfolding bareLent
-    bad-logged n = sym (holds _ _ _ (eq-eqb held cells (e ∙ ek)) ∙ fails _ _ _ (ne-eqb logged (3 * cells) (λ q. n (omega (arith, q, ek)))))
+    bad-logged n = sym (holds _ _ _ (eq-eqb held cells (e ∙ ek)) ∙ fails _ _ _ (ne-eqb logged (5 * cells) (λ q. n (omega (arith, q, ek)))))
 
-    module _ (q : logged ≡ 3 * k) where
+    module _ (q : logged ≡ 5 * k) where
       pub bad-recorded : recorded < 3075 → some RecordsLength ≡ bareLent cells held logged recorded
       unfolding bareLent
       bad-recorded l =
-          sym (holds _ _ _ (eq-eqb held cells (e ∙ ek)) ∙ holds _ _ _ (eq-eqb logged (3 * cells) (omega (arith, q, ek))) ∙ fails _ _ _ (lt-leb 3075 recorded l))
+          sym (holds _ _ _ (eq-eqb held cells (e ∙ ek)) ∙ holds _ _ _ (eq-eqb logged (5 * cells) (omega (arith, q, ek))) ∙ fails _ _ _ (lt-leb 3075 recorded l))
 
       pub lent-fine : 3075 ≤ recorded → none ≡ bareLent cells held logged recorded
       unfolding bareLent
       lent-fine l =
-          sym (holds _ _ _ (eq-eqb held cells (e ∙ ek)) ∙ holds _ _ _ (eq-eqb logged (3 * cells) (omega (arith, q, ek)))
+          sym (holds _ _ _ (eq-eqb held cells (e ∙ ek)) ∙ holds _ _ _ (eq-eqb logged (5 * cells) (omega (arith, q, ek)))
           ∙ holds _ _ _ (le-leb 3075 recorded l) ∙ ends)
 
 module _ (held logged recorded room : ℕ) where
@@ -82,22 +82,22 @@ module _ (held logged recorded room : ℕ) where
   bad-cells-lent n = sym (fails _ _ _ (ne-eqb held 1024 n))
 
   module _ (e : held ≡ 1024) where
-    pub bad-log-lent : (logged ≡ 3072 → ⊥) → some LogLength ≡ fileLent held logged recorded room
+    pub bad-log-lent : (logged ≡ 5120 → ⊥) → some LogLength ≡ fileLent held logged recorded room
     unfolding fileLent
-    bad-log-lent n = sym (holds _ _ _ (eq-eqb held 1024 e) ∙ fails _ _ _ (ne-eqb logged 3072 n))
+    bad-log-lent n = sym (holds _ _ _ (eq-eqb held 1024 e) ∙ fails _ _ _ (ne-eqb logged 5120 n))
 
-    module _ (q : logged ≡ 3072) where
+    module _ (q : logged ≡ 5120) where
       pub bad-records-lent : recorded < 3075 → some RecordsLength ≡ fileLent held logged recorded room
       unfolding fileLent
-      bad-records-lent l = sym (holds _ _ _ (eq-eqb held 1024 e) ∙ holds _ _ _ (eq-eqb logged 3072 q) ∙ fails _ _ _ (lt-leb 3075 recorded l))
+      bad-records-lent l = sym (holds _ _ _ (eq-eqb held 1024 e) ∙ holds _ _ _ (eq-eqb logged 5120 q) ∙ fails _ _ _ (lt-leb 3075 recorded l))
 
       module _ (h : 3075 ≤ recorded) where
         pub bad-output-lent : room < 17408 → some OutputLength ≡ fileLent held logged recorded room
         unfolding fileLent
         bad-output-lent l =
-            sym (holds _ _ _ (eq-eqb held 1024 e) ∙ holds _ _ _ (eq-eqb logged 3072 q) ∙ holds _ _ _ (le-leb 3075 recorded h) ∙ fails _ _ _ (lt-leb 17408 room l))
+            sym (holds _ _ _ (eq-eqb held 1024 e) ∙ holds _ _ _ (eq-eqb logged 5120 q) ∙ holds _ _ _ (le-leb 3075 recorded h) ∙ fails _ _ _ (lt-leb 17408 room l))
 
         pub all-lent : 17408 ≤ room → none ≡ fileLent held logged recorded room
         unfolding fileLent
         all-lent l =
-            sym (holds _ _ _ (eq-eqb held 1024 e) ∙ holds _ _ _ (eq-eqb logged 3072 q) ∙ holds _ _ _ (le-leb 3075 recorded h) ∙ holds _ _ _ (le-leb 17408 room l) ∙ ends)
+            sym (holds _ _ _ (eq-eqb held 1024 e) ∙ holds _ _ _ (eq-eqb logged 5120 q) ∙ holds _ _ _ (le-leb 3075 recorded h) ∙ holds _ _ _ (le-leb 17408 room l) ∙ ends)

@@ -55,7 +55,7 @@ pub fn lent(count: u32, held: usize, logged: usize, recorded: usize) -> Admissio
     if held != k {
         return Admission::Refused(Refusal::CellsLength);
     }
-    if logged != 3 * k {
+    if logged != 5 * k {
         return Admission::Refused(Refusal::LogLength);
     }
     if recorded < 3075 {
@@ -71,7 +71,7 @@ pub fn lent_for_file(held: usize, logged: usize, recorded: usize, room: usize) -
     if held != 1024 {
         return Admission::Refused(Refusal::CellsLength);
     }
-    if logged != 3072 {
+    if logged != 5120 {
         return Admission::Refused(Refusal::LogLength);
     }
     if recorded < 3075 {

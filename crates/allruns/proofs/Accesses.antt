@@ -6,11 +6,12 @@ use Prim.Native.Nat.{ℕ}
 use native.Mathlib.Omega.{arith}
 use native.Mathlib.Decide.{ℕ-discrete}
 use lib.Dec.{eqb, ltb}
-use borrow.Author.Tests.{eq-eqb, ne-eqb, ltb-true, ltb-false}
+use borrow.Author.Tests.{eqb-true, eq-eqb, ne-eqb, ltb-true, ltb-false}
 use lib.ListN.{length, getD, set}
 use lib.Seq.{getD-set-other, getD-set-same, set-comm, set-set, set-out}
-use Rattle.spec.specs.Access.{Access, Kind, load, store, atomicAdd, cellAfter, registersAfter, Mode, reads, writes, adds, mode, agree, conflict}
+use Rattle.spec.specs.Access.{Access, Kind, load, store, atomicAdd, cellAfter, registersAfter, valueOf, Mode, reads, writes, adds, mode, agree, conflict}
 use Rattle.spec.specs.Lists.{anyOf}
+use Rattle.allruns.proofs.Bools.{or-left-false, or-right-false}
 
 pub eqb-swap : (a b : ℕ) → eqb a b ≡ eqb b a
 eqb-swap a b = at (ℕ-discrete a b)
@@ -20,30 +21,31 @@ eqb-swap a b = at (ℕ-discrete a b)
     at (no e) = ne-eqb a b e ∙ sym (ne-eqb b a (λ q. e (sym q)))
 
 -- The three laws of the table.
-pub agree-swap : (m l : Mode) → agree m l ≡ agree l m
+pub agree-swap : (equal : Bool) (m l : Mode) → agree equal m l ≡ agree equal l m
 unfolding agree
-agree-swap reads reads = refl
-agree-swap reads writes = refl
-agree-swap reads adds = refl
-agree-swap writes reads = refl
-agree-swap writes writes = refl
-agree-swap writes adds = refl
-agree-swap adds reads = refl
-agree-swap adds writes = refl
-agree-swap adds adds = refl
+agree-swap equal reads reads = refl
+agree-swap equal reads writes = refl
+agree-swap equal reads adds = refl
+agree-swap equal writes reads = refl
+agree-swap equal writes writes = refl
+agree-swap equal writes adds = refl
+agree-swap equal adds reads = refl
+agree-swap equal adds writes = refl
+agree-swap equal adds adds = refl
 
--- Sums modulo 2^32 do not depend on the order of the adds.
-pub agree-left : (k l : Kind) (old : ℕ) → agree (mode k) (mode l) ≡ true → cellAfter l (cellAfter k old) ≡ cellAfter k (cellAfter l old)
-unfolding agree mode cellAfter
+-- Sums modulo 2^32 do not depend on the order of the adds, and stores that agree store one value.
+pub agree-left : (k l : Kind) (old : ℕ) → agree (eqb (valueOf k) (valueOf l)) (mode k) (mode l) ≡ true
+    → cellAfter l (cellAfter k old) ≡ cellAfter k (cellAfter l old)
+unfolding agree mode valueOf cellAfter
 agree-left load l old q = refl
 agree-left (store v) load old q = refl
-agree-left (store v) (store w) old q = absurd (false≢true q)
+agree-left (store v) (store w) old q = sym (eqb-true v w q)
 agree-left (store v) (atomicAdd w) old q = absurd (false≢true q)
 agree-left (atomicAdd v) load old q = refl
 agree-left (atomicAdd v) (store w) old q = absurd (false≢true q)
 agree-left (atomicAdd v) (atomicAdd w) old q = omega arith
 
-pub agree-taken : (k l : Kind) (d old : ℕ) (regs : List ℕ) → agree (mode k) (mode l) ≡ true
+pub agree-taken : (k l : Kind) (d old : ℕ) (regs : List ℕ) → agree (eqb (valueOf k) (valueOf l)) (mode k) (mode l) ≡ true
     → registersAfter l d (cellAfter k old) regs ≡ registersAfter l d old regs
 unfolding agree mode cellAfter registersAfter
 agree-taken load l d old regs q = refl
@@ -57,11 +59,14 @@ agree-taken (atomicAdd v) (atomicAdd w) d old regs q = refl
 -- What follows from them.
 pub conflict-swap : (x y : Access) → conflict x y ≡ conflict y x
 unfolding conflict
-conflict-swap x y = ap₂ (λ a b. a && not b) (eqb-swap (x .cell) (y .cell)) (agree-swap (mode (x .kind)) (mode (y .kind)))
+conflict-swap x y =
+    ap₂ (λ a b. a && not b) (eqb-swap (x .cell) (y .cell))
+    (ap (λ b. agree b (mode (x .kind)) (mode (y .kind))) (eqb-swap (valueOf (x .kind)) (valueOf (y .kind))) ∙ agree-swap _ (mode (x .kind)) (mode (y .kind)))
 
-pub conflict-agree : (x y : Access) → conflict x y ≡ false → x .cell ≡ y .cell → agree (mode (x .kind)) (mode (y .kind)) ≡ true
+pub conflict-agree : (x y : Access) → conflict x y ≡ false → x .cell ≡ y .cell
+    → agree (eqb (valueOf (x .kind)) (valueOf (y .kind))) (mode (x .kind)) (mode (y .kind)) ≡ true
 unfolding conflict
-conflict-agree x y q e = by (agree (mode (x .kind)) (mode (y .kind))) (rw (eq-eqb (x .cell) (y .cell) e) at q)
+conflict-agree x y q e = by (agree (eqb (valueOf (x .kind)) (valueOf (y .kind))) (mode (x .kind)) (mode (y .kind))) (rw (eq-eqb (x .cell) (y .cell) e) at q)
   where
     by : (b : Bool) → not b ≡ false → b ≡ true
     by true q = refl
@@ -146,3 +151,13 @@ pub some-swap : {A B : Type 0} (p : A → B → Bool) (xs : List A) (ys : List B
 unfolding anyOf
 some-swap p [] ys = sym (some-none ys)
 some-swap p (x ∷ xs) ys = ap (λ b. anyOf (p x) ys || b) (some-swap p xs ys) ∙ sym (some-or (p x) (λ y. anyOf (λ x. p x y) xs) ys)
+
+-- Where p holds of some and q of none, p holds of one of which q does not.
+pub some-apart : {A : Type 0} (p q : A → Bool) (xs : List A) → anyOf p xs ≡ true → anyOf q xs ≡ false → (x : A) × (p x ≡ true) × (q x ≡ false)
+unfolding anyOf
+some-apart p q [] s n = absurd (false≢true s)
+some-apart {A = A} p q (x ∷ xs) s n = by (p x) refl s (λ r. some-apart p q xs r (or-right-false (q x) (anyOf q xs) n))
+  where
+    by : (b : Bool) → p x ≡ b → (b || anyOf p xs) ≡ true → (anyOf p xs ≡ true → (y : A) × (p y ≡ true) × (q y ≡ false)) → (y : A) × (p y ≡ true) × (q y ≡ false)
+    by true e s ih = (x, e, or-left-false (q x) (anyOf q xs) n)
+    by false e s ih = ih s

@@ -17,8 +17,8 @@ use Rattle.spec.specs.Table.{Table, WellFormed, noRow, rowAt}
 use Rattle.spec.specs.Threads.{Group, Move, Thread, accessesOf, atEnd, atOneBarrier, effectAt, endsBadly, isBarrier, isOutside, isWaiting, machine}
 use Rattle.spec.specs.Threads.{markBad, next, noThread, performed, possible, races, release, row, threadAfter, threadCount}
 use Rattle.allruns.proofs.Descent.{all-after, finish}
-use Rattle.allruns.proofs.Bools.{and-left, and-right, not-is}
-use Rattle.allruns.proofs.Diamond.{or-left-false, laws, every-at, act-waits}
+use Rattle.allruns.proofs.Bools.{and-left, and-right, not-is, or-left-false}
+use Rattle.allruns.proofs.Diamond.{laws, every-at, act-waits}
 use Rattle.allruns.proofs.Progress.{Later, later-not, later-trans, act-forward}
 
 -- A run that ends badly is no run of a launch whose runs always come to an end.

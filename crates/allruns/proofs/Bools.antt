@@ -1,6 +1,7 @@
 -- Facts on Booleans and on `anyBelow`. Assumes nothing.
 use mathlib.Core.Path.{_≡_, refl, sym, _∙_, ap, ap₂}
-use mathlib.Core.Bool.{Bool, true, false, not, _&&_, _||_, or-comm, false≢true, or-false}
+use mathlib.Core.Logic.{_↔_}
+use mathlib.Core.Bool.{Bool, true, false, not, _&&_, _||_, or-comm, true≢false, false≢true, and-false, or-false}
 use Prim.Native.Nat.{ℕ, zero, suc, _<_}
 use native.Mathlib.Omega.{arith}
 use native.Mathlib.Decide.{ℕ-discrete}
@@ -23,10 +24,43 @@ pub not-is : (a : Bool) → not a ≡ true → a ≡ false
 not-is true h = sym h
 not-is false h = refl
 
+pub or-left-false : (a b : Bool) → (a || b) ≡ false → a ≡ false
+or-left-false true b q = q
+or-left-false false b q = refl
+
+pub or-right-false : (a b : Bool) → (a || b) ≡ false → b ≡ false
+or-right-false true b q = absurd (true≢false q)
+or-right-false false b q = q
+
+pub or-never : (a b c : Bool) → (a || (b && (c && false))) ≡ a
+or-never a b c = ap (λ x. a || (b && x)) (and-false c) ∙ ap (λ x. a || x) (and-false b) ∙ or-false a
+
 pub below-same : (n : ℕ) (p q : ℕ → Bool) → ((v : ℕ) → v < n → p v ≡ q v) → anyBelow n p ≡ anyBelow n q
 unfolding anyBelow
 below-same zero p q h = refl
 below-same (suc n) p q h = ap₂ _||_ (h n (omega arith)) (below-same n p q (λ v l. h v (omega arith)))
+
+-- The test holds for no number below n, or for one.
+pub below-none : (n : ℕ) (p : ℕ → Bool) → (anyBelow n p ≡ false) ↔ ((v : ℕ) → v < n → p v ≡ false)
+unfolding anyBelow
+below-none zero p = (λ q v l. absurd (omega arith), λ h. refl)
+below-none (suc n) p = (
+  λ q v l. at v (ℕ-discrete v n) l (or-left-false (p n) _ q) (below-none n p .0 (or-right-false (p n) _ q)),
+  λ h. ap₂ _||_ (h n (omega arith)) (below-none n p .1 (λ v l. h v (omega arith))),
+)
+  where
+    at : (v : ℕ) → Dec (v ≡ n) → v < suc n → p n ≡ false → ((v : ℕ) → v < n → p v ≡ false) → p v ≡ false
+    at v (yes e) l q ih = ap p e ∙ q
+    at v (no e) l q ih = ih v (omega arith)
+
+pub below-some : (n : ℕ) (p : ℕ → Bool) → anyBelow n p ≡ true → (v : ℕ) × (v < n) × (p v ≡ true)
+unfolding anyBelow
+below-some zero p q = absurd (false≢true q)
+below-some (suc n) p q = at (p n) refl (below-some n p)
+  where
+    at : (b : Bool) → p n ≡ b → (anyBelow n p ≡ true → (v : ℕ) × (v < n) × (p v ≡ true)) → (v : ℕ) × (v < suc n) × (p v ≡ true)
+    at true e ih = (n, omega arith, e)
+    at false e ih = let (v, l, h) = ih (sym (ap (λ b. b || anyBelow n p) e) ∙ q) in (v, omega arith, h)
 
 -- One more number for which the test holds where w does.
 pub below-more : (n : ℕ) (p : ℕ → Bool) (t : ℕ) (w : Bool) → t < n → anyBelow n (λ v. p v || (eqb v t && w)) ≡ (anyBelow n p || w)

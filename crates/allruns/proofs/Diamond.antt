@@ -20,7 +20,7 @@ use Rattle.spec.specs.Threads.{effectOf, endsBadly, goes, isBarrier, isOutside,
 use Rattle.spec.specs.Threads.{races, recorded, release, row, shown, strays, threadAfter, threadCount, waits}
 use Rattle.allruns.proofs.Descent.{Close, meet, clash, dead, Laws}
 use Rattle.allruns.proofs.Accesses.{conflict-swap, taken-after, cells-swap, some-same, some-append, some-or, some-swap}
-use Rattle.allruns.proofs.Bools.{and-left, and-right, below-same, below-more}
+use Rattle.allruns.proofs.Bools.{and-left, and-right, or-left-false, or-right-false, below-same, below-more}
 
 -- Accesses xs of thread t add the races with them, for every other thread.
 pub races-more : (n : ℕ) (R : AccessRecord) (t u : ℕ) (xs : List Access) (y : Access) → ¬ (t ≡ u) → t < n
@@ -164,14 +164,6 @@ done-after : (T : Table) (L : Shape) (s : Group) (t u : ℕ) (x : Effect) → ¬
 done-after T L s t u x ne q =
     next-done T L (performed s t x) u (ap (endsBadly (performed s t x) u) (act-same T L s t u x ne) ∙ q)
     ∙ ap (performed (performed s t x) u) (act-same T L s t u x ne)
-
-pub or-left-false : (a b : Bool) → (a || b) ≡ false → a ≡ false
-or-left-false true b q = q
-or-left-false false b q = refl
-
-or-right-false : (a b : Bool) → (a || b) ≡ false → b ≡ false
-or-right-false true b q = absurd (true≢false q)
-or-right-false false b q = q
 
 module _ (T : Table) (L : Shape) (s : Group) (t u : ℕ) (ne : ¬ (t ≡ u)) (ct : possible T L s (row t) ≡ true) (cu : possible T L s (row u) ≡ true) where
   -- the second move's turn: what it meets is known

@@ -3,6 +3,8 @@ pub mod Bools
 pub mod Accesses
 pub mod Descent
 pub mod Diamond
+pub mod LogMatches
+pub mod EqualStores
 pub mod LogRecord
 pub mod Nesting
 pub mod Progress

@@ -1,7 +1,7 @@
 -- The lock-step log stands for the machine's access record. Assumes nothing.
-use mathlib.Core.Path.{_≡_, refl, sym, _∙_, ap, ap₂}
-use mathlib.Core.List.{List, [], _∷_, map}
-use mathlib.Core.Bool.{Bool, true, false, cond, not, _&&_, _||_, or-comm, and-true, and-false, or-false}
+use mathlib.Core.Path.{_≡_, refl, sym, _∙_, ap, ap₂, subst}
+use mathlib.Core.List.{List, [], _∷_, _++_, map}
+use mathlib.Core.Bool.{Bool, true, false, cond, not, _&&_, _||_, or-comm, and-true, and-false, or-false, Bool·not-not}
 use Prim.Native.Nat.{ℕ, zero, suc, _<_}
 use native.Mathlib.Omega.{arith}
 use native.Mathlib.Decide.{ℕ-discrete}
@@ -9,14 +9,17 @@ use lib.Dec.{eqb, ltb}
 use borrow.Author.Tests.{eq-eqb, ne-eqb, ltb-true, ltb-false}
 use lib.ListN.{length, getD, set, replicate, length-set, length-replicate, length-map, getD-replicate}
 use lib.Seq.{getD-set-other, getD-set-same, set-out}
-use Rattle.spec.specs.Access.{Access, Kind, Mode, reads, writes, adds, mode, agree, conflict}
+use Rattle.spec.specs.Access.{Access, Kind, load, store, atomicAdd, valueOf, Mode, reads, writes, adds, mode, agree, conflict}
 use Rattle.spec.specs.Lists.{anyOf}
-use Rattle.spec.specs.Log.{Log, masksOf, emptyLog, nobody, cleared, withThread, logged, conflicting, testedMask, conflictMask}
+use Rattle.spec.specs.Log.{Log, masksOf, emptyLog, nobody, cleared, withThread, unequal, logged, conflicting, testedMask, conflictMask}
 use Rattle.spec.specs.Mask.{Mask, any, has, union}
 use Rattle.spec.specs.Threads.{AccessRecord, anyBelow, emptyRecord, races, recorded}
 use Rattle.spec.proofs.LogLaws.{same, masks-logged, masks-cleared, masks-empty, wiped-size, tested-size}
-use Rattle.allruns.proofs.Bools.{below-same}
-use Rattle.allruns.proofs.Accesses.{some-same, some-or, some-none}
+use Rattle.allruns.proofs.Bools.{or-never, below-none, below-same, below-more}
+use Rattle.allruns.proofs.Accesses.{conflict-swap, some-same, some-or, some-none}
+use Rattle.allruns.proofs.Diamond.{races-more}
+use Rattle.allruns.proofs.LogMatches.{inMode, isOther, holds, LogMatches}
+use Rattle.allruns.proofs.EqualStores.{unequal-empty, unequal-cleared, unequal-logged, race-free, writer-says}
 
 pub any-below : (m : Mask) → any m ≡ anyBelow (length m) (has m)
 unfolding any anyBelow has
@@ -85,15 +88,17 @@ enter-size masks c t e = by (ℕ-discrete e c) (ltb c (length masks)) refl
         ∙ length-set (getD masks c []) t true ∙ ap (λ v. length (getD masks v [])) (sym q)
     by (yes q) false p = ap (λ m. length (getD m e [])) (set-out masks c _ (ltb-false _ _ p))
 
--- The accesses xs have one of cell c in mode m.
-unfoldable pub holds : Mode → ℕ → List Access → Bool
-holds m c xs = anyOf (λ a. eqb c (a .cell) && same m (mode (a .kind))) xs
+values-size : (G : Log) (c t : ℕ) (x : Kind) → length (logged G c t x .values) ≡ length (G .values)
+unfolding logged
+values-size G c t load = refl
+values-size G c t (store v) = length-set (G .values) c _
+values-size G c t (atomicAdd v) = refl
 
--- In each mode, the masks have the threads whose record has such an access.
-pub record LogMatches (n k : ℕ) (R : AccessRecord) (G : Log) : Type 0 where
-  pub count : (m : Mode) → length (masksOf G m) ≡ k
-  pub size : (m : Mode) (c : ℕ) → c < k → length (getD (masksOf G m) c []) ≡ n
-  pub says : (m : Mode) (t c : ℕ) → t < n → c < k → holds m c (R t) ≡ has (getD (masksOf G m) c []) t
+marks-size : (G : Log) (c t : ℕ) (x : Kind) → length (logged G c t x .marks) ≡ length (G .marks)
+unfolding logged
+marks-size G c t load = refl
+marks-size G c t (store v) = length-set (G .marks) c _
+marks-size G c t (atomicAdd v) = refl
 
 nobody-has : (m : Mask) (t : ℕ) → has (nobody m) t ≡ false
 unfolding has nobody
@@ -103,13 +108,48 @@ nobody-has (b ∷ m) (suc t) = nobody-has m t
 
 -- The conflicts in one mode: all of its mask or none of it.
 conflicting-has : (G : Log) (c : ℕ) (m : Mode) (x : Kind) (u : ℕ)
-    → has (conflicting G c m x) u ≡ (not (agree m (mode x)) && has (getD (masksOf G m) c []) u)
+    → has (conflicting G c m x) u ≡ (not (agree (not (unequal G c (valueOf x))) m (mode x)) && has (getD (masksOf G m) c []) u)
 unfolding conflicting
-conflicting-has G c m x u = by (agree m (mode x))
+conflicting-has G c m x u = by (agree (not (unequal G c (valueOf x))) m (mode x))
   where
     by : (b : Bool) → has (cond b (nobody (getD (masksOf G m) c [])) (getD (masksOf G m) c [])) u ≡ (not b && has (getD (masksOf G m) c []) u)
     by true = nobody-has (getD (masksOf G m) c []) u
     by false = refl
+
+-- What a thread has accessed itself counts for none of its races.
+races-own : (n : ℕ) (R : AccessRecord) (t : ℕ) (xs : List Access) (y : Access) → races n (recorded R t xs) t y ≡ races n R t y
+unfolding races recorded
+races-own n R t xs y = below-same n _ _ (λ u l. by (eqb u t) (R u))
+  where
+    by : (d : Bool) (ys : List Access) → (not d && anyOf (conflict y) (cond d (xs ++ ys) ys)) ≡ (not d && anyOf (conflict y) ys)
+    by true ys = refl
+    by false ys = refl
+
+-- An access that does not race, recorded, leaves a record in which none does.
+free-recorded : (n : ℕ) (R : AccessRecord) (t : ℕ) (x : Access) → t < n → ((u : ℕ) → u < n → anyOf (races n R u) (R u) ≡ false) → races n R t x ≡ false
+    → (u : ℕ) → u < n → anyOf (races n (recorded R t (x ∷ [])) u) (recorded R t (x ∷ []) u) ≡ false
+free-recorded n R t x l free q u m = by (ℕ-discrete u t)
+  where
+    R₁ : AccessRecord
+    R₁ = recorded R t (x ∷ [])
+
+    own : anyOf (races n R₁ t) (R₁ t) ≡ false
+    own =
+        unfold recorded anyOf in
+        (some-same _ (races n R t) (R₁ t) (races-own n R t (x ∷ [])) ∙ ap (λ b. anyOf (races n R t) (cond b (x ∷ R t) (R t))) (eq-eqb t t refl)
+        ∙ ap₂ _||_ q (free t l))
+
+    beside : ¬ (u ≡ t) → anyOf (races n R₁ u) (R₁ u) ≡ false
+    beside e =
+        unfold recorded anyOf in
+        (ap (λ b. anyOf (races n R₁ u) (cond b (x ∷ R u) (R u))) (ne-eqb u t e)
+        ∙ some-same _ (λ y. races n R u y || conflict x y) (R u)
+        (λ y. races-more n R t u (x ∷ []) y (λ s. e (sym s)) l ∙ ap (λ b. races n R u y || b) (or-false (conflict y x) ∙ conflict-swap y x))
+        ∙ some-or (races n R u) (conflict x) (R u) ∙ ap₂ _||_ (free u m) (race-free n R t u x q m e))
+
+    by : Dec (u ≡ t) → anyOf (races n R₁ u) (R₁ u) ≡ false
+    by (yes e) = subst (λ v. anyOf (races n R₁ v) (R₁ v) ≡ false) (sym e) own
+    by (no e) = beside e
 
 -- A test of a cell's masks is a race test, where it says of each thread whether it has a conflicting access.
 tested : (n : ℕ) (R : AccessRecord) (t : ℕ) (x : Access) (m : Mask) → t < n → length m ≡ n → ((u : ℕ) → u < n → anyOf (conflict x) (R u) ≡ has m u)
@@ -128,80 +168,109 @@ module _ (n k : ℕ) (R : AccessRecord) (G : Log) (h : LogMatches n k R G) (t c 
   against-size x = tested-size G c x n (λ m. h .size m c i)
 
   -- What the conflict table makes of an access in mode y beside one in mode x is found in the masks of one mode.
-  by-modes : (e : Bool) (x y : Mode) → (e && not (agree x y))
-      ≡ ((e && (not (agree writes x) && same writes y)) || ((e && (not (agree adds x) && same adds y)) || (e && (not (agree reads x) && same reads y))))
+  by-modes : (e q : Bool) (x y : Mode) → (e && not (agree q x y))
+      ≡ ((e && (not (agree q writes x) && same writes y)) || ((e && (not (agree q adds x) && same adds y)) || (e && (not (agree q reads x) && same reads y))))
   unfolding agree same
-  by-modes false x y = refl
-  by-modes true reads reads = refl
-  by-modes true reads writes = refl
-  by-modes true reads adds = refl
-  by-modes true writes reads = refl
-  by-modes true writes writes = refl
-  by-modes true writes adds = refl
-  by-modes true adds reads = refl
-  by-modes true adds writes = refl
-  by-modes true adds adds = refl
+  by-modes false q x y = refl
+  by-modes true q reads reads = refl
+  by-modes true q reads writes = refl
+  by-modes true q reads adds = refl
+  by-modes true true writes reads = refl
+  by-modes true true writes writes = refl
+  by-modes true true writes adds = refl
+  by-modes true false writes reads = refl
+  by-modes true false writes writes = refl
+  by-modes true false writes adds = refl
+  by-modes true q adds reads = refl
+  by-modes true q adds writes = refl
+  by-modes true q adds adds = refl
 
   in-mode : (m : Mode) (p : Bool) (u : ℕ) → u < n
       → anyOf (λ a. eqb c (a .cell) && (p && same m (mode (a .kind)))) (R u) ≡ (p && has (getD (masksOf G m) c []) u)
-  unfolding holds
+  unfolding holds inMode
   in-mode m true u j = h .says m u c j i
   in-mode m false u j = some-same _ (λ a. false) (R u) (λ a. and-false (eqb c (a .cell))) ∙ some-none (R u)
+
+  -- The same for an access in mode x that brings v: between two stores the values count, and there first value and mark speak for them.
+  in-modes : (m x : Mode) (v u : ℕ) → u < n
+      → anyOf (λ a. eqb c (a .cell) && (not (agree (eqb v (valueOf (a .kind))) m x) && same m (mode (a .kind)))) (R u)
+      ≡ (not (agree (not (unequal G c v)) m x) && has (getD (masksOf G m) c []) u)
+  unfolding agree
+  in-modes reads reads v u j = in-mode reads false u j
+  in-modes reads writes v u j = in-mode reads true u j
+  in-modes reads adds v u j = in-mode reads true u j
+  in-modes writes reads v u j = in-mode writes true u j
+  in-modes writes writes v u j = unfold holds isOther inMode in
+      (writer-says n k R G h c v i u j ∙ ap (λ b. b && has (getD (masksOf G writes) c []) u) (sym (Bool·not-not (unequal G c v))))
+  in-modes writes adds v u j = in-mode writes true u j
+  in-modes adds reads v u j = in-mode adds true u j
+  in-modes adds writes v u j = in-mode adds true u j
+  in-modes adds adds v u j = in-mode adds false u j
 
   against-has : (x : Kind) (u : ℕ) → u < n → anyOf (conflict (record { cell = c; kind = x })) (R u) ≡ has (testedMask G c x) u
   unfolding testedMask conflict
   against-has x u j =
-      some-same _ (λ a. part writes a || (part adds a || part reads a)) (R u) (λ a. by-modes (eqb c (a .cell)) (mode x) (mode (a .kind)))
+      some-same _ (λ a. part writes a || (part adds a || part reads a)) (R u) (λ a. by-modes (eqb c (a .cell)) (eqb (valueOf x) (valueOf (a .kind))) (mode x) (mode (a .kind)))
       ∙ some-or (part writes) (λ a. part adds a || part reads a) (R u)
       ∙ ap (λ b. anyOf (part writes) (R u) || b) (some-or (part adds) (part reads) (R u))
       ∙ ap₂ _||_ (found writes) (ap₂ _||_ (found adds) (found reads))
       ∙ sym (has-union (met writes) (union (met adds) (met reads)) u ∙ ap (λ b. has (met writes) u || b) (has-union (met adds) (met reads) u))
     where
       part : Mode → Access → Bool
-      part m a = eqb c (a .cell) && (not (agree m (mode x)) && same m (mode (a .kind)))
+      part m a = eqb c (a .cell) && (not (agree (eqb (valueOf x) (valueOf (a .kind))) m (mode x)) && same m (mode (a .kind)))
 
       met : Mode → Mask
       met m = conflicting G c m x
 
       found : (m : Mode) → anyOf (part m) (R u) ≡ has (met m) u
-      found m = in-mode m (not (agree m (mode x))) u j ∙ sym (conflicting-has G c m x u)
+      found m = in-modes m (mode x) (valueOf x) u j ∙ sym (conflicting-has G c m x u)
 
   -- The race test of the lock-step run is that of the machine.
   pub log-tested : (x : Kind) → races n R t (record { cell = c; kind = x }) ≡ any (conflictMask G c t x)
   unfolding conflictMask
   log-tested x = tested n R t (record { cell = c; kind = x }) (testedMask G c x) l (against-size x) (against-has x)
 
-  -- The masks of a mode with the access: entered where it is the access's own, else as they were.
-  in-mask : (m : Mode) (x : Kind) → same m (mode x) ≡ true → (u e : ℕ) → u < n → e < k
-      → holds m e (recorded R t (record { cell = c; kind = x } ∷ []) u) ≡ has (getD (withThread (masksOf G m) c t) e []) u
+  -- The record with the access x: what it had, and x.
+  holds-recorded : (p : Kind → Bool) (x : Kind) (u e : ℕ)
+      → holds p e (recorded R t (record { cell = c; kind = x } ∷ []) u) ≡ (holds p e (R u) || (eqb u t && (eqb e c && p x)))
   unfolding holds recorded anyOf
-  in-mask m x q u e a b =
-      by (eqb u t) ∙ ap (λ y. y || (eqb u t && (eqb e c && same m (mode x)))) (h .says m u e a b)
-      ∙ ap (λ y. has (getD (masksOf G m) e []) u || (eqb u t && y)) (ap (λ y. eqb e c && y) q ∙ and-true (eqb e c))
-      ∙ sym (enter-has (masksOf G m) c t e u (omega (arith, h .count m)) (omega (arith, h .size m c i)))
+  holds-recorded p x u e = by (eqb u t)
     where
-      by : (d : Bool) → anyOf (λ a. eqb e (a .cell) && same m (mode (a .kind))) (cond d (record { cell = c; kind = x } ∷ R u) (R u))
-          ≡ (anyOf (λ a. eqb e (a .cell) && same m (mode (a .kind))) (R u) || (d && (eqb e c && same m (mode x))))
-      by true = or-comm (eqb e c && same m (mode x)) _
-      by false = sym (or-false _)
+      by : (d : Bool) → anyOf (λ a. eqb e (a .cell) && p (a .kind)) (cond d (record { cell = c; kind = x } ∷ R u) (R u))
+          ≡ (anyOf (λ a. eqb e (a .cell) && p (a .kind)) (R u) || (d && (eqb e c && p x)))
+      by true = or-comm (eqb e c && p x) (anyOf (λ a. eqb e (a .cell) && p (a .kind)) (R u))
+      by false = sym (or-false (anyOf (λ a. eqb e (a .cell) && p (a .kind)) (R u)))
 
-  off-mask : (m : Mode) (x : Kind) → same m (mode x) ≡ false → (u e : ℕ) → u < n → e < k
-      → holds m e (recorded R t (record { cell = c; kind = x } ∷ []) u) ≡ has (getD (masksOf G m) e []) u
-  unfolding holds recorded anyOf
-  off-mask m x q u e a b = by (eqb u t) ∙ h .says m u e a b
-    where
-      by : (d : Bool) → anyOf (λ a. eqb e (a .cell) && same m (mode (a .kind))) (cond d (record { cell = c; kind = x } ∷ R u) (R u))
-          ≡ anyOf (λ a. eqb e (a .cell) && same m (mode (a .kind))) (R u)
-      by true = ap (λ y. y || anyOf (λ a. eqb e (a .cell) && same m (mode (a .kind))) (R u)) (ap (λ y. eqb e c && y) q ∙ and-false (eqb e c))
-      by false = refl
+  -- The masks of a mode with the access: entered where it is the access's own, else as they were.
+  mask-logged : (m : Mode) (b : Bool) (u e : ℕ) → u < n → e < k
+      → (holds (inMode m) e (R u) || (eqb u t && (eqb e c && b))) ≡ has (getD (cond b (withThread (masksOf G m) c t) (masksOf G m)) e []) u
+  mask-logged m true u e a b =
+      ap₂ (λ x y. x || (eqb u t && y)) (h .says m u e a b) (and-true (eqb e c))
+      ∙ sym (enter-has (masksOf G m) c t e u (omega (arith, h .count m)) (omega (arith, h .size m c i)))
+  mask-logged m false u e a b = or-never (holds (inMode m) e (R u)) (eqb u t) (eqb e c) ∙ h .says m u e a b
+
+  -- First value and mark with the access.
+  unequal-recorded : (x : Kind) (e w : ℕ) → e < k
+      → unequal (logged G c t x) e w ≡ anyBelow n (λ u. holds (isOther w) e (recorded R t (record { cell = c; kind = x } ∷ []) u))
+  unfolding masksOf
+  unequal-recorded x e w j =
+      unequal-logged G c t (omega (arith, h .count writes)) (omega (arith, h .size writes c i)) (omega (arith, h .valueCount)) (omega (arith, h .markCount)) x e w
+      ∙ ap (λ b. b || (eqb e c && isOther w x)) (h .differ e w j)
+      ∙ sym (below-same n _ _ (λ u a. holds-recorded (isOther w) x u e) ∙ below-more n (λ u. holds (isOther w) e (R u)) t (eqb e c && isOther w x) l)
 
   -- An access that does not race, entered.
   pub log-entered : (x : Kind) → any (conflictMask G c t x) ≡ false → LogMatches n k (recorded R t (record { cell = c; kind = x } ∷ [])) (logged G c t x)
+  unfolding inMode
   log-entered x f =
       record {
         count = λ m. ap length (masks-logged G c t x m) ∙ counted m (same m (mode x));
         size = λ m e j. ap (λ y. length (getD y e [])) (masks-logged G c t x m) ∙ sized m (same m (mode x)) e ∙ h .size m e j;
-        says = λ m u e a b. said m (same m (mode x)) refl u e a b ∙ ap (λ y. has (getD y e []) u) (sym (masks-logged G c t x m));
+        says = λ m u e a b.
+            holds-recorded (inMode m) x u e ∙ mask-logged m (same m (mode x)) u e a b ∙ ap (λ y. has (getD y e []) u) (sym (masks-logged G c t x m));
+        valueCount = values-size G c t x ∙ h .valueCount;
+        markCount = marks-size G c t x ∙ h .markCount;
+        differ = unequal-recorded x;
+        free = free-recorded n R t (record { cell = c; kind = x }) l (h .free) (log-tested x ∙ f);
       }
     where
       after : Mode → Bool → List Mask
@@ -215,11 +284,6 @@ module _ (n k : ℕ) (R : AccessRecord) (G : Log) (h : LogMatches n k R G) (t c 
       sized m true e = enter-size (masksOf G m) c t e
       sized m false e = refl
 
-      said : (m : Mode) (b : Bool) → same m (mode x) ≡ b → (u e : ℕ) → u < n → e < k
-          → holds m e (recorded R t (record { cell = c; kind = x } ∷ []) u) ≡ has (getD (after m b) e []) u
-      said m true q u e a b = in-mask m x q u e a b
-      said m false q u e a b = off-mask m x q u e a b
-
 pub log-empty : (n k : ℕ) → LogMatches n k emptyRecord (emptyLog n k)
 unfolding emptyRecord holds anyOf
 log-empty n k =
@@ -227,6 +291,10 @@ log-empty n k =
       count = λ m. ap length (masks-empty n k m) ∙ length-replicate k (replicate n false);
       size = λ m c l. ap length (mask-empty m c l) ∙ length-replicate n false;
       says = λ m t c l i. sym (unfold has in (ap (λ y. getD y t false) (mask-empty m c i) ∙ getD-replicate n t false false l));
+      valueCount = unfold emptyLog in (length-replicate k 0);
+      markCount = unfold emptyLog in (length-replicate k false);
+      differ = λ c v i. unequal-empty n k c v i ∙ sym (below-none n (λ t. false) .1 (λ t l. refl));
+      free = λ t l. refl;
     }
   where
     mask-empty : (m : Mode) (c : ℕ) → c < k → getD (masksOf (emptyLog n k) m) c [] ≡ replicate n false
@@ -244,4 +312,8 @@ log-cleared n k R G h =
       count = λ m. ap length (masks-cleared G m) ∙ length-map (masksOf G m) nobody ∙ h .count m;
       size = λ m c i. ap (λ y. length (getD y c [])) (masks-cleared G m) ∙ wiped-size (masksOf G m) c ∙ h .size m c i;
       says = λ m t c i j. sym (ap (λ y. has (getD y c []) t) (masks-cleared G m) ∙ wiped (masksOf G m) c t);
+      valueCount = unfold cleared in (length-map (G .values) (λ v. 0) ∙ h .valueCount);
+      markCount = unfold cleared in (length-map (G .marks) (λ b. false) ∙ h .markCount);
+      differ = λ c v i. unequal-cleared G c v ∙ sym (below-none n (λ t. false) .1 (λ t l. refl));
+      free = λ t l. refl;
     }

@@ -22,7 +22,8 @@ use Rattle.spec.specs.Threads.{Effect, Group, Move, Thread, accesses, accessesO
 use Rattle.spec.specs.Threads.{isWaiting, machine, next, noThread, performed, possible, races, reach, recorded, row, strays, threadAfter, threadCount}
 use Rattle.spec.specs.declared.Verdict.the-variants.{Outside, Race}
 use Rattle.spec.specs.Threads as own
-use Rattle.allruns.proofs.LogRecord.{LogMatches, log-tested, log-entered}
+use Rattle.allruns.proofs.LogMatches.{LogMatches}
+use Rattle.allruns.proofs.LogRecord.{log-tested, log-entered}
 use Rattle.allruns.proofs.Bools.{and-make}
 use Rattle.allruns.proofs.Diamond.{next-done, next-bad}
 use Rattle.allruns.proofs.Simulation.{Pos, body, Match, moved, moved-same, moved-other, movedAll}

@@ -108,7 +108,7 @@ module _ (file : List ℕ) (p : Parsed) (h : ParsedIs file p) where
     whole-rows = (omega (arith, table-length), omega (arith, table-length, of-file .within .fewRows))
 
 pub lent-is : (held logged recorded room : ℕ) → fileLent held logged recorded room ≡ none
-    → (held ≡ 1024) × (logged ≡ 3072) × (recordsLent ≤ recorded) × (17408 ≤ room)
+    → (held ≡ 1024) × (logged ≡ 5120) × (recordsLent ≤ recorded) × (17408 ≤ room)
 unfolding fileLent first
 lent-is held logged recorded room e =
     let a = orElse-none _ _ .0 e in

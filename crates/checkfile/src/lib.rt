@@ -39,7 +39,7 @@ fn run_launch(
         (now (output .entry)) r (now (cells .exit)) (now (log .exit)) (now (records .exit)) (now (output .exit)) ⌝ }
 {
     let count = words.len();
-    let logged = 3 * count;
+    let logged = 5 * count;
     let used = threads as usize;
     let mut steps: [u32; 32] = [0; 32];
     place(words, cells);
@@ -61,7 +61,7 @@ fn run_launch(
     )
 }
 
-// The entry for whoever has a launch file. The lent cells are 1,024 words, the log 3,072, the records 3,075 or more, the output
+// The entry for whoever has a launch file. The lent cells are 1,024 words, the log 5,120, the records 3,075 or more, the output
 // 17,408 bytes or more. A refusal leaves all four as they were lent.
 pub fn check_file(
     file: &[u8],

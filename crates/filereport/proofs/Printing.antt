@@ -98,10 +98,10 @@ unfolding andState unlessRefused
 by-file (refused why) state e = refl
 by-file (accepted launch) state e = ap (λ s. unlessRefused s launch) e
 
-module _ (file cells log records output : List ℕ) (c : length cells ≡ 1024) (l : length log ≡ 3072) (w : length records ≡ 3075) (o : length output ≡ 17408) where
+module _ (file cells log records output : List ℕ) (c : length cells ≡ 1024) (l : length log ≡ 5120) (w : length records ≡ 3075) (o : length output ≡ 17408) where
   lent : fileLent (length cells) (length log) (length records) (length output) ≡ none
   unfolding fileLent first orElse unless
-  lent = rw (eq-eqb (length cells) 1024 c, eq-eqb (length log) 3072 l, le-leb 3075 (length records) (omega arith), le-leb 17408 (length output) (omega arith)) refl
+  lent = rw (eq-eqb (length cells) 1024 c, eq-eqb (length log) 5120 l, le-leb 3075 (length records) (omega arith), le-leb 17408 (length output) (omega arith)) refl
 
   checked : fileChecked file cells log records output ≡ fileLaunch file
   unfolding fileChecked

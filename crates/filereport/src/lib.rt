@@ -34,7 +34,7 @@ pub fn report_file(file: &[u8], output: &mut [u8; 17408]) -> usize
     ensures runs { λ r. ⌜ ReportDemand3 (now (file .entry)) (take r (now (output .exit))) ⌝ }
 {
     let mut cells: [u32; 1024] = [0; 1024];
-    let mut log: [u32; 3072] = [0; 3072];
+    let mut log: [u32; 5120] = [0; 5120];
     let mut records: [u32; 3075] = [0; 3075];
     match checkfile::check_file(file, &mut cells, &mut log, &mut records, output) {
         Written::Wrote(size) => size,

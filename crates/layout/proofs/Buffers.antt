@@ -1,14 +1,13 @@
 -- What stores to the buffers stand for. Assumes nothing.
 use mathlib.Core.Path.{_≡_, sym, _∙_, ap, ap₂}
-use mathlib.Core.List.{List, [], _++_, map}
+use mathlib.Core.List.{List, [], map}
 use Prim.Native.Nat.{ℕ, _+_, _*_, _<_, _≤_}
 use native.Mathlib.Omega.{arith}
 use native.Mathlib.Decide.{ℕ-discrete}
-use lib.ListN.{length, getD, set, length-set, length-map, List·getD-append, List·getD-map}
-use lib.Seq.{getD-set-same, getD-set-other, getD-append-add, set-append-left}
+use lib.ListN.{length, getD, set, length-set, List·getD-map}
+use lib.Seq.{getD-set-same, getD-set-other}
 use Rattle.spec.specs.Mask.{Mask, maskWord}
 use Rattle.layout.specs.Memory.{Regs, Masks}
-use Rattle.layout.proofs.Lists.{map-set, set-append-right}
 
 -- register d of thread t is set to v
 module _ (n : ℕ) (regs : List (List ℕ)) (flat : List ℕ) (R : Regs n regs flat) (t d v : ℕ) (few : n ≤ 32) (h : t < n) (l : d < 16) where
@@ -58,23 +57,3 @@ masks-set n k ms c m M h l = record { count = length-set ms c m ∙ M .count; ea
 pub mask-at : (R : List Mask) (c : ℕ) → getD (map maskWord R) c 0 ≡ maskWord (getD R c [])
 unfolding maskWord
 mask-at R c = List·getD-map maskWord R c []
-
--- A list of masks as words with other words behind it: what is read and set in its front and behind.
-module _ (R : List Mask) (X : List ℕ) (k c : ℕ) (e : length R ≡ k) where
-  pub front-at : c < k → getD (map maskWord R ++ X) c 0 ≡ maskWord (getD R c [])
-  front-at h = List·getD-append (map maskWord R) X 0 c (omega (arith, length-map R maskWord)) ∙ mask-at R c
-
-  pub behind-at : getD (map maskWord R ++ X) (k + c) 0 ≡ getD X c 0
-  behind-at =
-      ap (λ z. getD (map maskWord R ++ X) (z + c) 0) (sym (length-map R maskWord ∙ e))
-      ∙ getD-append-add (map maskWord R) X c 0
-
-  pub front-set : (m : Mask) → c < k → set (map maskWord R ++ X) c (maskWord m) ≡ map maskWord (set R c m) ++ X
-  front-set m h =
-      set-append-left (map maskWord R) X c (maskWord m) (omega (arith, length-map R maskWord))
-      ∙ ap (λ z. z ++ X) (sym (map-set maskWord R c m))
-
-  pub behind-set : (w : ℕ) → set (map maskWord R ++ X) (k + c) w ≡ map maskWord R ++ set X c w
-  behind-set w =
-      ap (λ z. set (map maskWord R ++ X) (z + c) w) (sym (length-map R maskWord ∙ e))
-      ∙ set-append-right (map maskWord R) X c w

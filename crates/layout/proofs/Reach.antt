@@ -1,17 +1,19 @@
 -- How far up the cells the log has been written since it was cleared. Assumes nothing.
 use mathlib.Core.Path.{_≡_, refl, sym, _∙_, ap, subst}
 use mathlib.Core.List.{List}
+use mathlib.Core.Bool.{Bool, true, false, cond}
 use Prim.Native.Nat.{ℕ, zero, suc, _+_, _*_, _%_, _<_, _≤_}
 use native.Mathlib.Omega.{arith}
 use lib.Bits.{bitOr, or-comm, or-add-and, and-le-r}
-use lib.ListN.{length, getD, replicate}
+use lib.Dec.{eqb}
+use lib.ListN.{length, getD, set, replicate}
 use lib.Seq.{getD-set-other}
-use Rattle.spec.specs.Access.{Mode, reads, writes, adds}
+use Rattle.spec.specs.Access.{writes}
 use Rattle.spec.proofs.ClearingLaws.{place-cell, cells-rest}
 use Rattle.spec.specs.Log.{cellsCleared}
 use Rattle.spec.specs.LockStep.{LockState}
 use Rattle.layout.specs.declared.State.{State}
-use Rattle.layout.specs.Logging.{modeOf, placeOf, enteredWords, EmptyAbove, SameAbove, SameBut}
+use Rattle.layout.specs.Logging.{modeOf, rank, valueRank, markRank, placeOf, wordOf, markEntered, valueEntered, maskEntered, enteredWords, EmptyAbove, SameAbove, SameBut}
 use Rattle.layout.specs.Represents.{Represents, reached}
 use Rattle.layout.proofs.PlainRows.{stands-alike}
 
@@ -22,17 +24,28 @@ or-left a b = omega (arith, or-add-and a b, and-le-r a b)
 pub or-right : (a b : ℕ) → b ≤ bitOr a b
 or-right a b = subst (λ (x : ℕ). b ≤ x) (or-comm b a) (or-left b a)
 
--- An access enters its own cell's word.
-mode-cell : (m : Mode) (k i : ℕ) → i < k → placeOf m k i % k ≡ i
+-- An access sets words of its own cell alone.
+set-but : (q k i w : ℕ) (log log′ : List ℕ) → i < k → SameBut i k log log′ → SameBut i k log (set log′ (placeOf q k i) w)
 unfolding placeOf
-mode-cell reads k i h = ap (λ (x : ℕ). x % k) (let e : i ≡ 0 * k + i = omega arith in e) ∙ place-cell 0 k i h
-mode-cell writes k i h = ap (λ (x : ℕ). x % k) (let e : k + i ≡ 1 * k + i = omega arith in e) ∙ place-cell 1 k i h
-mode-cell adds k i h = place-cell 2 k i h
+set-but q k i w log log′ h S j f = getD-set-other log′ (q * k + i) j w 0 (λ z. f (ap (λ (x : ℕ). x % k) z ∙ place-cell q k i h)) ∙ S j f
 
-pub entered-but : (op k i bit : ℕ) (log log′ : List ℕ) → i < k → log′ ≡ enteredWords op k i bit log → SameBut i k log log′
-unfolding enteredWords
-entered-but op k i bit log log′ h e j f =
-    ap (λ x. getD x j 0) e ∙ getD-set-other log (placeOf (modeOf op) k i) j _ 0 (λ z. f (ap (λ (x : ℕ). x % k) z ∙ mode-cell (modeOf op) k i h))
+value-but : (v k i : ℕ) (log : List ℕ) → i < k → SameBut i k log (valueEntered v k i log)
+unfolding valueEntered markEntered
+value-but v k i log h = by (eqb (wordOf (rank writes) k i log) 0) (eqb v (wordOf valueRank k i log))
+  where
+    by : (a b : Bool) → SameBut i k log (cond a (set log (placeOf valueRank k i) v) (cond b log (set log (placeOf markRank k i) 1)))
+    by true b = set-but valueRank k i v log log h (λ j f. refl)
+    by false true = λ j f. refl
+    by false false = set-but markRank k i 1 log log h (λ j f. refl)
+
+pub entered-but : (op v k i bit : ℕ) (log log′ : List ℕ) → i < k → log′ ≡ enteredWords op v k i bit log → SameBut i k log log′
+unfolding enteredWords maskEntered
+entered-but op v k i bit log log′ h e =
+    subst (SameBut i k log) (sym e) (set-but (rank (modeOf op)) k i _ log (cond (eqb op 17) (valueEntered v k i log) log) h (by (eqb op 17)))
+  where
+    by : (b : Bool) → SameBut i k log (cond b (valueEntered v k i log) log)
+    by true = value-but v k i log h
+    by false = λ j f. refl
 
 -- One access after the others, up to the number that theirs and its own are put together to.
 pub same-more : (g i k k′ : ℕ) (log₀ log log′ : List ℕ) → SameAbove g k log₀ log → k′ ≡ k → SameBut i k′ log log′ → SameAbove (bitOr g i) k log₀ log′

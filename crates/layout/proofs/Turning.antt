@@ -9,7 +9,6 @@ use Rattle.spec.specs.declared.Verdict.{Verdict}
 use Rattle.spec.specs.Mask.{Mask, maskWord, members, membersFrom}
 use Rattle.spec.specs.LockStep.{LockState, Step, continues, stops, inTurn, andThen}
 use Rattle.masks.proofs.Words.{word-half, word-odd}
-use Rattle.layout.specs.declared.Access.{Access}
 use Rattle.layout.specs.declared.Access.the-variants.{Done, Stop}
 use Rattle.layout.specs.Memory.{Memory, Kept, Did, OneTurn}
 
@@ -135,15 +134,15 @@ module _ (f : LockState → ℕ → Step) (n : ℕ) (s : LockState) where
         by (false ∷ rest) e l q = let z : _≡_ {A = ℕ} 0 1 = sym (word-odd false rest) ∙ sym (ap (λ z. z % 2) e) ∙ o in absurd (omega arith)
         by (true ∷ rest) e l q = at (membersFrom (suc t) rest) (f (C .here) t) (d (C .here) (C .memory)) (unfold membersFrom inTurn in q)
 
-    -- as the code has it: what the callee answered, and the buffers as the branches leave them
-    pub go-in : (r : Access) (regs₁ cells₁ log₁ regs₂ cells₂ log₂ : List ℕ) → t < n → m % 2 ≡ 1
-        → OneTurn f n t regs cells log r regs₁ cells₁ log₁ → r ≡ Done → regs₂ ≡ regs₁ → cells₂ ≡ cells₁ → log₂ ≡ log₁
+    -- as the code has it: the buffers as the branches leave them
+    pub go-in : (regs₁ cells₁ log₁ regs₂ cells₂ log₂ : List ℕ) → t < n → m % 2 ≡ 1
+        → OneTurn f n t regs cells log Done regs₁ cells₁ log₁ → regs₂ ≡ regs₁ → cells₂ ≡ cells₁ → log₂ ≡ log₁
         → Turning f n s (t + 1) (m / 2) regs₂ cells₂ log₂
-    go-in r regs₁ cells₁ log₁ regs₂ cells₂ log₂ h o d e er ec el =
+    go-in regs₁ cells₁ log₁ regs₂ cells₂ log₂ h o d er ec el =
         subst (λ z. Turning f n s (t + 1) (m / 2) z cells₂ log₂) (sym er)
         (subst (λ z. Turning f n s (t + 1) (m / 2) regs₁ z log₂) (sym ec)
         (subst (λ z. Turning f n s (t + 1) (m / 2) regs₁ cells₁ z) (sym el)
-        (turn-in regs₁ cells₁ log₁ h o (λ y M. subst (λ z. Did n y (f y t) z regs₁ cells₁ log₁) e (d y M)))))
+        (turn-in regs₁ cells₁ log₁ h o d)))
 
     pub go-out : (regs₂ cells₂ log₂ : List ℕ) → t < n → (m % 2 ≡ 1 → ⊥) → regs₂ ≡ regs → cells₂ ≡ cells → log₂ ≡ log
         → Turning f n s (t + 1) (m / 2) regs₂ cells₂ log₂
@@ -151,10 +150,6 @@ module _ (f : LockState → ℕ → Step) (n : ℕ) (s : LockState) where
         subst (λ z. Turning f n s (t + 1) (m / 2) z cells₂ log₂) (sym er)
         (subst (λ z. Turning f n s (t + 1) (m / 2) regs z log₂) (sym ec)
         (subst (λ z. Turning f n s (t + 1) (m / 2) regs cells z) (sym el) (turn-out h o)))
-
-    pub go-stop : (r : Access) (v : Verdict) (regs₁ cells₁ log₁ : List ℕ) → t < n → m % 2 ≡ 1 → OneTurn f n t regs cells log r regs₁ cells₁ log₁ → r ≡ Stop v
-        → Did n s (inTurn f (members (s .enabled)) s) (Stop v) regs₁ cells₁ log₁
-    go-stop r v regs₁ cells₁ log₁ h o d q = turn-stop v regs₁ cells₁ log₁ h o (λ y M. subst (λ z. Did n y (f y t) z regs₁ cells₁ log₁) q (d y M))
 
 -- The loop's state, for every state that the buffers stood for at its start.
 abbrev pub Turns : (LockState → ℕ → Step) → (n mask : ℕ) → (regs₀ cells₀ log₀ : List ℕ) → (t m : ℕ) → (regs cells log : List ℕ) → Type 0

@@ -1,7 +1,7 @@
 -- What the code's functions on the log ask, and what they come to word by word. Assumes nothing.
 use mathlib.Core.Path.{_≡_}
 use mathlib.Core.List.{List}
-use mathlib.Core.Bool.{Bool, cond, not}
+use mathlib.Core.Bool.{Bool, cond, not, _&&_}
 use Prim.Native.Nat.{ℕ, _+_, _*_, _%_, _^_, _<_, _≤_}
 use lib.Bits.{bitAnd, bitOr}
 use lib.Dec.{eqb}
@@ -15,36 +15,68 @@ use Rattle.spec.specs.Limits.{logPerCell}
 unfoldable pub modeOf : (op : ℕ) → Mode
 modeOf op = cond (eqb op 16) reads (cond (eqb op 17) writes adds)
 
--- Where the mask of cell i stands in the log of k cells, and the mask.
-unfoldable pub placeOf : Mode → (k i : ℕ) → ℕ
-placeOf reads k i = i
-placeOf writes k i = k + i
-placeOf adds k i = 2 * k + i
+-- The log's kinds of words, in their order: the masks of the three modes, the first values, the marks.
+unfoldable pub rank : Mode → ℕ
+rank reads = 0
+rank writes = 1
+rank adds = 2
 
-unfoldable pub wordOf : Mode → (k i : ℕ) → (log : List ℕ) → ℕ
-wordOf m k i log = getD log (placeOf m k i) 0
+abbrev pub valueRank : ℕ
+valueRank = 3
 
--- What of it an access by op conflicts with: all or nothing, by the conflict table.
-unfoldable pub conflictingWord : Mode → (op k i : ℕ) → (log : List ℕ) → ℕ
-conflictingWord m op k i log = cond (agree m (modeOf op)) 0 (wordOf m k i log)
+abbrev pub markRank : ℕ
+markRank = 4
+
+-- Where kind q has its word of cell i in the log of k cells, and the word.
+unfoldable pub placeOf : (q k i : ℕ) → ℕ
+placeOf q k i = q * k + i
+
+unfoldable pub wordOf : (q k i : ℕ) → (log : List ℕ) → ℕ
+wordOf q k i log = getD log (placeOf q k i) 0
+
+-- A store of v to cell i finds no stores but of v there: no mark, and v as the first value.
+unfoldable pub equalWord : (v k i : ℕ) → (log : List ℕ) → Bool
+equalWord v k i log = eqb (wordOf markRank k i log) 0 && eqb v (wordOf valueRank k i log)
+
+-- What of a mode's mask an access by op conflicts with: all or nothing, by the conflict table. A STORE stores v; to the others v is nothing.
+unfoldable pub conflictingWord : Mode → (op v k i : ℕ) → (log : List ℕ) → ℕ
+conflictingWord m op v k i log = cond (agree (equalWord v k i log) m (modeOf op)) 0 (wordOf (rank m) k i log)
 
 -- What an access of cell i by op is tested against.
-unfoldable pub testedWord : (op k i : ℕ) → (log : List ℕ) → ℕ
-testedWord op k i log = bitOr (conflictingWord writes op k i log) (bitOr (conflictingWord adds op k i log) (conflictingWord reads op k i log))
+unfoldable pub testedWord : (op v k i : ℕ) → (log : List ℕ) → ℕ
+testedWord op v k i log = bitOr (conflictingWord writes op v k i log) (bitOr (conflictingWord adds op v k i log) (conflictingWord reads op v k i log))
+
+-- Of it what is beside the writers: a LOAD meets the adders, a STORE adders and readers, an ATOMIC ADD the readers.
+unfoldable pub besideWriters : (op k i : ℕ) → (log : List ℕ) → ℕ
+besideWriters op k i log =
+    let added = wordOf (rank adds) k i log in
+    let read = wordOf (rank reads) k i log in
+    cond (eqb op 16) added (cond (eqb op 17) (bitOr added read) read)
 
 -- The log with the bits of `bit` put into the mask of the op's own mode.
-unfoldable pub enteredWords : (op k i bit : ℕ) → (log : List ℕ) → List ℕ
-enteredWords op k i bit log = set log (placeOf (modeOf op) k i) (bitOr (wordOf (modeOf op) k i log) bit)
+unfoldable pub maskEntered : (op k i bit : ℕ) → (log : List ℕ) → List ℕ
+maskEntered op k i bit log = let q = rank (modeOf op) in set log (placeOf q k i) (bitOr (wordOf q k i log) bit)
 
--- The kind of a race with thread u: a LOAD looks for its bit among the writers, a STORE among the writers and then the adders, an ATOMIC ADD among
--- the writers.
+-- The log with a store of v: the first to its cell leaves its value; a later one of another value marks the cell.
+unfoldable pub markEntered : (v k i : ℕ) → (log : List ℕ) → List ℕ
+markEntered v k i log = cond (eqb v (wordOf valueRank k i log)) log (set log (placeOf markRank k i) 1)
+
+unfoldable pub valueEntered : (v k i : ℕ) → (log : List ℕ) → List ℕ
+valueEntered v k i log = cond (eqb (wordOf (rank writes) k i log) 0) (set log (placeOf valueRank k i) v) (markEntered v k i log)
+
+-- The log with an access by op: of a STORE its value too.
+unfoldable pub enteredWords : (op v k i bit : ℕ) → (log : List ℕ) → List ℕ
+enteredWords op v k i bit log = maskEntered op k i bit (cond (eqb op 17) (valueEntered v k i log) log)
+
+-- The kind of a race with thread u: a LOAD looks for its bit among the writers, a STORE among the writers where it conflicts with them and then the
+-- adders, an ATOMIC ADD among the writers.
 unfoldable pub hasBit : (u word : ℕ) → Bool
 hasBit u word = not (eqb (bitAnd word (2 ^ u)) 0)
 
-unfoldable pub kindWord : (op k i u : ℕ) → (log : List ℕ) → AccessKind
-kindWord op k i u log =
-    let wrote = hasBit u (wordOf writes k i log) in
-    let added = hasBit u (wordOf adds k i log) in
+unfoldable pub kindWord : (op v k i u : ℕ) → (log : List ℕ) → AccessKind
+kindWord op v k i u log =
+    let wrote = hasBit u (conflictingWord writes op v k i log) in
+    let added = hasBit u (wordOf (rank adds) k i log) in
     cond (eqb op 16) (cond wrote WriteRead AddRead) (cond (eqb op 17) (cond wrote WriteWrite (cond added AddWrite ReadWrite)) (cond wrote WriteAdd ReadAdd))
 
 -- Word j is one of cell j % k. Above cell h every word is 0; above cell h, or of every cell but i, each word is as it was.

@@ -1,11 +1,12 @@
 -- How the code's registers, cells and log stand for those of the lock-step run, and what a thread's turn and a row's turns do to them. Assumes nothing.
 use mathlib.Core.Path.{_≡_}
 use mathlib.Core.List.{List, [], _∷_}
-use mathlib.Core.Bool.{Bool, true, cond, not}
+use mathlib.Core.Bool.{Bool, true, false, cond, not}
 use Prim.Native.Nat.{ℕ, zero, suc, _+_, _-_, _*_, _/_, _%_, _^_, _<_, _≤_}
-use lib.Bits.{bitAnd}
-use lib.Dec.{eqb}
+use lib.Bits.{bitAnd, bitOr}
+use lib.Dec.{eqb, leb}
 use lib.ListN.{length, getD, set}
+use Rattle.spec.specs.declared.Verdict.{Verdict}
 use Rattle.spec.specs.Mask.{Mask, maskWord, members, nonzero}
 use Rattle.spec.specs.Access.{Mode}
 use Rattle.spec.specs.Limits.{logPerCell}
@@ -17,8 +18,9 @@ use Rattle.spec.specs.Shape.{Shape}
 use Rattle.spec.specs.Word.{add}
 use Rattle.layout.specs.declared.Access.{Access}
 use Rattle.layout.specs.declared.Access.the-variants.{Done, Stop}
+use Rattle.layout.specs.declared.Halt.{Halt}
 use Rattle.layout.specs.declared.Turns.{Turns}
-use Rattle.layout.specs.Logging.{SameAbove}
+use Rattle.layout.specs.Logging.{SameAbove, testedWord}
 
 -- Register r of thread t stands at r * 32 + t.
 pub record Regs (n : ℕ) (regs : List (List ℕ)) (flat : List ℕ) : Type 0 where
@@ -36,6 +38,8 @@ pub record Masks (n k : ℕ) (ms : List Mask) : Type 0 where
 pub record LogIs (n k : ℕ) (G : Log) (log : List ℕ) : Type 0 where
   pub words-are : log ≡ logWords G
   pub masks-are : (m : Mode) → Masks n k (masksOf G m)
+  pub values-are : length (G .values) ≡ k
+  pub marks-are : length (G .marks) ≡ k
 
 pub record Memory (n : ℕ) (s : LockState) (regs cells log : List ℕ) : Type 0 where
   pub few : n ≤ 32
@@ -136,39 +140,6 @@ pub record AccessAsks (op d a : ℕ) (cells log : List ℕ) : Type 0 where
   pub sized : length log ≡ logPerCell * length cells
   pub cells-few : length cells ≤ 1024
 
--- The launch's shape, by the code's numbers.
-abbrev pub shapeBy : (n : ℕ) → (cells : List ℕ) → Shape
-shapeBy n cells = record { threads = n; cells = length cells }
-
--- One thread's access, and a row's accesses, in a launch of n threads.
-abbrev pub AccessOne : (op t d a : ℕ) → (regs cells log : List ℕ) → Access → (regs′ cells′ log′ : List ℕ) → Type 0
-AccessOne op t d a regs cells log r regs′ cells′ log′ =
-    (n : ℕ) (m : Mem) (x : Row) → opOf op ≡ MEM m → t < n → x .d ≡ d → x .a ≡ a
-    → OneTurn (accessTurn (shapeBy n cells) m x) n t regs cells log r regs′ cells′ log′
-
-abbrev pub AccessAll : (op n mask d a : ℕ) → (regs cells log : List ℕ) → Turns → (regs′ cells′ log′ : List ℕ) → Type 0
-AccessAll op n mask d a regs cells log r regs′ cells′ log′ =
-    (m : Mem) (x : Row) → opOf op ≡ MEM m → x .d ≡ d → x .a ≡ a
-    → AllTurns (accessTurn (shapeBy n cells) m x) n mask regs cells log (r .access) regs′ cells′ log′
-
--- What a row's accesses ask, and what they come to.
-abbrev pub AccessRowAsks : (op n d a : ℕ) → (regs cells log : List ℕ) → Type 0
-AccessRowAsks op n d a regs cells log = AccessAsks op d a cells log × InMemory n regs cells log
-
-abbrev pub AccessRow : (op n mask d a : ℕ) → (regs cells log : List ℕ) → Turns → (regs′ cells′ log′ : List ℕ) → Type 0
-AccessRow op n mask d a regs cells log r regs′ cells′ log′ =
-    AccessAll op n mask d a regs cells log r regs′ cells′ log′ × KeptBut d n regs regs′ × SameAbove (r .reach) (length cells) log log′
-
--- A LOAD moves cell i to place `to` of the registers; a STORE moves place `from` to cell i, an ATOMIC ADD adds it there.
-unfoldable pub cellBy : (op old word : ℕ) → ℕ
-cellBy op old word = cond (eqb op 17) word (add old word)
-
-pub record Transferred (op to from i : ℕ) (regs cells regs′ cells′ : List ℕ) : Type 0 where
-  pub load-regs : op ≡ 16 → regs′ ≡ set regs to (getD cells i 0)
-  pub load-cells : op ≡ 16 → cells′ ≡ cells
-  pub other-regs : (op ≡ 16 → ⊥) → regs′ ≡ regs
-  pub other-cells : (op ≡ 16 → ⊥) → cells′ ≡ set cells i (cellBy op (getD cells i 0) (getD regs from 0))
-
 -- The register with the cell's number.
 pub record CellRegister (op d a r : ℕ) : Type 0 where
   pub small : r < 16
@@ -180,6 +151,68 @@ pub record CellNumber (op d a t : ℕ) (regs : List ℕ) (x : ℕ) : Type 0 wher
   pub register : ℕ
   pub in-register : CellRegister op d a register
   pub word : x ≡ getD regs (register * 32 + t) 0
+
+-- The launch's shape, by the code's numbers.
+abbrev pub shapeBy : (n : ℕ) → (cells : List ℕ) → Shape
+shapeBy n cells = record { threads = n; cells = length cells }
+
+-- One thread's access, and a row's accesses, in a launch of n threads.
+abbrev pub AccessOne : (op t d a : ℕ) → (regs cells log : List ℕ) → Access → (regs′ cells′ log′ : List ℕ) → Type 0
+AccessOne op t d a regs cells log r regs′ cells′ log′ =
+    (n : ℕ) (m : Mem) (x : Row) → opOf op ≡ MEM m → t < n → x .d ≡ d → x .a ≡ a
+    → OneTurn (accessTurn (shapeBy n cells) m x) n t regs cells log r regs′ cells′ log′
+
+abbrev pub AccessAll : (op n mask d a : ℕ) → (regs cells log : List ℕ) → Access → (regs′ cells′ log′ : List ℕ) → Type 0
+AccessAll op n mask d a regs cells log r regs′ cells′ log′ =
+    (m : Mem) (x : Row) → opOf op ≡ MEM m → x .d ≡ d → x .a ≡ a
+    → AllTurns (accessTurn (shapeBy n cells) m x) n mask regs cells log r regs′ cells′ log′
+
+-- Whether an access by op of the cell numbered x goes on: the cell is there, and nobody is met but the acting thread, of this bit. A STORE stores v.
+unfoldable pub goesOn : (op v bit x : ℕ) → (cells log : List ℕ) → Bool
+goesOn op v bit x cells log = cond (leb (length cells) x) false (eqb (bitOr (testedWord op v (length cells) x log) bit) bit)
+
+-- Thread t's does not.
+abbrev pub Refused : (op d a t : ℕ) → (regs cells log : List ℕ) → Type 0
+Refused op d a t regs cells log = (x : ℕ) → CellNumber op d a t regs x → goesOn op (getD regs (a * 32 + t) 0) (2 ^ t) x cells log ≡ false
+
+-- What asking that takes.
+pub record TestAsks (op a : ℕ) (cells log : List ℕ) : Type 0 where
+  pub known : 16 ≤ op
+  pub small : op ≤ 18
+  pub source : a < 16
+  pub sized : length log ≡ logPerCell * length cells
+  pub cells-few : length cells ≤ 1024
+
+-- A row's accesses up to the thread at which they halt: where that one's access stops, the row stops with the same verdict.
+pub record Halted (op n mask d a : ℕ) (regs cells log : List ℕ) (t : ℕ) (regs′ cells′ log′ : List ℕ) : Type 0 where
+  pub inside : t < n
+  pub refused : Refused op d a t regs′ cells′ log′
+  pub stops : (v : Verdict) → AccessOne op t d a regs′ cells′ log′ (Stop v) regs′ cells′ log′ → AccessAll op n mask d a regs cells log (Stop v) regs′ cells′ log′
+
+abbrev pub AccessLoop : (op n mask d a : ℕ) → (regs cells log : List ℕ) → Halt → (regs′ cells′ log′ : List ℕ) → Type 0
+AccessLoop op n mask d a regs cells log r regs′ cells′ log′ =
+    (r .thread ≡ n → AccessAll op n mask d a regs cells log Done regs′ cells′ log′)
+    × ((r .thread ≡ n → ⊥) → Halted op n mask d a regs cells log (r .thread) regs′ cells′ log′)
+    × (length cells′ ≡ length cells) × (length log′ ≡ length log)
+    × KeptBut d n regs regs′ × SameAbove (r .reach) (length cells) log log′
+
+-- What a row's accesses ask, and what they come to.
+abbrev pub AccessRowAsks : (op n d a : ℕ) → (regs cells log : List ℕ) → Type 0
+AccessRowAsks op n d a regs cells log = AccessAsks op d a cells log × InMemory n regs cells log
+
+abbrev pub AccessRow : (op n mask d a : ℕ) → (regs cells log : List ℕ) → Turns → (regs′ cells′ log′ : List ℕ) → Type 0
+AccessRow op n mask d a regs cells log r regs′ cells′ log′ =
+    AccessAll op n mask d a regs cells log (r .access) regs′ cells′ log′ × KeptBut d n regs regs′ × SameAbove (r .reach) (length cells) log log′
+
+-- A LOAD moves cell i to place `to` of the registers; a STORE moves place `from` to cell i, an ATOMIC ADD adds it there.
+unfoldable pub cellBy : (op old word : ℕ) → ℕ
+cellBy op old word = cond (eqb op 17) word (add old word)
+
+pub record Transferred (op to from i : ℕ) (regs cells regs′ cells′ : List ℕ) : Type 0 where
+  pub load-regs : op ≡ 16 → regs′ ≡ set regs to (getD cells i 0)
+  pub load-cells : op ≡ 16 → cells′ ≡ cells
+  pub other-regs : (op ≡ 16 → ⊥) → regs′ ≡ regs
+  pub other-cells : (op ≡ 16 → ⊥) → cells′ ≡ set cells i (cellBy op (getD cells i 0) (getD regs from 0))
 
 -- The cell of thread t in an access row, by the registers that the row finds.
 unfoldable pub cellIn : (op d a : ℕ) → (regs : List ℕ) → (t : ℕ) → ℕ

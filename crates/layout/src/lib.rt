@@ -1,12 +1,18 @@
 // The run's own state, and how its buffers stand for the lock-step definition's (specs/). No functions.
-// regs holds register r of thread t at r * 32 + t; log holds all reader masks, then all writer masks,
-// then all adder masks;
+// regs holds register r of thread t at r * 32 + t; log holds all reader masks, then all writer masks, all adder masks, all first values and
+// all marks;
 // saved and openers hold the mask and the row of each open construct, the innermost last below the depth.
 
 // What an access comes to.
 pub enum Access {
     Done,
     Stop(spec::Verdict),
+}
+
+// The thread at which a row's accesses halt, or the number of threads where none does; and a number that no cell which they accessed is above.
+pub struct Halt {
+    pub thread: u32,
+    pub reach: u32,
 }
 
 // What a row's accesses come to, and a number that no cell which they accessed is above.

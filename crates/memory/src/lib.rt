@@ -1,8 +1,8 @@
 // A row's accesses, thread by thread. The cells' numbers are put together bit by bit on the way: none is above what comes out.
 ghost use Prim.Native.Nat.{_-_, _^_, _<_};
-ghost use Rattle.layout.specs.Memory.{AccessRowAsks, AccessRow};
+ghost use Rattle.layout.specs.Memory.{AccessRowAsks, AccessLoop, AccessRow};
 
-// The accesses of all n threads, lowest first.
+// The accesses of all n threads, lowest first, up to one that does not go on.
 fn access_all(
     regs: &mut [u32; 512],
     cells: &mut [u32],
@@ -11,9 +11,9 @@ fn access_all(
     op: u8,
     d: usize,
     a: usize,
-) -> layout::Turns
+) -> layout::Halt
     requires { ⌜ AccessRowAsks op n d a (now regs) (now cells) (now log) ⌝ }
-    ensures { λ r. ⌜ AccessRow op n (2 ^ n - 1) d a (now (regs .entry)) (now (cells .entry)) (now (log .entry)) r
+    ensures { λ r. ⌜ AccessLoop op n (2 ^ n - 1) d a (now (regs .entry)) (now (cells .entry)) (now (log .entry)) r
         (now (regs .exit)) (now (cells .exit)) (now (log .exit)) ⌝ }
 {
     let mut t: u32 = 0;
@@ -22,25 +22,23 @@ fn access_all(
     while t < n {
         let x = access::cell_number(regs, t, op, d, a);
         reach = reach | x;
-        match access::access_one(regs, cells, log, x, t, bit, op, d, a) {
-            layout::Access::Done => {}
-            layout::Access::Stop(v) => {
-                return layout::Turns {
-                    access: layout::Access::Stop(v),
-                    reach: reach,
-                };
-            }
+        if !access::goes_on(regs, cells, log, x, t, bit, op, a) {
+            return layout::Halt {
+                thread: t,
+                reach: reach,
+            };
         }
+        access::make(regs, cells, log, x, t, bit, op, d, a);
         bit = bit << 1;
         t += 1;
     }
-    layout::Turns {
-        access: layout::Access::Done,
+    layout::Halt {
+        thread: n,
         reach: reach,
     }
 }
 
-// The accesses of the enabled threads, lowest first.
+// The accesses of the enabled threads, likewise.
 fn access_enabled(
     regs: &mut [u32; 512],
     cells: &mut [u32],
@@ -50,9 +48,9 @@ fn access_enabled(
     op: u8,
     d: usize,
     a: usize,
-) -> layout::Turns
+) -> layout::Halt
     requires { ⌜ (mask < 2 ^ n) × AccessRowAsks op n d a (now regs) (now cells) (now log) ⌝ }
-    ensures { λ r. ⌜ AccessRow op n mask d a (now (regs .entry)) (now (cells .entry)) (now (log .entry)) r
+    ensures { λ r. ⌜ AccessLoop op n mask d a (now (regs .entry)) (now (cells .entry)) (now (log .entry)) r
         (now (regs .exit)) (now (cells .exit)) (now (log .exit)) ⌝ }
 {
     let mut m = mask;
@@ -63,22 +61,20 @@ fn access_enabled(
         if m % 2 == 1 {
             let x = access::cell_number(regs, t, op, d, a);
             reach = reach | x;
-            match access::access_one(regs, cells, log, x, t, bit, op, d, a) {
-                layout::Access::Done => {}
-                layout::Access::Stop(v) => {
-                    return layout::Turns {
-                        access: layout::Access::Stop(v),
-                        reach: reach,
-                    };
-                }
+            if !access::goes_on(regs, cells, log, x, t, bit, op, a) {
+                return layout::Halt {
+                    thread: t,
+                    reach: reach,
+                };
             }
+            access::make(regs, cells, log, x, t, bit, op, d, a);
         }
         m = m / 2;
         bit = bit << 1;
         t += 1;
     }
-    layout::Turns {
-        access: layout::Access::Done,
+    layout::Halt {
+        thread: n,
         reach: reach,
     }
 }
@@ -92,9 +88,9 @@ fn full_row(
     op: u8,
     d: usize,
     a: usize,
-) -> layout::Turns
+) -> layout::Halt
     requires { ⌜ AccessRowAsks op n d a (now regs) (now cells) (now log) ⌝ }
-    ensures { λ r. ⌜ AccessRow op n (2 ^ n - 1) d a (now (regs .entry)) (now (cells .entry)) (now (log .entry)) r
+    ensures { λ r. ⌜ AccessLoop op n (2 ^ n - 1) d a (now (regs .entry)) (now (cells .entry)) (now (log .entry)) r
         (now (regs .exit)) (now (cells .exit)) (now (log .exit)) ⌝ }
 {
     if op == 16 {
@@ -115,9 +111,9 @@ fn partial_row(
     op: u8,
     d: usize,
     a: usize,
-) -> layout::Turns
+) -> layout::Halt
     requires { ⌜ (mask < 2 ^ n) × AccessRowAsks op n d a (now regs) (now cells) (now log) ⌝ }
-    ensures { λ r. ⌜ AccessRow op n mask d a (now (regs .entry)) (now (cells .entry)) (now (log .entry)) r
+    ensures { λ r. ⌜ AccessLoop op n mask d a (now (regs .entry)) (now (cells .entry)) (now (log .entry)) r
         (now (regs .exit)) (now (cells .exit)) (now (log .exit)) ⌝ }
 {
     if op == 16 {
@@ -129,7 +125,28 @@ fn partial_row(
     access_enabled(regs, cells, log, n, mask, 18, d, a)
 }
 
-// The accesses of a row. Where all threads are enabled, no thread is looked up in the mask.
+// Where all threads are enabled, no thread is looked up in the mask.
+fn enabled_row(
+    regs: &mut [u32; 512],
+    cells: &mut [u32],
+    log: &mut [u32],
+    n: u32,
+    mask: u32,
+    op: u8,
+    d: usize,
+    a: usize,
+) -> layout::Halt
+    requires { ⌜ (mask < 2 ^ n) × AccessRowAsks op n d a (now regs) (now cells) (now log) ⌝ }
+    ensures { λ r. ⌜ AccessLoop op n mask d a (now (regs .entry)) (now (cells .entry)) (now (log .entry)) r
+        (now (regs .exit)) (now (cells .exit)) (now (log .exit)) ⌝ }
+{
+    if mask == masks::all(n) {
+        return full_row(regs, cells, log, n, op, d, a);
+    }
+    partial_row(regs, cells, log, n, mask, op, d, a)
+}
+
+// The accesses of a row, and why they stop.
 pub fn access_row(
     regs: &mut [u32; 512],
     cells: &mut [u32],
@@ -144,8 +161,16 @@ pub fn access_row(
     ensures { λ r. ⌜ AccessRow op n mask d a (now (regs .entry)) (now (cells .entry)) (now (log .entry)) r
         (now (regs .exit)) (now (cells .exit)) (now (log .exit)) ⌝ }
 {
-    if mask == masks::all(n) {
-        return full_row(regs, cells, log, n, op, d, a);
+    let r = enabled_row(regs, cells, log, n, mask, op, d, a);
+    if r.thread == n {
+        return layout::Turns {
+            access: layout::Access::Done,
+            reach: r.reach,
+        };
     }
-    partial_row(regs, cells, log, n, mask, op, d, a)
+    // What stopped it is looked for once, outside the loops.
+    layout::Turns {
+        access: layout::Access::Stop(access::verdict(regs, cells, log, r.thread, op, d, a)),
+        reach: r.reach,
+    }
 }

@@ -1,7 +1,7 @@
 -- Opens every definition of specs/ at once, so that an example is computed. Assumes nothing.
 use Rattle.spec.specs.Answers.{refusalNumber, refusalPlace, named, told, toldBy, toldIn, unless, orElse, first}
-use Rattle.spec.specs.Lists.{anyOf, every, equalList}
-use Rattle.spec.specs.Access.{cellAfter, registersAfter, mode, agree, conflict}
+use Rattle.spec.specs.Lists.{anyOf, every, equalList, joined}
+use Rattle.spec.specs.Access.{cellAfter, registersAfter, mode, valueOf, agree, conflict}
 use Rattle.spec.specs.Op.{opTable, opOf, form, formOf, isRegister, isUnused, operandsFit, value}
 use Rattle.spec.specs.Table.{rowOf, rowsOf, noRow, rowAt, cellByte, kindOf, role, openedBy, openBefore, scanRow, scan, endOf, pastElse, elseOf}
 use Rattle.spec.specs.Table.{startOf, innermost}
@@ -10,8 +10,8 @@ use Rattle.spec.specs.TableCheck.{opener, isKnown, elseFits, endifFits, 
 use Rattle.spec.specs.TableCheck.{rowsRefusal, tableRefusal}
 use Rattle.spec.specs.Mask.{maskWord, has, membersFrom, members, any, full, minus, union, lowest, nonzero, holding}
 use Rattle.spec.specs.Shape.{shapeOf, total, bound, address}
-use Rattle.spec.specs.Log.{masksOf, logWords, emptyLog, nobody, cleared, clearedWhere, cellCleared, cellsCleared}
-use Rattle.spec.specs.Log.{withThread, logged, conflicting, testedMask, conflictMask, raceKind}
+use Rattle.spec.specs.Log.{masksOf, markWord, logKinds, logWords, emptyLog, nobody, cleared, clearedWhere, cellCleared, cellsCleared}
+use Rattle.spec.specs.Log.{withThread, firstValue, unequal, logged, conflicting, testedMask, conflictMask, raceKind}
 use Rattle.spec.specs.Steps.{stepped, allStepped, sum}
 use Rattle.spec.specs.LockStep as lockStep
 use Rattle.spec.specs.LockStep.{initialState, andThen, inTurn, advance, update, setReg, computeTurn, madeAccess, tryAccess, accessTurn}
@@ -42,19 +42,21 @@ use Rattle.spec.specs.AddExamples.{addExamples}
 use Rattle.spec.specs.ShiftExamples.{shiftExamples}
 use Rattle.spec.specs.StepExamples.{stepExamples, stepSums}
 use Rattle.spec.specs.ConflictExamples.{conflictExamples, conflictRecords}
+use Rattle.spec.specs.StoreExamples.{storeExamples}
 
 -- Whoever unfolds this unfolds them all.
 unfoldable pub computing : Unit {0}
 unfolding refusalNumber refusalPlace named told toldBy toldIn unless orElse first
-    anyOf every equalList
-    cellAfter registersAfter mode agree conflict
+    anyOf every equalList joined
+    cellAfter registersAfter mode valueOf agree conflict
     opTable opOf form formOf isRegister isUnused operandsFit value
     rowOf rowsOf noRow rowAt cellByte kindOf role openedBy openBefore scanRow scan endOf pastElse elseOf startOf innermost
     bodyRows constructRows bodyDepth constructDepth
     opener isKnown elseFits endifFits endwhileFits fits shallow divided openAfter rowRefusal leftOpen rowsRefusal tableRefusal
     maskWord has membersFrom members any full minus union lowest nonzero holding
     shapeOf total bound address
-    masksOf logWords emptyLog nobody cleared clearedWhere cellCleared cellsCleared withThread logged conflicting testedMask conflictMask raceKind
+    masksOf markWord logKinds logWords emptyLog nobody cleared clearedWhere cellCleared cellsCleared withThread firstValue unequal logged
+    conflicting testedMask conflictMask raceKind
     stepped allStepped sum
     lockStep.reg initialState andThen inTurn advance update setReg computeTurn madeAccess tryAccess accessTurn forEnabled countSteps
     topMask topOpener pop ifRow elseRow endifRow savedAtWhile leaveOrStay whileRow endwhileRow passBarrier barrierRow runRow resultOf
@@ -74,5 +76,5 @@ unfolding refusalNumber refusalPlace named told toldBy toldIn unless orElse firs
     over bareNumbers bareLent bareRefusal bareRun bareIntervals bareOutcome answerOf keptIf bareAnswer bareCells bareLog bareRecords bareSteps linesReported writerRefusal
     writtenOf writerAnswer writerBuffer fileLent andState fileChecked launchRun launchIntervals launchOutcome launchReport reportLength fileAnswer ifAccepted fileCellsAfter
     fileLogAfter fileRecordsAfter fileOutputAfter printed checkPrints checkedRefusal subjectOf
-    withNewlines lines examples runExamples addExamples shiftExamples stepExamples stepSums conflictExamples conflictRecords
+    withNewlines lines examples runExamples addExamples shiftExamples stepExamples stepSums conflictExamples conflictRecords storeExamples
 computing = tt

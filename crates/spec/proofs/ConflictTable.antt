@@ -5,9 +5,9 @@ use mathlib.Core.Bool.{Bool, true, false}
 use Prim.Native.Nat.{ℕ}
 use lib.ListN.{replicate}
 use Rattle.spec.specs.Access.{Kind, load, store, atomicAdd, conflict}
-use Rattle.spec.specs.Log.{emptyLog, logged, conflictMask}
+use Rattle.spec.specs.Log.{Log, emptyLog, logged, conflictMask}
 use Rattle.spec.specs.Mask.{any}
-use Rattle.spec.specs.Threads.{emptyRecord, recorded, races}
+use Rattle.spec.specs.Threads.{AccessRecord, emptyRecord, recorded, races}
 use Rattle.spec.proofs.Computing.{computing}
 
 -- An earlier access of cell 3, and a later one of `cell`.
@@ -34,14 +34,23 @@ pairs =
     ∷ record { earlier = atomicAdd 0; later = store 0; cell = 3 }
     ∷ record { earlier = atomicAdd 9; later = load; cell = 2 }
     ∷ record { earlier = store 9; later = atomicAdd 9; cell = 2 }
+    ∷ record { earlier = store 0; later = store 0; cell = 3 }
+    ∷ record { earlier = store 0; later = store 7; cell = 3 }
+    ∷ record { earlier = store 7; later = store 0; cell = 3 }
+    ∷ record { earlier = store 9; later = store 2147483657; cell = 3 }
+    ∷ record { earlier = store 4294967295; later = store 4294967295; cell = 3 }
+    ∷ record { earlier = store 0; later = load; cell = 3 }
+    ∷ record { earlier = load; later = store 0; cell = 3 }
+    ∷ record { earlier = store 9; later = store 9; cell = 2 }
     ∷ []
 
--- Two loads agree; a load and a store, and any two stores, conflict; accesses of different cells do not. An add conflicts with a load and a store,
--- also where it adds 0, and not with an add.
+-- Two loads agree, and two stores of one value, 0 among them; a load and a store conflict, and two stores of different values; accesses of different
+-- cells do not. An add conflicts with a load and a store, also where it adds 0 and where both have one value, and not with an add.
 unfoldable pub truth : List Bool
 truth =
-    false ∷ true ∷ true ∷ true ∷ true ∷ false
-    ∷ true ∷ true ∷ true ∷ true ∷ false ∷ false ∷ true ∷ true ∷ false ∷ false ∷ []
+    false ∷ true ∷ true ∷ false ∷ true ∷ false
+    ∷ true ∷ true ∷ true ∷ true ∷ false ∷ false ∷ true ∷ true ∷ false ∷ false
+    ∷ false ∷ true ∷ true ∷ true ∷ false ∷ true ∷ true ∷ false ∷ []
 
 -- The rule itself.
 pub by-rule : map (λ p. conflict (record { cell = p .cell; kind = p .later }) (record { cell = 3; kind = p .earlier })) pairs ≡ truth
@@ -66,7 +75,7 @@ by-log = refl
 
 -- A thread never conflicts with itself.
 unfoldable pub noConflict : List Bool
-noConflict = replicate 16 false
+noConflict = replicate 24 false
 
 pub own-record : map (recordTest 0) pairs ≡ noConflict
 unfolding computing pairs noConflict recordTest
@@ -75,3 +84,38 @@ own-record = refl
 pub own-log : map (logTest 0) pairs ≡ noConflict
 unfolding computing pairs noConflict logTest
 own-log = refl
+
+-- A store of 5, of 6 and of 7 to cell 3, by threads 0, 1 and 2 of three, behind stores to it: 5 and 6 by thread 0; 5 twice by thread 0; 5 by threads 0 and
+-- 1; 5 by thread 2, each by thread and value. Nobody meets its own.
+unfoldable pub earlierStores : List (List (ℕ × ℕ))
+earlierStores =
+    ((0, 5) ∷ (0, 6) ∷ [])
+    ∷ ((0, 5) ∷ (0, 5) ∷ [])
+    ∷ ((0, 5) ∷ (1, 5) ∷ [])
+    ∷ ((2, 5) ∷ [])
+    ∷ []
+
+unfoldable pub laterStores : (ℕ → ℕ → Bool) → List (List Bool)
+laterStores test = map (λ t. map (test t) (5 ∷ 6 ∷ 7 ∷ [])) (0 ∷ 1 ∷ 2 ∷ [])
+
+unfoldable pub recordOf : AccessRecord → List (ℕ × ℕ) → AccessRecord
+recordOf R [] = R
+recordOf R (x ∷ xs) = recordOf (recorded R (x .0) (record { cell = 3; kind = store (x .1) } ∷ [])) xs
+
+unfoldable pub logOf : Log → List (ℕ × ℕ) → Log
+logOf G [] = G
+logOf G (x ∷ xs) = logOf (logged G 3 (x .0) (store (x .1))) xs
+
+unfoldable pub storeTruth : List (List (List Bool))
+storeTruth =
+    let free = replicate 3 false in
+    let five = false ∷ true ∷ true ∷ [] in
+    (free ∷ replicate 3 true ∷ replicate 3 true ∷ []) ∷ (free ∷ five ∷ five ∷ []) ∷ (five ∷ five ∷ five ∷ []) ∷ (five ∷ five ∷ free ∷ []) ∷ []
+
+pub stores-by-record : map (λ xs. laterStores (λ t v. races 3 (recordOf emptyRecord xs) t (record { cell = 3; kind = store v }))) earlierStores ≡ storeTruth
+unfolding computing earlierStores laterStores recordOf storeTruth
+stores-by-record = refl
+
+pub stores-by-log : map (λ xs. laterStores (λ t v. any (conflictMask (logOf (emptyLog 3 4) xs) 3 t (store v)))) earlierStores ≡ storeTruth
+unfolding computing earlierStores laterStores logOf storeTruth
+stores-by-log = refl

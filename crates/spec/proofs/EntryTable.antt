@@ -43,12 +43,12 @@ pub bare-order : map toldAs
 unfolding computing orZero toldAs
 bare-order = refl
 
--- The lent lengths of a launch of 3 cells: as many words as cells, three times as many for the log, and room for 1,025 records or more.
+-- The lent lengths of a launch of 3 cells: as many words as cells, five times as many for the log, and room for 1,025 records or more.
 pub bare-lengths : map toldAs
-    (bareLent 3 3 9 3075
-    ∷ bareLent 3 2 9 3075 ∷ bareLent 3 4 9 3075
-    ∷ bareLent 3 3 8 3075 ∷ bareLent 3 3 10 3075 ∷ bareLent 3 3 3 3075 ∷ bareLent 3 3 6 3075
-    ∷ bareLent 3 3 9 3074 ∷ bareLent 3 3 9 3076 ∷ bareLent 3 3 9 6150 ∷ bareLent 3 3 9 1025 ∷ bareLent 3 3 9 3072 ∷ bareLent 3 3 9 3 ∷ bareLent 3 3 9 0
+    (bareLent 3 3 15 3075
+    ∷ bareLent 3 2 15 3075 ∷ bareLent 3 4 15 3075
+    ∷ bareLent 3 3 14 3075 ∷ bareLent 3 3 16 3075 ∷ bareLent 3 3 9 3075 ∷ bareLent 3 3 12 3075
+    ∷ bareLent 3 3 15 3074 ∷ bareLent 3 3 15 3076 ∷ bareLent 3 3 15 6150 ∷ bareLent 3 3 15 1025 ∷ bareLent 3 3 15 3072 ∷ bareLent 3 3 15 3 ∷ bareLent 3 3 15 0
     ∷ [])
     ≡ (0, 0)
     ∷ (20, 0) ∷ (20, 0)
@@ -60,23 +60,23 @@ bare-lengths = refl
 
 -- Two of them and all three wrong: 20 before 21 before 30.
 pub bare-lent-order : map toldAs
-    (bareLent 3 2 8 3075 ∷ bareLent 3 4 3 3075 ∷ bareLent 3 2 9 3074 ∷ bareLent 3 3 8 3074 ∷ bareLent 3 3 10 0 ∷ bareLent 3 4 8 3074 ∷ bareLent 1024 1024 3072 3074 ∷ []) ≡
+    (bareLent 3 2 14 3075 ∷ bareLent 3 4 9 3075 ∷ bareLent 3 2 15 3074 ∷ bareLent 3 3 14 3074 ∷ bareLent 3 3 16 0 ∷ bareLent 3 4 14 3074 ∷ bareLent 1024 1024 5120 3074 ∷ []) ≡
     (20, 0) ∷ (20, 0) ∷ (20, 0) ∷ (21, 0) ∷ (21, 0) ∷ (20, 0) ∷ (30, 0) ∷ []
 unfolding computing orZero toldAs
 bare-lent-order = refl
 
 -- Numbers before rows, rows before lent lengths: 10 and 3; 3 and 20; 7 and 21; 20 and 21; 10 and 30; 3 and 30.
 pub bare-stages : map toldAs
-    (bareRefusal (0 ∷ 0 ∷ 0 ∷ 0 ∷ []) 1 1 1000001 (7 ∷ []) (7 ∷ 7 ∷ 7 ∷ []) (replicate 3075 7)
+    (bareRefusal (0 ∷ 0 ∷ 0 ∷ 0 ∷ []) 1 1 1000001 (7 ∷ []) (replicate 5 7) (replicate 3075 7)
     ∷ bareRefusal (0 ∷ 0 ∷ 0 ∷ 0 ∷ []) 1 1 0 [] [] []
     ∷ bareRefusal (37 ∷ 0 ∷ 0 ∷ 0 ∷ 32 ∷ 0 ∷ 0 ∷ 0 ∷ []) 1 1 0 (7 ∷ []) [] (replicate 3075 7)
     ∷ bareRefusal (37 ∷ 0 ∷ 0 ∷ 0 ∷ []) 1 1 0 [] [] (replicate 3075 7)
     ∷ bareRefusal (37 ∷ 0 ∷ 0 ∷ 0 ∷ []) 1 1 0 (7 ∷ []) [] (replicate 3075 7)
-    ∷ bareRefusal (37 ∷ 0 ∷ 0 ∷ 0 ∷ []) 1 1 0 (7 ∷ []) (7 ∷ 7 ∷ []) (replicate 3075 7)
-    ∷ bareRefusal (37 ∷ 0 ∷ 0 ∷ 0 ∷ []) 1 1 0 (7 ∷ []) (7 ∷ 7 ∷ 7 ∷ []) (replicate 3075 7)
-    ∷ bareRefusal (37 ∷ 0 ∷ 0 ∷ 0 ∷ []) 1 1 1000001 (7 ∷ []) (7 ∷ 7 ∷ 7 ∷ []) []
-    ∷ bareRefusal (0 ∷ 0 ∷ 0 ∷ 0 ∷ []) 1 1 0 (7 ∷ []) (7 ∷ 7 ∷ 7 ∷ []) []
-    ∷ bareRefusal (37 ∷ 0 ∷ 0 ∷ 0 ∷ []) 1 1 0 (7 ∷ []) (7 ∷ 7 ∷ 7 ∷ []) (replicate 3074 7)
+    ∷ bareRefusal (37 ∷ 0 ∷ 0 ∷ 0 ∷ []) 1 1 0 (7 ∷ []) (replicate 4 7) (replicate 3075 7)
+    ∷ bareRefusal (37 ∷ 0 ∷ 0 ∷ 0 ∷ []) 1 1 0 (7 ∷ []) (replicate 5 7) (replicate 3075 7)
+    ∷ bareRefusal (37 ∷ 0 ∷ 0 ∷ 0 ∷ []) 1 1 1000001 (7 ∷ []) (replicate 5 7) []
+    ∷ bareRefusal (0 ∷ 0 ∷ 0 ∷ 0 ∷ []) 1 1 0 (7 ∷ []) (replicate 5 7) []
+    ∷ bareRefusal (37 ∷ 0 ∷ 0 ∷ 0 ∷ []) 1 1 0 (7 ∷ []) (replicate 5 7) (replicate 3074 7)
     ∷ [])
     ≡ (10, 0) ∷ (3, 0) ∷ (7, 1) ∷ (20, 0) ∷ (21, 0) ∷ (21, 0) ∷ (0, 0) ∷ (10, 0) ∷ (3, 0) ∷ (30, 0) ∷ []
 unfolding computing orZero toldAs
@@ -101,40 +101,40 @@ bareLaunch table threads cells limit lentCells lentLog lentSteps lentRecords = (
 
 -- Three threads, TID, STORE of each thread's number: what was in the log and in the step counts is not read, and what was in the cells is the
 -- launch's. Step counts behind the last thread are 0, and words behind the one record are kept, those that need not have been lent too.
-pub bare-passed : bareLaunch (2 ∷ 0 ∷ 0 ∷ 0 ∷ 17 ∷ 0 ∷ 0 ∷ 0 ∷ []) 3 4 2 (5 ∷ 6 ∷ 7 ∷ 8 ∷ []) (replicate 12 9) (replicate 32 9) (replicate 3080 9) ≡ (
+pub bare-passed : bareLaunch (2 ∷ 0 ∷ 0 ∷ 0 ∷ 17 ∷ 0 ∷ 0 ∷ 0 ∷ []) 3 4 2 (5 ∷ 6 ∷ 7 ∷ 8 ∷ []) (replicate 20 9) (replicate 32 9) (replicate 3080 9) ≡ (
   answer.Ran (record { verdict = Passed; row = 2; rows = 2; barriers = 0; conflicts = 0 }),
-  (0 ∷ 1 ∷ 2 ∷ 8 ∷ [], (0 ∷ 0 ∷ 0 ∷ 0 ∷ 1 ∷ 2 ∷ 4 ∷ 0 ∷ 0 ∷ 0 ∷ 0 ∷ 0 ∷ [], (2 ∷ 2 ∷ 2 ∷ replicate 29 0, 0 ∷ 2 ∷ 0 ∷ replicate 3077 9))),
+  (0 ∷ 1 ∷ 2 ∷ 8 ∷ [], (replicate 4 0 ++ (1 ∷ 2 ∷ 4 ∷ replicate 6 0 ++ (1 ∷ 2 ∷ replicate 5 0)), (2 ∷ 2 ∷ 2 ∷ replicate 29 0, 0 ∷ 2 ∷ 0 ∷ replicate 3077 9))),
 )
 unfolding computing bareLaunch
 bare-passed = refl
 
 -- Thread 1 stops at its STORE; thread 0's has been made, and is its second step. The interval behind the BARRIER has no row that was run.
-pub bare-race : bareLaunch (2 ∷ 1 ∷ 0 ∷ 0 ∷ 37 ∷ 0 ∷ 0 ∷ 0 ∷ 17 ∷ 0 ∷ 1 ∷ 0 ∷ []) 3 2 10 (5 ∷ 6 ∷ []) (replicate 6 9) (replicate 32 7) (replicate 3075 9) ≡ (
+pub bare-race : bareLaunch (2 ∷ 1 ∷ 0 ∷ 0 ∷ 37 ∷ 0 ∷ 0 ∷ 0 ∷ 17 ∷ 0 ∷ 1 ∷ 0 ∷ []) 3 2 10 (5 ∷ 6 ∷ []) (replicate 10 9) (replicate 32 7) (replicate 3075 9) ≡ (
   answer.Ran (record { verdict = Race 1 0 WriteWrite 0; row = 2; rows = 2; barriers = 1; conflicts = 0 }),
-  (0 ∷ 6 ∷ [], (0 ∷ 0 ∷ 1 ∷ 0 ∷ 0 ∷ 0 ∷ [], (2 ∷ 1 ∷ 1 ∷ replicate 29 0, 0 ∷ 2 ∷ 0 ∷ 2 ∷ 0 ∷ 0 ∷ replicate 3069 9))),
+  (0 ∷ 6 ∷ [], (0 ∷ 0 ∷ 1 ∷ replicate 7 0, (2 ∷ 1 ∷ 1 ∷ replicate 29 0, 0 ∷ 2 ∷ 0 ∷ 2 ∷ 0 ∷ 0 ∷ replicate 3069 9))),
 )
 unfolding computing bareLaunch
 bare-race = refl
 
--- All three add their numbers plus 1 to cell 1: the adders stand in the last third of the log.
+-- All three add their numbers plus 1 to cell 1: the adders stand behind the readers and writers, before values and marks.
 pub bare-added : bareLaunch
-    (2 ∷ 0 ∷ 0 ∷ 0 ∷ 1 ∷ 1 ∷ 1 ∷ 0 ∷ 4 ∷ 2 ∷ 0 ∷ 1 ∷ 18 ∷ 1 ∷ 2 ∷ 0 ∷ []) 3 2 10 (5 ∷ 6 ∷ []) (replicate 6 9)
+    (2 ∷ 0 ∷ 0 ∷ 0 ∷ 1 ∷ 1 ∷ 1 ∷ 0 ∷ 4 ∷ 2 ∷ 0 ∷ 1 ∷ 18 ∷ 1 ∷ 2 ∷ 0 ∷ []) 3 2 10 (5 ∷ 6 ∷ []) (replicate 10 9)
     (replicate 32 7) (replicate 3075 6)
     ≡ (
       answer.Ran (record { verdict = Passed; row = 4; rows = 4; barriers = 0; conflicts = 0 }),
-      (5 ∷ 12 ∷ [], (0 ∷ 0 ∷ 0 ∷ 0 ∷ 0 ∷ 7 ∷ [], (4 ∷ 4 ∷ 4 ∷ replicate 29 0, 0 ∷ 4 ∷ 0 ∷ replicate 3072 6))),
+      (5 ∷ 12 ∷ [], (replicate 5 0 ++ (7 ∷ replicate 4 0), (4 ∷ 4 ∷ 4 ∷ replicate 29 0, 0 ∷ 4 ∷ 0 ∷ replicate 3072 6))),
     )
 unfolding computing bareLaunch
 bare-added = refl
 
 -- A refusal leaves every buffer.
-pub bare-refused : bareLaunch (2 ∷ 0 ∷ 0 ∷ 0 ∷ 17 ∷ 0 ∷ 0 ∷ 0 ∷ []) 0 2 10 (5 ∷ 6 ∷ []) (replicate 6 9) (replicate 32 9) (replicate 3075 9) ≡
-    (answer.Refused (ThreadsOutOfRange 0), (5 ∷ 6 ∷ [], (replicate 6 9, (replicate 32 9, replicate 3075 9))))
+pub bare-refused : bareLaunch (2 ∷ 0 ∷ 0 ∷ 0 ∷ 17 ∷ 0 ∷ 0 ∷ 0 ∷ []) 0 2 10 (5 ∷ 6 ∷ []) (replicate 10 9) (replicate 32 9) (replicate 3075 9) ≡
+    (answer.Refused (ThreadsOutOfRange 0), (5 ∷ 6 ∷ [], (replicate 10 9, (replicate 32 9, replicate 3075 9))))
 unfolding computing bareLaunch
 bare-refused = refl
 
-pub bare-records-refused : bareLaunch (2 ∷ 0 ∷ 0 ∷ 0 ∷ 17 ∷ 0 ∷ 0 ∷ 0 ∷ []) 2 2 10 (5 ∷ 6 ∷ []) (replicate 6 9) (replicate 32 9) (replicate 3074 9) ≡
-    (answer.Refused RecordsLength, (5 ∷ 6 ∷ [], (replicate 6 9, (replicate 32 9, replicate 3074 9))))
+pub bare-records-refused : bareLaunch (2 ∷ 0 ∷ 0 ∷ 0 ∷ 17 ∷ 0 ∷ 0 ∷ 0 ∷ []) 2 2 10 (5 ∷ 6 ∷ []) (replicate 10 9) (replicate 32 9) (replicate 3074 9) ≡
+    (answer.Refused RecordsLength, (5 ∷ 6 ∷ [], (replicate 10 9, (replicate 32 9, replicate 3074 9))))
 unfolding computing bareLaunch
 bare-records-refused = refl
 
@@ -147,9 +147,9 @@ tids n = bytesOfRows (replicate n 2)
     bytesOfRows (op ∷ ops) = op ∷ 0 ∷ 0 ∷ 0 ∷ bytesOfRows ops
 
 pub bare-most : map toldAs
-    (bareRefusal (tids 256) 32 1024 1000000 (replicate 1024 7) (replicate 3072 7) (replicate 3075 7)
-    ∷ bareRefusal (tids 257) 32 1024 1000000 (replicate 1024 7) (replicate 3072 7) (replicate 3075 7)
-    ∷ bareRefusal [] 32 1025 1000000 (replicate 1025 7) (replicate 3075 7) (replicate 3075 7)
+    (bareRefusal (tids 256) 32 1024 1000000 (replicate 1024 7) (replicate 5120 7) (replicate 3075 7)
+    ∷ bareRefusal (tids 257) 32 1024 1000000 (replicate 1024 7) (replicate 5120 7) (replicate 3075 7)
+    ∷ bareRefusal [] 32 1025 1000000 (replicate 1025 7) (replicate 5125 7) (replicate 3075 7)
     ∷ [])
     ≡ (0, 0) ∷ (2, 0) ∷ (9, 0) ∷ []
 unfolding computing orZero toldAs tids
@@ -217,10 +217,10 @@ writer-refusal = refl
 
 -- The whole-file entry. Lent lengths on both sides; more output than 17,408 bytes and more words for records than 3,075 are welcome.
 pub file-lengths : map toldAs
-    (fileLent 1024 3072 3075 17408 ∷ fileLent 1024 3072 3075 17409
-    ∷ fileLent 1023 3072 3075 17408 ∷ fileLent 1025 3072 3075 17408 ∷ fileLent 0 3072 3075 17408
-    ∷ fileLent 1024 3071 3075 17408 ∷ fileLent 1024 3073 3075 17408 ∷ fileLent 1024 2048 3075 17408 ∷ fileLent 1024 3072 3075 17407 ∷ fileLent 1024 3072 3075 0
-    ∷ fileLent 1024 3072 3074 17408 ∷ fileLent 1024 3072 3076 17408 ∷ fileLent 1024 3072 6150 17408 ∷ fileLent 1024 3072 1025 17408 ∷ fileLent 1024 3072 0 17408
+    (fileLent 1024 5120 3075 17408 ∷ fileLent 1024 5120 3075 17409
+    ∷ fileLent 1023 5120 3075 17408 ∷ fileLent 1025 5120 3075 17408 ∷ fileLent 0 5120 3075 17408
+    ∷ fileLent 1024 5119 3075 17408 ∷ fileLent 1024 5121 3075 17408 ∷ fileLent 1024 3072 3075 17408 ∷ fileLent 1024 5120 3075 17407 ∷ fileLent 1024 5120 3075 0
+    ∷ fileLent 1024 5120 3074 17408 ∷ fileLent 1024 5120 3076 17408 ∷ fileLent 1024 5120 6150 17408 ∷ fileLent 1024 5120 1025 17408 ∷ fileLent 1024 5120 0 17408
     ∷ [])
     ≡ (0, 0) ∷ (0, 0)
     ∷ (20, 0) ∷ (20, 0) ∷ (20, 0)
@@ -232,9 +232,9 @@ file-lengths = refl
 
 -- Two and more of them wrong: 20 before 21 before 30 before 24.
 pub file-lent-order : map toldAs
-    (fileLent 1023 3071 3074 17407 ∷ fileLent 1024 3071 3074 17407 ∷ fileLent 1024 3072 3074 17407
-    ∷ fileLent 1023 3071 3075 17408 ∷ fileLent 1023 3072 3074 17408 ∷ fileLent 1023 3072 3075 17407
-    ∷ fileLent 1024 3071 3074 17408 ∷ fileLent 1024 3071 3075 17407
+    (fileLent 1023 5119 3074 17407 ∷ fileLent 1024 5119 3074 17407 ∷ fileLent 1024 5120 3074 17407
+    ∷ fileLent 1023 5119 3075 17408 ∷ fileLent 1023 5120 3074 17408 ∷ fileLent 1023 5120 3075 17407
+    ∷ fileLent 1024 5119 3074 17408 ∷ fileLent 1024 5119 3075 17407
     ∷ [])
     ≡ (20, 0) ∷ (21, 0) ∷ (30, 0)
     ∷ (20, 0) ∷ (20, 0) ∷ (20, 0)
@@ -250,26 +250,27 @@ aFile = lines "kernel=1/threads=2/cells=3/limit=9/rows=5/row=2,0,0,0/row=1,1,1,0
 unfoldable pub printedFor : List ℕ
 printedFor = lines "verdict=passed/row=-/thread=-/other=-/kind=-/at=-/rows=5/steps=5/steps=5/barriers=0/conflicts=0/cell=1/cell=2/cell=4294967295/end=report"
 
--- The report is written, 137 bytes; behind it, behind the three cells, the nine words of the log and the three of one record all is kept.
-pub file-answer : map (λ n. fileAnswer aFile (replicate 1024 9) (replicate 3072 8) (replicate 3075 6) (replicate n 7)) (17408 ∷ 20000 ∷ []) ≡
+-- The report is written, 137 bytes; behind it, behind the three cells, the fifteen words of the log and the three of one record all is kept.
+pub file-answer : map (λ n. fileAnswer aFile (replicate 1024 9) (replicate 5120 8) (replicate 3075 6) (replicate n 7)) (17408 ∷ 20000 ∷ []) ≡
     written.Wrote 137 ∷ written.Wrote 137 ∷ []
 unfolding computing aFile
 file-answer = refl
 
-pub file-cells : fileCellsAfter aFile (replicate 1024 9) (replicate 3072 8) (replicate 3075 6) (replicate 17408 7) ≡ 1 ∷ 2 ∷ 4294967295 ∷ replicate 1021 9
+pub file-cells : fileCellsAfter aFile (replicate 1024 9) (replicate 5120 8) (replicate 3075 6) (replicate 17408 7) ≡ 1 ∷ 2 ∷ 4294967295 ∷ replicate 1021 9
 unfolding computing aFile
 file-cells = refl
 
-pub file-log : fileLogAfter aFile (replicate 1024 9) (replicate 3072 8) (replicate 3075 6) (replicate 17408 7) ≡ 1 ∷ 2 ∷ 0 ∷ 1 ∷ 2 ∷ 0 ∷ 0 ∷ 0 ∷ 0 ∷ replicate 3063 8
+pub file-log : fileLogAfter aFile (replicate 1024 9) (replicate 5120 8) (replicate 3075 6) (replicate 17408 7) ≡
+    1 ∷ 2 ∷ 0 ∷ 1 ∷ 2 ∷ 0 ∷ 0 ∷ 0 ∷ 0 ∷ 1 ∷ 2 ∷ 0 ∷ 0 ∷ 0 ∷ 0 ∷ replicate 5105 8
 unfolding computing aFile
 file-log = refl
 
-pub file-records : map (λ n. fileRecordsAfter aFile (replicate 1024 9) (replicate 3072 8) (replicate n 6) (replicate 17408 7)) (3075 ∷ 3080 ∷ []) ≡
+pub file-records : map (λ n. fileRecordsAfter aFile (replicate 1024 9) (replicate 5120 8) (replicate n 6) (replicate 17408 7)) (3075 ∷ 3080 ∷ []) ≡
     (0 ∷ 5 ∷ 0 ∷ replicate 3072 6) ∷ (0 ∷ 5 ∷ 0 ∷ replicate 3077 6) ∷ []
 unfolding computing aFile
 file-records = refl
 
-pub file-output : fileOutputAfter aFile (replicate 1024 9) (replicate 3072 8) (replicate 3075 6) (replicate 17408 7) ≡ printedFor ++ replicate (17408 - 137) 7
+pub file-output : fileOutputAfter aFile (replicate 1024 9) (replicate 5120 8) (replicate 3075 6) (replicate 17408 7) ≡ printedFor ++ replicate (17408 - 137) 7
 unfolding computing aFile printedFor
 file-output = refl
 
@@ -293,14 +294,14 @@ fileAll file lentCells lentLog lentRecords output = (
 pub file-refused :
     fileAll aFile (replicate 4 9) (replicate 6 8) (replicate 3075 6) (replicate 17408 7)
     ∷ fileAll aFile (replicate 1024 9) (replicate 6 8) (replicate 9 6) (replicate 8 7)
-    ∷ fileAll aFile (replicate 1024 9) (replicate 3072 8) (replicate 3074 6) (replicate 8 7)
-    ∷ fileAll aFile (replicate 1024 9) (replicate 3072 8) (replicate 3075 6) (replicate 8 7)
+    ∷ fileAll aFile (replicate 1024 9) (replicate 5120 8) (replicate 3074 6) (replicate 8 7)
+    ∷ fileAll aFile (replicate 1024 9) (replicate 5120 8) (replicate 3075 6) (replicate 8 7)
     ∷ fileAll (lines "kernel=2") (replicate 4 9) (replicate 6 8) (replicate 9 6) (replicate 8 7)
     ∷ []
     ≡ (written.Refused CellsLength, (replicate 4 9, (replicate 6 8, (replicate 3075 6, replicate 17408 7))))
     ∷ (written.Refused LogLength, (replicate 1024 9, (replicate 6 8, (replicate 9 6, replicate 8 7))))
-    ∷ (written.Refused RecordsLength, (replicate 1024 9, (replicate 3072 8, (replicate 3074 6, replicate 8 7))))
-    ∷ (written.Refused OutputLength, (replicate 1024 9, (replicate 3072 8, (replicate 3075 6, replicate 8 7))))
+    ∷ (written.Refused RecordsLength, (replicate 1024 9, (replicate 5120 8, (replicate 3074 6, replicate 8 7))))
+    ∷ (written.Refused OutputLength, (replicate 1024 9, (replicate 5120 8, (replicate 3075 6, replicate 8 7))))
     ∷ (written.Refused (LineNotDue 1), (replicate 4 9, (replicate 6 8, (replicate 9 6, replicate 8 7))))
     ∷ []
 unfolding computing aFile fileAll

@@ -209,11 +209,11 @@ unfoldable pub twoIntervals : List ℕ → List ℕ
 twoIntervals rest = twoApart ++ (16 ∷ 3 ∷ 2 ∷ 0 ∷ 37 ∷ 0 ∷ 0 ∷ 0 ∷ 18 ∷ 2 ∷ 1 ∷ 0 ∷ rest)
 
 pub each-verdict :
-    launched (twoIntervals []) 100 (replicate 51 9) (replicate 3075 9)
-    ∷ launched (twoIntervals (17 ∷ 3 ∷ 0 ∷ 0 ∷ [])) 100 (replicate 51 9) (replicate 3076 9)
-    ∷ launched (twoIntervals (6 ∷ 3 ∷ 3 ∷ 3 ∷ 16 ∷ 4 ∷ 3 ∷ 0 ∷ [])) 100 (replicate 51 9) (replicate 3077 9)
-    ∷ launched (twoIntervals (32 ∷ 0 ∷ 0 ∷ 0 ∷ 37 ∷ 0 ∷ 0 ∷ 0 ∷ 34 ∷ 0 ∷ 0 ∷ 0 ∷ [])) 100 (replicate 51 9) (replicate 3078 9)
-    ∷ launched (twoIntervals (37 ∷ 0 ∷ 0 ∷ 0 ∷ [])) 6 (replicate 51 9) (replicate 3079 9)
+    launched (twoIntervals []) 100 (replicate 85 9) (replicate 3075 9)
+    ∷ launched (twoIntervals (17 ∷ 3 ∷ 0 ∷ 0 ∷ [])) 100 (replicate 85 9) (replicate 3076 9)
+    ∷ launched (twoIntervals (6 ∷ 3 ∷ 3 ∷ 3 ∷ 16 ∷ 4 ∷ 3 ∷ 0 ∷ [])) 100 (replicate 85 9) (replicate 3077 9)
+    ∷ launched (twoIntervals (32 ∷ 0 ∷ 0 ∷ 0 ∷ 37 ∷ 0 ∷ 0 ∷ 0 ∷ 34 ∷ 0 ∷ 0 ∷ 0 ∷ [])) 100 (replicate 85 9) (replicate 3078 9)
+    ∷ launched (twoIntervals (37 ∷ 0 ∷ 0 ∷ 0 ∷ [])) 6 (replicate 85 9) (replicate 3079 9)
     ∷ []
     ≡ (answer.Ran (record { verdict = Passed; row = 6; rows = 6; barriers = 1; conflicts = 2 }), 0 ∷ 5 ∷ 1 ∷ 5 ∷ 1 ∷ 1 ∷ replicate 3069 9)
     ∷ (answer.Ran (record { verdict = Race 1 0 WriteWrite 7; row = 6; rows = 6; barriers = 1; conflicts = 2 }), 0 ∷ 5 ∷ 1 ∷ 5 ∷ 1 ∷ 1 ∷ replicate 3070 9)
@@ -226,9 +226,9 @@ each-verdict = refl
 
 -- The same launch refused: the records are kept, be there enough of them or not.
 pub records-kept :
-    launched (twoIntervals []) 100 (replicate 50 9) (replicate 3075 9)
-    ∷ launched (twoIntervals []) 100 (replicate 50 9) (replicate 3074 9)
-    ∷ launched (twoIntervals []) 100 (replicate 51 9) (replicate 3074 9)
+    launched (twoIntervals []) 100 (replicate 84 9) (replicate 3075 9)
+    ∷ launched (twoIntervals []) 100 (replicate 84 9) (replicate 3074 9)
+    ∷ launched (twoIntervals []) 100 (replicate 85 9) (replicate 3074 9)
     ∷ []
     ≡ (answer.Refused LogLength, replicate 3075 9) ∷ (answer.Refused LogLength, replicate 3074 9) ∷ (answer.Refused RecordsLength, replicate 3074 9) ∷ []
 unfolding computing twoApart twoIntervals launched
@@ -252,7 +252,7 @@ longTable =
 unfoldable pub withinRound : List ℕ
 withinRound = recordWords (map (λ r. interval r 1 0) (bytesFrom 7 15))
 
-pub the-last-goes-on : bareRecords longTable 2 17 10000 (replicate 17 7) (replicate 51 9) (replicate 3077 9) ≡
+pub the-last-goes-on : bareRecords longTable 2 17 10000 (replicate 17 7) (replicate 85 9) (replicate 3077 9) ≡
     (0 ∷ 7 ∷ 0 ∷ withinRound) ++ (repeated 63 (22 ∷ 4 ∷ 0 ∷ withinRound) ++ (22 ∷ 7 ∷ 2 ∷ 9 ∷ 9 ∷ []))
 unfolding computing bytesFrom interval twoApart repeated longTable withinRound
 the-last-goes-on = refl
@@ -263,7 +263,7 @@ itsFile =
     lines "kernel=1/threads=2/cells=17/limit=100/rows=7/row=2,0,0,0/row=1,1,16,0/row=6,2,0,1/row=16,3,2,0/row=37,0,0,0/row=18,2,1,0/row=37,0,0,0"
     ++ lines "cell=7/cell=7/cell=7/cell=7/cell=7/cell=7/cell=7/cell=7/cell=7/cell=7/cell=7/cell=7/cell=7/cell=7/cell=7/cell=7/cell=7/end=kernel"
 
-pub file-intervals : fileRecordsAfter itsFile (replicate 1024 9) (replicate 3072 8) (replicate 3080 6) (replicate 17408 7) ≡
+pub file-intervals : fileRecordsAfter itsFile (replicate 1024 9) (replicate 5120 8) (replicate 3080 6) (replicate 17408 7) ≡
     0 ∷ 5 ∷ 1 ∷ 5 ∷ 2 ∷ 1 ∷ 7 ∷ 0 ∷ 0 ∷ replicate 3071 6
 unfolding computing itsFile
 file-intervals = refl

@@ -131,7 +131,7 @@ cells-at-barriers = refl
 pub barriers-not-counted :
     countedBarriers (rowOf 32 0 0 0 ∷ rowOf 37 0 0 0 ∷ rowOf 34 0 0 0 ∷ []) 2 (9 ∷ []) 10
     ∷ countedBarriers (rowOf 2 0 0 0 ∷ rowOf 32 0 0 0 ∷ rowOf 37 0 0 0 ∷ rowOf 34 0 0 0 ∷ rowOf 37 0 0 0 ∷ []) 2 (9 ∷ []) 10
-    ∷ countedBarriers (rowOf 37 0 0 0 ∷ rowOf 17 0 0 0 ∷ rowOf 37 0 0 0 ∷ []) 2 (9 ∷ []) 10
+    ∷ countedBarriers (rowOf 37 0 0 0 ∷ rowOf 2 1 0 0 ∷ rowOf 17 0 1 0 ∷ rowOf 37 0 0 0 ∷ []) 2 (9 ∷ []) 10
     ∷ []
     ≡ [] ∷ [] ∷ ((9 ∷ []) ∷ []) ∷ []
 unfolding computing

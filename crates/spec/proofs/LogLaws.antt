@@ -1,12 +1,12 @@
 -- Laws of the log, once for all modes. Assumes nothing.
 use mathlib.Core.Path.{_≡_, refl, sym, _∙_}
 use mathlib.Core.List.{List, [], _∷_, map}
-use mathlib.Core.Bool.{Bool, true, false, cond}
+use mathlib.Core.Bool.{Bool, true, false, cond, not}
 use Prim.Native.Nat.{ℕ, zero, suc}
 use lib.ListN.{length, getD, replicate, length-map}
-use Rattle.spec.specs.Access.{Kind, load, store, atomicAdd, Mode, reads, writes, adds, mode, agree}
+use Rattle.spec.specs.Access.{Kind, load, store, atomicAdd, valueOf, Mode, reads, writes, adds, mode, agree}
 use Rattle.spec.specs.Mask.{Mask, union}
-use Rattle.spec.specs.Log.{Log, masksOf, emptyLog, nobody, cleared, withThread, logged, conflicting, testedMask}
+use Rattle.spec.specs.Log.{Log, masksOf, emptyLog, nobody, cleared, withThread, unequal, logged, conflicting, testedMask}
 use Rattle.spec.proofs.Laws.{union-size}
 
 unfoldable pub same : Mode → Mode → Bool
@@ -59,7 +59,7 @@ wiped-size (m ∷ ms) (suc c) = wiped-size ms c
 module _ (G : Log) (c : ℕ) (x : Kind) (n : ℕ) (sizes : (m : Mode) → length (getD (masksOf G m) c []) ≡ n) where
   conflicting-size : (m : Mode) → length (conflicting G c m x) ≡ n
   unfolding conflicting
-  conflicting-size m = by (agree m (mode x))
+  conflicting-size m = by (agree (not (unequal G c (valueOf x))) m (mode x))
     where
       by : (b : Bool) → length (cond b (nobody (getD (masksOf G m) c [])) (getD (masksOf G m) c [])) ≡ n
       by true = nobody-size (getD (masksOf G m) c []) ∙ sizes m

@@ -56,6 +56,6 @@ unfolding computing bare lentCells lentRecords
 log = refl
 
 -- One word less than 1,025 records need.
-pub records : bare [] 1 2 0 (replicate 6 5) (replicate 3074 7) ≡ (answer.Refused RecordsLength, (lentCells, (replicate 6 5, replicate 3074 7)))
+pub records : bare [] 1 2 0 (replicate 10 5) (replicate 3074 7) ≡ (answer.Refused RecordsLength, (lentCells, (replicate 10 5, replicate 3074 7)))
 unfolding computing bare lentCells
 records = refl

@@ -246,6 +246,64 @@ pub own-adds-well : leaves adding 2 (9 ∷ []) (of 5 1) .bad ≡ false
 unfolding computing of adding
 own-adds-well = refl
 
+-- Two threads store 5 to cell 0, and behind a BARRIER 6, in either order and by turns: these runs come to their end.
+unfoldable pub alike : Table
+alike = rowOf 1 1 5 0 ∷ rowOf 17 0 1 0 ∷ rowOf 37 0 0 0 ∷ rowOf 1 1 6 0 ∷ rowOf 17 0 1 0 ∷ []
+
+pub equal-stores : map (played alike 2 (9 ∷ []))
+    ((of 2 0 ++ (of 2 1 ++ (release ∷ (of 2 0 ++ of 2 1))))
+    ∷ (of 2 1 ++ (of 2 0 ++ (release ∷ (of 2 1 ++ of 2 0))))
+    ∷ (row 0 ∷ row 1 ∷ row 1 ∷ row 0 ∷ release ∷ row 1 ∷ row 0 ∷ row 1 ∷ row 0 ∷ [])
+    ∷ [])
+    ≡ replicate 3 (record {
+      allPossible = true;
+      ended = true;
+      bad = false;
+      mayMove = false;
+      mayRelease = false;
+      cells = 6 ∷ [];
+      atReleases = (5 ∷ []) ∷ [];
+    })
+unfolding computing of played isRun alike
+equal-stores = refl
+
+-- The cells that moves of two threads leave, and whether they end badly.
+unfoldable pub storing : Table → List Move → List ℕ × Bool
+storing T ms = let g = leaves T 2 (9 ∷ []) ms in (g .cells, g .bad)
+
+-- Their own numbers, in either order: the second store ends the run badly.
+pub unequal-stores : map (storing (rowOf 2 1 0 0 ∷ rowOf 17 0 1 0 ∷ [])) (of 2 0 ∷ (of 2 0 ++ of 2 1) ∷ (of 2 1 ++ of 2 0) ∷ []) ≡
+    (0 ∷ [], false) ∷ (0 ∷ [], true) ∷ (1 ∷ [], true) ∷ []
+unfolding computing of storing
+unequal-stores = refl
+
+-- Thread 0 stores 5 and 6 to cell 0, its fifth and sixth move; thread 1 stores 5, its fifth. Thread 0 alone does so well. Whether thread 1's store comes
+-- last, between or first, the run ends badly as soon as all three would be made.
+unfoldable pub twoAndOne : Table
+twoAndOne =
+    rowOf 2 0 0 0
+    ∷ rowOf 1 1 5 0
+    ∷ rowOf 1 2 6 0
+    ∷ rowOf 32 0 0 0
+    ∷ rowOf 17 15 1 0
+    ∷ rowOf 33 0 0 0
+    ∷ rowOf 17 15 1 0
+    ∷ rowOf 17 15 2 0
+    ∷ rowOf 34 0 0 0
+    ∷ []
+
+pub own-unequal-stores : map (storing twoAndOne)
+    (of 7 0
+    ∷ (of 6 0 ++ of 5 1)
+    ∷ (of 5 0 ++ of 5 1)
+    ∷ (of 5 0 ++ (of 5 1 ++ of 1 0))
+    ∷ (of 5 1 ++ of 5 0)
+    ∷ (of 5 1 ++ of 6 0)
+    ∷ [])
+    ≡ (6 ∷ [], false) ∷ (6 ∷ [], true) ∷ (5 ∷ [], false) ∷ (5 ∷ [], true) ∷ (5 ∷ [], false) ∷ (5 ∷ [], true) ∷ []
+unfolding computing of storing twoAndOne
+own-unequal-stores = refl
+
 -- `circling` to its end: two releases in the loop and one behind it, and the cells just before each.
 pub three-releases : played circling 2 (9 ∷ 9 ∷ [])
     (of 6 0 ++ (of 6 1 ++ (release ∷ (of 5 1 ++ (of 5 0 ++ (release ∷ (of 3 0 ++ (of 3 1 ++ (release ∷ []))))))))) ≡

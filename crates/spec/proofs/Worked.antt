@@ -13,6 +13,7 @@ use Rattle.spec.specs.AddExamples.{addExamples}
 use Rattle.spec.specs.ShiftExamples.{shiftExamples}
 use Rattle.spec.specs.StepExamples.{stepExamples, stepSums}
 use Rattle.spec.specs.ConflictExamples.{conflictExamples, conflictRecords}
+use Rattle.spec.specs.StoreExamples.{storeExamples}
 use Rattle.spec.proofs.Computing.{computing}
 
 unfoldable pub finalLog : Checked Launch → List ℕ
@@ -48,6 +49,10 @@ worked-steps = refl
 pub worked-conflicts : map computed conflictExamples ≡ map expected conflictExamples
 unfolding computing computed expected finalLog
 worked-conflicts = refl
+
+pub worked-stores : map computed storeExamples ≡ map expected storeExamples
+unfolding computing computed expected finalLog
+worked-stores = refl
 
 -- The sum of the counts.
 unfoldable pub allSteps : Checked Launch → ℕ

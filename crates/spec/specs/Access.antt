@@ -37,19 +37,26 @@ pub record Access : Type 0 where
   pub cell : ℕ
   pub kind : Kind
 
+-- The value that an access brings; a load brings none.
+unfoldable pub valueOf : Kind → ℕ
+valueOf load = 0
+valueOf (store v) = v
+valueOf (atomicAdd v) = v
+
 -- The conflict table, for two accesses of one cell by different threads. "The threads' own machine": they race if one of them at least is a store;
--- item 1: an add races with a load or a store, but not with an add. So two modes agree if both read, or if both add.
-unfoldable pub agree : Mode → Mode → Bool
-agree reads reads = true
-agree reads writes = false
-agree reads adds = false
-agree writes reads = false
-agree writes writes = false
-agree writes adds = false
-agree adds reads = false
-agree adds writes = false
-agree adds adds = true
+-- item 1: an add races with a load or a store, but not with an add; item 6: stores of equal values don't race, `equal` telling whether they are.
+-- So two modes agree if both read, if both add, or if both write one value.
+unfoldable pub agree : (equal : Bool) → Mode → Mode → Bool
+agree equal reads reads = true
+agree equal reads writes = false
+agree equal reads adds = false
+agree equal writes reads = false
+agree equal writes writes = equal
+agree equal writes adds = false
+agree equal adds reads = false
+agree equal adds writes = false
+agree equal adds adds = true
 
 -- The conflict of two accesses that different threads make.
 unfoldable pub conflict : Access → Access → Bool
-conflict x y = eqb (x .cell) (y .cell) && not (agree (mode (x .kind)) (mode (y .kind)))
+conflict x y = eqb (x .cell) (y .cell) && not (agree (eqb (valueOf (x .kind)) (valueOf (y .kind))) (mode (x .kind)) (mode (y .kind)))

@@ -18,7 +18,7 @@ conflictExamples =
           ++ lines "cell=7/cell=7/cell=7/cell=7/cell=7/cell=7/cell=7/cell=7/cell=7/cell=7/cell=7/cell=7/cell=7/cell=1/cell=7/cell=7/cell=7/cell=7/cell=7/cell=7"
           ++ lines "cell=7/cell=7/cell=7/cell=7/cell=7/cell=7/cell=7/cell=7/cell=7/cell=4/cell=7/cell=7/cell=7/cell=7/cell=7/cell=7/cell=7/cell=7/cell=7/cell=7"
           ++ lines "cell=7/cell=7/cell=7/cell=7/cell=7/cell=6/end=report";
-      log = replicate 130 0 ++ (4 ∷ replicate 15 0 ++ (8 ∷ []));
+      log = replicate 130 0 ++ (4 ∷ replicate 15 0 ++ (8 ∷ replicate 98 0));
     }
     -- 32 threads add to two cells of one bank
     ∷ record {
@@ -28,7 +28,7 @@ conflictExamples =
           ++ lines "steps=6/steps=6/steps=6/steps=6/steps=6/steps=6/steps=6/steps=6/steps=6/steps=6/steps=6/steps=6/steps=6/steps=6/steps=6/steps=6/steps=6"
           ++ lines "steps=6/steps=6/steps=6/steps=6/steps=6/barriers=0/conflicts=1/cell=23/cell=7/cell=7/cell=7/cell=7/cell=7/cell=7/cell=7/cell=7/cell=7/cell=7"
           ++ lines "cell=7/cell=7/cell=7/cell=7/cell=7/cell=23/end=report";
-      log = replicate 34 0 ++ (1431655765 ∷ replicate 15 0 ++ (2863311530 ∷ []));
+      log = replicate 34 0 ++ (1431655765 ∷ replicate 15 0 ++ (2863311530 ∷ replicate 34 0));
     }
     -- two threads load cells 0 and 8, then 0 and 16, 15 and 16, 0 and 1: 0 and 16 alone are in one bank
     ∷ record {
@@ -37,7 +37,7 @@ conflictExamples =
           ++ lines "cell=7/cell=7/cell=7/cell=7/cell=7/cell=7/cell=7/cell=7/end=kernel";
       report = lines "verdict=passed/row=-/thread=-/other=-/kind=-/at=-/rows=13/steps=10/steps=10/barriers=3/conflicts=1/cell=7/cell=7/cell=7/cell=7/cell=7/cell=7"
           ++ lines "cell=7/cell=7/cell=7/cell=7/cell=7/cell=7/cell=7/cell=7/cell=7/cell=7/cell=7/end=report";
-      log = 1 ∷ 2 ∷ replicate 49 0;
+      log = 1 ∷ 2 ∷ replicate 83 0;
     }
     -- seven threads load three cells of bank 0 and two each of banks 1 and 2: the largest number is three
     ∷ record {
@@ -47,7 +47,7 @@ conflictExamples =
       report = lines "verdict=passed/row=-/thread=-/other=-/kind=-/at=-/rows=3/steps=3/steps=3/steps=3/steps=3/steps=3/steps=3/steps=3/barriers=0/conflicts=2"
           ++ lines "cell=0/cell=16/cell=32/cell=1/cell=17/cell=2/cell=18/cell=7/cell=7/cell=7/cell=7/cell=7/cell=7/cell=7/cell=7/cell=7/cell=7/cell=7/cell=7"
           ++ lines "cell=7/cell=7/cell=7/cell=7/cell=7/cell=7/cell=7/cell=7/cell=7/cell=7/cell=7/cell=7/cell=7/cell=7/end=report";
-      log = 1 ∷ 10 ∷ 36 ∷ 8 ∷ 16 ∷ 32 ∷ 64 ∷ replicate 9 0 ++ (2 ∷ 16 ∷ 64 ∷ replicate 13 0 ++ (4 ∷ replicate 66 0));
+      log = 1 ∷ 10 ∷ 36 ∷ 8 ∷ 16 ∷ 32 ∷ 64 ∷ replicate 9 0 ++ (2 ∷ 16 ∷ 64 ∷ replicate 13 0 ++ (4 ∷ replicate 132 0));
     }
     -- LOADs into the register that has the cell's number: cells 0 and 1 hold 0 and 16, cell 16 holds 3
     ∷ record {
@@ -55,7 +55,7 @@ conflictExamples =
           ++ lines "cell=7/cell=7/cell=7/cell=7/cell=7/cell=7/cell=7/cell=7/cell=7/cell=7/cell=7/cell=7/cell=7/cell=7/cell=3/end=kernel";
       report = lines "verdict=passed/row=-/thread=-/other=-/kind=-/at=-/rows=6/steps=4/steps=4/barriers=2/conflicts=1/cell=0/cell=16/cell=7/cell=7/cell=7/cell=7"
           ++ lines "cell=7/cell=7/cell=7/cell=7/cell=7/cell=7/cell=7/cell=7/cell=7/cell=7/cell=3/end=report";
-      log = 1 ∷ 0 ∷ 0 ∷ 2 ∷ replicate 47 0;
+      log = 1 ∷ 0 ∷ 0 ∷ 2 ∷ replicate 81 0;
     }
     -- an add in a loop that three threads leave one after the other: 2, 1 and 0
     ∷ record {
@@ -65,7 +65,7 @@ conflictExamples =
       report = lines "verdict=passed/row=-/thread=-/other=-/kind=-/at=-/rows=18/steps=10/steps=14/steps=18/barriers=0/conflicts=3/cell=8/cell=7/cell=7/cell=7"
           ++ lines "cell=7/cell=7/cell=7/cell=7/cell=7/cell=7/cell=7/cell=7/cell=7/cell=7/cell=7/cell=7/cell=9/cell=7/cell=7/cell=7/cell=7/cell=7/cell=7/cell=7"
           ++ lines "cell=7/cell=7/cell=7/cell=7/cell=7/cell=7/cell=7/cell=7/cell=10/end=report";
-      log = replicate 66 0 ++ (1 ∷ replicate 15 0 ++ (2 ∷ replicate 15 0 ++ (4 ∷ [])));
+      log = replicate 66 0 ++ (1 ∷ replicate 15 0 ++ (2 ∷ replicate 15 0 ++ (4 ∷ replicate 66 0)));
     }
     -- a race: threads 0 and 1 have stored to cells 0 and 16, thread 2 meets thread 3's add at cell 1; the LOAD and the add before it stay counted
     ∷ record {
@@ -73,7 +73,7 @@ conflictExamples =
           ++ lines "cell=1/cell=1/cell=7/cell=7/cell=7/cell=7/cell=7/cell=7/cell=7/cell=7/cell=7/cell=7/cell=7/cell=7/cell=7/end=kernel";
       report = lines "verdict=race/row=5/thread=2/other=3/kind=aw/at=1/rows=5/steps=5/steps=5/steps=4/steps=4/barriers=1/conflicts=2/cell=0/cell=21/cell=1/cell=1"
           ++ lines "cell=7/cell=7/cell=7/cell=7/cell=7/cell=7/cell=7/cell=7/cell=7/cell=7/cell=7/cell=7/cell=1/end=report";
-      log = replicate 17 0 ++ (1 ∷ replicate 15 0 ++ (2 ∷ 1 ∷ 12 ∷ replicate 14 0 ++ (2 ∷ [])));
+      log = replicate 17 0 ++ (1 ∷ replicate 15 0 ++ (2 ∷ 1 ∷ 12 ∷ replicate 14 0 ++ (2 ∷ replicate 16 0 ++ (1 ∷ replicate 17 0))));
     }
     -- outside: threads 0 and 1 have loaded cells 0 and 16, thread 2 reaches for cell 17 of 17
     ∷ record {
@@ -81,7 +81,7 @@ conflictExamples =
           ++ lines "cell=17/cell=7/cell=7/cell=7/cell=7/cell=7/cell=7/cell=7/cell=7/cell=7/cell=7/cell=7/cell=7/cell=7/cell=7/end=kernel";
       report = lines "verdict=outside/row=5/thread=2/other=-/kind=-/at=17/rows=5/steps=6/steps=6/steps=5/barriers=0/conflicts=1/cell=0/cell=16/cell=17/cell=7"
           ++ lines "cell=7/cell=7/cell=7/cell=7/cell=7/cell=7/cell=7/cell=7/cell=7/cell=7/cell=7/cell=7/cell=7/end=report";
-      log = 1 ∷ 2 ∷ 4 ∷ replicate 13 0 ++ (6 ∷ replicate 34 0);
+      log = 1 ∷ 2 ∷ 4 ∷ replicate 13 0 ++ (6 ∷ replicate 68 0);
     }
     -- diverged: the BARRIER that thread 1 alone comes to starts nothing
     ∷ record {
@@ -90,7 +90,7 @@ conflictExamples =
           ++ lines "cell=7/end=kernel";
       report = lines "verdict=diverged/row=7/thread=1/other=0/kind=-/at=-/rows=7/steps=6/steps=6/barriers=1/conflicts=2/cell=23/cell=7/cell=7/cell=7/cell=7/cell=7"
           ++ lines "cell=7/cell=7/cell=7/cell=7/cell=7/cell=7/cell=7/cell=7/cell=7/cell=7/cell=23/end=report";
-      log = replicate 34 0 ++ (1 ∷ replicate 15 0 ++ (2 ∷ []));
+      log = replicate 34 0 ++ (1 ∷ replicate 15 0 ++ (2 ∷ replicate 34 0));
     }
     -- spent right behind a release in a loop, and one row later
     ∷ record {
@@ -98,14 +98,14 @@ conflictExamples =
           ++ lines "cell=7/cell=7/cell=7/cell=7/cell=7/cell=7/cell=7/cell=7/cell=7/cell=7/cell=7/cell=7/cell=7/cell=7/cell=7/cell=7/end=kernel";
       report = lines "verdict=spent/row=5/thread=-/other=-/kind=-/at=-/rows=13/steps=10/steps=10/barriers=3/conflicts=2/cell=7/cell=7/cell=7/cell=7/cell=7/cell=7"
           ++ lines "cell=7/cell=7/cell=7/cell=7/cell=7/cell=7/cell=7/cell=7/cell=7/cell=7/cell=7/end=report";
-      log = replicate 51 0;
+      log = replicate 85 0;
     }
     ∷ record {
       file = lines "kernel=1/threads=2/cells=17/limit=14/rows=7/row=2,0,0,0/row=1,1,16,0/row=6,2,0,1/row=35,0,1,0/row=37,0,0,0/row=16,3,2,0/row=36,0,0,0/cell=7"
           ++ lines "cell=7/cell=7/cell=7/cell=7/cell=7/cell=7/cell=7/cell=7/cell=7/cell=7/cell=7/cell=7/cell=7/cell=7/cell=7/cell=7/end=kernel";
       report = lines "verdict=spent/row=6/thread=-/other=-/kind=-/at=-/rows=14/steps=11/steps=11/barriers=3/conflicts=3/cell=7/cell=7/cell=7/cell=7/cell=7/cell=7"
           ++ lines "cell=7/cell=7/cell=7/cell=7/cell=7/cell=7/cell=7/cell=7/cell=7/cell=7/cell=7/end=report";
-      log = 1 ∷ replicate 15 0 ++ (2 ∷ replicate 34 0);
+      log = 1 ∷ replicate 15 0 ++ (2 ∷ replicate 68 0);
     }
     -- BARRIERs that nobody comes to and a LOAD by nobody, between a LOAD and a STORE by both threads: one interval
     ∷ record {
@@ -114,7 +114,7 @@ conflictExamples =
           ++ lines "cell=7/cell=7/cell=7/end=kernel";
       report = lines "verdict=passed/row=-/thread=-/other=-/kind=-/at=-/rows=10/steps=7/steps=7/barriers=0/conflicts=2/cell=0/cell=7/cell=7/cell=7/cell=7/cell=7"
           ++ lines "cell=7/cell=7/cell=7/cell=7/cell=7/cell=7/cell=7/cell=7/cell=7/cell=7/cell=1/end=report";
-      log = 1 ∷ replicate 15 0 ++ (2 ∷ 1 ∷ replicate 15 0 ++ (2 ∷ replicate 17 0));
+      log = 1 ∷ replicate 15 0 ++ (2 ∷ 1 ∷ replicate 15 0 ++ (2 ∷ replicate 33 0 ++ (1 ∷ replicate 17 0)));
     }
     -- a BARRIER in the last row: the interval behind it starts at the number of rows
     ∷ record {
@@ -122,13 +122,13 @@ conflictExamples =
           ++ lines "cell=7/cell=7/cell=7/cell=7/cell=7/cell=7/cell=7/cell=7/cell=7/cell=7/cell=7/cell=7/cell=7/end=kernel";
       report = lines "verdict=passed/row=-/thread=-/other=-/kind=-/at=-/rows=5/steps=4/steps=4/barriers=1/conflicts=1/cell=7/cell=7/cell=7/cell=7/cell=7/cell=7"
           ++ lines "cell=7/cell=7/cell=7/cell=7/cell=7/cell=7/cell=7/cell=7/cell=7/cell=7/cell=7/end=report";
-      log = replicate 51 0;
+      log = replicate 85 0;
     }
     -- BARRIERs in the first row, right behind another and in the last row
     ∷ record {
       file = lines "kernel=1/threads=1/cells=1/limit=100/rows=4/row=37,0,0,0/row=37,0,0,0/row=2,0,0,0/row=37,0,0,0/cell=7/end=kernel";
       report = lines "verdict=passed/row=-/thread=-/other=-/kind=-/at=-/rows=4/steps=1/barriers=3/conflicts=0/cell=7/end=report";
-      log = 0 ∷ 0 ∷ 0 ∷ [];
+      log = 0 ∷ 0 ∷ 0 ∷ 0 ∷ 0 ∷ [];
     }
     -- two rounds of a loop with two BARRIERs, the second right before ENDWHILE, and a LOAD behind the loop
     ∷ record {
@@ -137,7 +137,7 @@ conflictExamples =
           ++ lines "cell=7/cell=7/cell=7/cell=7/cell=7/cell=7/end=kernel";
       report = lines "verdict=passed/row=-/thread=-/other=-/kind=-/at=-/rows=19/steps=15/steps=15/barriers=4/conflicts=3/cell=9/cell=7/cell=7/cell=7/cell=7/cell=7"
           ++ lines "cell=7/cell=7/cell=7/cell=7/cell=7/cell=7/cell=7/cell=7/cell=7/cell=7/cell=9/end=report";
-      log = 1 ∷ replicate 15 0 ++ (2 ∷ replicate 34 0);
+      log = 1 ∷ replicate 15 0 ++ (2 ∷ replicate 68 0);
     }
     ∷ []
 

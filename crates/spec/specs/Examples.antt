@@ -30,7 +30,7 @@ examples =
           ++ lines "row=2,0,0,0/row=1,1,1,0/row=4,2,0,1/row=16,3,2,0/row=16,4,0,0/row=4,3,3,4/row=17,0,3,0"
           ++ lines "cell=1/cell=1/cell=1/end=kernel";
       report = lines "verdict=race/row=6/thread=1/other=0/kind=rw/at=1/rows=6/steps=7/steps=6/barriers=0/conflicts=0/cell=2/cell=1/cell=1/end=report";
-      log = 1 ∷ 3 ∷ 2 ∷ 1 ∷ 0 ∷ 0 ∷ 0 ∷ 0 ∷ 0 ∷ [];
+      log = 1 ∷ 3 ∷ 2 ∷ 1 ∷ 0 ∷ 0 ∷ 0 ∷ 0 ∷ 0 ∷ 2 ∷ 0 ∷ 0 ∷ 0 ∷ 0 ∷ 0 ∷ [];
     }
     -- P2: the same with a BARRIER between rows 3 and 4
     ∷ record {
@@ -38,42 +38,42 @@ examples =
           ++ lines "row=2,0,0,0/row=1,1,1,0/row=4,2,0,1/row=16,3,2,0/row=37,0,0,0/row=16,4,0,0/row=4,3,3,4/row=17,0,3,0"
           ++ lines "cell=1/cell=1/cell=1/end=kernel";
       report = lines "verdict=passed/row=-/thread=-/other=-/kind=-/at=-/rows=8/steps=7/steps=7/barriers=1/conflicts=0/cell=2/cell=2/cell=1/end=report";
-      log = 1 ∷ 2 ∷ 0 ∷ 1 ∷ 2 ∷ 0 ∷ 0 ∷ 0 ∷ 0 ∷ [];
+      log = 1 ∷ 2 ∷ 0 ∷ 1 ∷ 2 ∷ 0 ∷ 0 ∷ 0 ∷ 0 ∷ 2 ∷ 2 ∷ 0 ∷ 0 ∷ 0 ∷ 0 ∷ [];
     }
     -- P3: an empty table under limit 0
     ∷ record {
       file = lines "kernel=1/threads=1/cells=1/limit=0/rows=0/cell=7/end=kernel";
       report = lines "verdict=passed/row=-/thread=-/other=-/kind=-/at=-/rows=0/steps=0/barriers=0/conflicts=0/cell=7/end=report";
-      log = 0 ∷ 0 ∷ 0 ∷ [];
+      log = 0 ∷ 0 ∷ 0 ∷ 0 ∷ 0 ∷ [];
     }
     -- P4: one TID, under limit 0 and under limit 1
     ∷ record {
       file = lines "kernel=1/threads=3/cells=1/limit=0/rows=1/row=2,0,0,0/cell=7/end=kernel";
       report = lines "verdict=spent/row=0/thread=-/other=-/kind=-/at=-/rows=0/steps=0/steps=0/steps=0/barriers=0/conflicts=0/cell=7/end=report";
-      log = 0 ∷ 0 ∷ 0 ∷ [];
+      log = 0 ∷ 0 ∷ 0 ∷ 0 ∷ 0 ∷ [];
     }
     ∷ record {
       file = lines "kernel=1/threads=3/cells=1/limit=1/rows=1/row=2,0,0,0/cell=7/end=kernel";
       report = lines "verdict=passed/row=-/thread=-/other=-/kind=-/at=-/rows=1/steps=1/steps=1/steps=1/barriers=0/conflicts=0/cell=7/end=report";
-      log = 0 ∷ 0 ∷ 0 ∷ [];
+      log = 0 ∷ 0 ∷ 0 ∷ 0 ∷ 0 ∷ [];
     }
     -- P5: a BARRIER in each part of an IF
     ∷ record {
       file = lines "kernel=1/threads=2/cells=1/limit=100/rows=6/row=2,0,0,0/row=32,0,0,0/row=37,0,0,0/row=33,0,0,0/row=37,0,0,0/row=34,0,0,0/cell=0/end=kernel";
       report = lines "verdict=diverged/row=2/thread=1/other=0/kind=-/at=-/rows=2/steps=2/steps=2/barriers=0/conflicts=0/cell=0/end=report";
-      log = 0 ∷ 0 ∷ 0 ∷ [];
+      log = 0 ∷ 0 ∷ 0 ∷ 0 ∷ 0 ∷ [];
     }
     -- P6: a BARRIER that nobody comes to
     ∷ record {
       file = lines "kernel=1/threads=1/cells=1/limit=100/rows=3/row=32,0,0,0/row=37,0,0,0/row=34,0,0,0/cell=0/end=kernel";
       report = lines "verdict=passed/row=-/thread=-/other=-/kind=-/at=-/rows=3/steps=2/barriers=0/conflicts=0/cell=0/end=report";
-      log = 0 ∷ 0 ∷ 0 ∷ [];
+      log = 0 ∷ 0 ∷ 0 ∷ 0 ∷ 0 ∷ [];
     }
     -- P7: a loop without end
     ∷ record {
       file = lines "kernel=1/threads=1/cells=1/limit=10/rows=3/row=1,0,1,0/row=35,0,0,0/row=36,0,0,0/cell=0/end=kernel";
       report = lines "verdict=spent/row=2/thread=-/other=-/kind=-/at=-/rows=10/steps=10/barriers=0/conflicts=0/cell=0/end=report";
-      log = 0 ∷ 0 ∷ 0 ∷ [];
+      log = 0 ∷ 0 ∷ 0 ∷ 0 ∷ 0 ∷ [];
     }
     -- P8: SLT of 2 ^ 31 and 0, into cell 0, and LT of the same, into cell 1
     ∷ record {
@@ -81,7 +81,7 @@ examples =
           ++ lines "row=1,1,0,128/row=1,2,0,1/row=6,2,2,2/row=6,1,1,2/row=14,3,1,0/row=13,4,1,0/row=17,0,3,0/row=1,5,1,0/row=17,5,4,0"
           ++ lines "cell=9/cell=9/end=kernel";
       report = lines "verdict=passed/row=-/thread=-/other=-/kind=-/at=-/rows=9/steps=9/barriers=0/conflicts=0/cell=1/cell=0/end=report";
-      log = 0 ∷ 0 ∷ 1 ∷ 1 ∷ 0 ∷ 0 ∷ [];
+      log = 0 ∷ 0 ∷ 1 ∷ 1 ∷ 0 ∷ 0 ∷ 1 ∷ 0 ∷ 0 ∷ 0 ∷ [];
     }
     -- nesting 8, and the ninth IF of nesting 9
     ∷ record {
@@ -90,7 +90,7 @@ examples =
           ++ lines "row=34,0,0,0/row=34,0,0,0/row=34,0,0,0/row=34,0,0,0/row=34,0,0,0/row=34,0,0,0/row=34,0,0,0"
           ++ lines "cell=0/end=kernel";
       report = lines "verdict=passed/row=-/thread=-/other=-/kind=-/at=-/rows=16/steps=2/barriers=0/conflicts=0/cell=0/end=report";
-      log = 0 ∷ 0 ∷ 0 ∷ [];
+      log = 0 ∷ 0 ∷ 0 ∷ 0 ∷ 0 ∷ [];
     }
     ∷ record {
       file = lines "kernel=1/threads=1/cells=1/limit=100/rows=9"
@@ -103,12 +103,12 @@ examples =
     ∷ record {
       file = lines "kernel=1/threads=1/cells=2/limit=100/rows=2/row=1,1,1,0/row=16,2,1,0/cell=5/cell=6/end=kernel";
       report = lines "verdict=passed/row=-/thread=-/other=-/kind=-/at=-/rows=2/steps=2/barriers=0/conflicts=0/cell=5/cell=6/end=report";
-      log = 0 ∷ 1 ∷ 0 ∷ 0 ∷ 0 ∷ 0 ∷ [];
+      log = 0 ∷ 1 ∷ 0 ∷ 0 ∷ 0 ∷ 0 ∷ 0 ∷ 0 ∷ 0 ∷ 0 ∷ [];
     }
     ∷ record {
       file = lines "kernel=1/threads=1/cells=2/limit=100/rows=2/row=1,1,2,0/row=16,2,1,0/cell=5/cell=6/end=kernel";
       report = lines "verdict=outside/row=1/thread=0/other=-/kind=-/at=2/rows=1/steps=1/barriers=0/conflicts=0/cell=5/cell=6/end=report";
-      log = 0 ∷ 0 ∷ 0 ∷ 0 ∷ 0 ∷ 0 ∷ [];
+      log = 0 ∷ 0 ∷ 0 ∷ 0 ∷ 0 ∷ 0 ∷ 0 ∷ 0 ∷ 0 ∷ 0 ∷ [];
     }
     -- the two-loop barrier of source document 001: each thread comes to it four times, with other loop counts
     ∷ record {
@@ -118,19 +118,19 @@ examples =
           ++ lines "row=13,5,3,1/row=36,0,0,0"
           ++ lines "cell=0/end=kernel";
       report = lines "verdict=diverged/row=15/thread=1/other=0/kind=-/at=-/rows=20/steps=16/steps=17/barriers=1/conflicts=0/cell=0/end=report";
-      log = 0 ∷ 0 ∷ 0 ∷ [];
+      log = 0 ∷ 0 ∷ 0 ∷ 0 ∷ 0 ∷ [];
     }
-    -- equal stores by two threads
+    -- equal stores by two threads: no race, by item 6
     ∷ record {
       file = lines "kernel=1/threads=2/cells=1/limit=100/rows=2/row=1,1,5,0/row=17,0,1,0/cell=0/end=kernel";
-      report = lines "verdict=race/row=1/thread=1/other=0/kind=ww/at=0/rows=1/steps=2/steps=1/barriers=0/conflicts=0/cell=5/end=report";
-      log = 0 ∷ 1 ∷ 0 ∷ [];
+      report = lines "verdict=passed/row=-/thread=-/other=-/kind=-/at=-/rows=2/steps=2/steps=2/barriers=0/conflicts=0/cell=5/end=report";
+      log = 0 ∷ 3 ∷ 0 ∷ 5 ∷ 0 ∷ [];
     }
     -- a BARRIER that nobody comes to, between all threads' loads and a store
     ∷ record {
       file = lines "kernel=1/threads=2/cells=1/limit=100/rows=6/row=2,0,0,0/row=16,1,2,0/row=32,0,2,0/row=37,0,0,0/row=34,0,0,0/row=17,2,0,0/cell=4/end=kernel";
       report = lines "verdict=race/row=5/thread=0/other=1/kind=rw/at=0/rows=5/steps=4/steps=4/barriers=0/conflicts=0/cell=4/end=report";
-      log = 3 ∷ 0 ∷ 0 ∷ [];
+      log = 3 ∷ 0 ∷ 0 ∷ 0 ∷ 0 ∷ [];
     }
     -- ELSE goes by what its IF enabled, though thread 1 has changed R0 since
     ∷ record {
@@ -138,7 +138,7 @@ examples =
           ++ lines "row=2,0,0,0/row=2,2,0,0/row=32,0,0,0/row=1,0,0,0/row=33,0,0,0/row=1,1,7,0/row=34,0,0,0/row=17,2,1,0"
           ++ lines "cell=9/cell=9/end=kernel";
       report = lines "verdict=passed/row=-/thread=-/other=-/kind=-/at=-/rows=8/steps=6/steps=7/barriers=0/conflicts=0/cell=7/cell=0/end=report";
-      log = 0 ∷ 0 ∷ 1 ∷ 2 ∷ 0 ∷ 0 ∷ [];
+      log = 0 ∷ 0 ∷ 1 ∷ 2 ∷ 0 ∷ 0 ∷ 7 ∷ 0 ∷ 0 ∷ 0 ∷ [];
     }
     -- thread 1 stores, then thread 0 loads in the ELSE part
     ∷ record {
@@ -146,13 +146,13 @@ examples =
           ++ lines "row=2,0,0,0/row=32,0,0,0/row=17,1,0,0/row=1,0,0,0/row=33,0,0,0/row=16,2,1,0/row=34,0,0,0"
           ++ lines "cell=4/end=kernel";
       report = lines "verdict=race/row=5/thread=0/other=1/kind=wr/at=0/rows=5/steps=2/steps=5/barriers=0/conflicts=0/cell=1/end=report";
-      log = 0 ∷ 2 ∷ 0 ∷ [];
+      log = 0 ∷ 2 ∷ 0 ∷ 1 ∷ 0 ∷ [];
     }
     -- of three readers the lowest other one is named
     ∷ record {
       file = lines "kernel=1/threads=3/cells=1/limit=100/rows=2/row=16,1,0,0/row=17,0,1,0/cell=4/end=kernel";
       report = lines "verdict=race/row=1/thread=0/other=1/kind=rw/at=0/rows=1/steps=1/steps=1/steps=1/barriers=0/conflicts=0/cell=4/end=report";
-      log = 7 ∷ 0 ∷ 0 ∷ [];
+      log = 7 ∷ 0 ∷ 0 ∷ 0 ∷ 0 ∷ [];
     }
     -- a thread that has both read and written is met as a writer
     ∷ record {
@@ -160,7 +160,7 @@ examples =
           ++ lines "row=2,0,0,0/row=1,1,2,0/row=12,2,0,1/row=32,0,2,0/row=16,3,4,0/row=17,4,0,0/row=34,0,0,0/row=17,4,0,0"
           ++ lines "cell=4/end=kernel";
       report = lines "verdict=race/row=7/thread=0/other=2/kind=ww/at=0/rows=7/steps=5/steps=5/steps=7/barriers=0/conflicts=0/cell=2/end=report";
-      log = 4 ∷ 4 ∷ 0 ∷ [];
+      log = 4 ∷ 4 ∷ 0 ∷ 2 ∷ 0 ∷ [];
     }
     -- a loop that threads leave at different times, and the ADD behind it by all
     ∷ record {
@@ -168,7 +168,7 @@ examples =
           ++ lines "row=2,0,0,0/row=1,1,1,0/row=4,2,0,15/row=35,0,2,0/row=5,2,2,1/row=36,0,0,0/row=17,0,2,0"
           ++ lines "cell=7/cell=7/cell=7/end=kernel";
       report = lines "verdict=passed/row=-/thread=-/other=-/kind=-/at=-/rows=11/steps=5/steps=8/steps=11/barriers=0/conflicts=0/cell=0/cell=0/cell=0/end=report";
-      log = 0 ∷ 0 ∷ 0 ∷ 1 ∷ 2 ∷ 4 ∷ 0 ∷ 0 ∷ 0 ∷ [];
+      log = 0 ∷ 0 ∷ 0 ∷ 1 ∷ 2 ∷ 4 ∷ 0 ∷ 0 ∷ 0 ∷ 0 ∷ 0 ∷ 0 ∷ 0 ∷ 0 ∷ 0 ∷ [];
     }
     -- refusals: the empty file, a last line without its byte 10, 32,768 bytes and one more
     ∷ record { file = []; report = lines "refused=11/place=1/end=report"; log = [] }

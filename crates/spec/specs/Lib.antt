@@ -28,4 +28,5 @@ pub mod AddExamples
 pub mod ShiftExamples
 pub mod StepExamples
 pub mod ConflictExamples
+pub mod StoreExamples
 pub mod Demands

@@ -32,7 +32,7 @@ bytes = 256
 
 -- Words of the log for each cell.
 abbrev pub logPerCell : ℕ
-logPerCell = 3
+logPerCell = 5
 
 -- Banks that the cells are in. Item 5.
 abbrev pub banks : ℕ
@@ -50,7 +50,7 @@ abbrev pub fileCells : ℕ
 fileCells = 1024
 
 abbrev pub fileLog : ℕ
-fileLog = 3072
+fileLog = 5120
 
 abbrev pub fileOutput : ℕ
 fileOutput = 17408

@@ -1,5 +1,5 @@
--- Tests on lists. Assumes nothing.
-use mathlib.Core.List.{List, [], _∷_}
+-- Tests on lists, and lists put together. Assumes nothing.
+use mathlib.Core.List.{List, [], _∷_, _++_}
 use mathlib.Core.Bool.{Bool, true, false, _&&_, _||_}
 use Prim.Native.Nat.{ℕ}
 use lib.Dec.{eqb}
@@ -18,3 +18,8 @@ equalList [] [] = true
 equalList [] (y ∷ ys) = false
 equalList (x ∷ xs) [] = false
 equalList (x ∷ xs) (y ∷ ys) = eqb x y && equalList xs ys
+
+-- Lists one behind the other.
+unfoldable pub joined : {A : Type 0} → List (List A) → List A
+joined [] = []
+joined (xs ∷ xss) = xs ++ joined xss

@@ -16,7 +16,8 @@ runExamples =
           ++ lines "cell=9/cell=9/cell=9/cell=9/cell=9/cell=9/cell=9/cell=9/cell=9/cell=9/cell=9/end=kernel";
       report = lines "verdict=passed/row=-/thread=-/other=-/kind=-/at=-/rows=37/steps=37/barriers=0/conflicts=0/cell=2949075011/cell=2949074989/cell=2375053928/cell=8"
           ++ lines "cell=2949075003/cell=2949074995/cell=1439978/cell=4294310122/cell=0/cell=0/cell=1/end=report";
-      log = replicate 11 0 ++ (replicate 11 1 ++ replicate 11 0);
+      log = replicate 11 0 ++ (replicate 11 1 ++ replicate 11 0)
+          ++ (2949075011 ∷ 2949074989 ∷ 2375053928 ∷ 8 ∷ 2949075003 ∷ 2949074995 ∷ 1439978 ∷ 4294310122 ∷ 0 ∷ 0 ∷ 1 ∷ replicate 11 0);
     }
     -- COUNT, TID and the number of cells, all three different; SET to R15 of two bytes
     ∷ record {
@@ -25,7 +26,7 @@ runExamples =
           ++ lines "row=34,0,0,0/row=34,0,0,0"
           ++ lines "cell=9/cell=9/cell=9/cell=9/cell=9/end=kernel";
       report = lines "verdict=passed/row=-/thread=-/other=-/kind=-/at=-/rows=12/steps=6/steps=11/steps=12/barriers=0/conflicts=0/cell=3/cell=3/cell=3/cell=9/cell=65279/end=report";
-      log = 0 ∷ 0 ∷ 0 ∷ 0 ∷ 0 ∷ 1 ∷ 2 ∷ 4 ∷ 0 ∷ 4 ∷ 0 ∷ 0 ∷ 0 ∷ 0 ∷ 0 ∷ [];
+      log = 0 ∷ 0 ∷ 0 ∷ 0 ∷ 0 ∷ 1 ∷ 2 ∷ 4 ∷ 0 ∷ 4 ∷ 0 ∷ 0 ∷ 0 ∷ 0 ∷ 0 ∷ 3 ∷ 3 ∷ 3 ∷ 0 ∷ 65279 ∷ 0 ∷ 0 ∷ 0 ∷ 0 ∷ 0 ∷ [];
     }
     -- 2^31 is true for IF and for WHILE; so is 2
     ∷ record {
@@ -35,13 +36,13 @@ runExamples =
           ++ lines "row=35,0,3,0/row=5,3,3,5/row=17,4,3,0/row=36,0,0,0"
           ++ lines "cell=9/cell=9/cell=9/cell=9/end=kernel";
       report = lines "verdict=passed/row=-/thread=-/other=-/kind=-/at=-/rows=32/steps=31/barriers=0/conflicts=0/cell=2/cell=2/cell=2/cell=0/end=report";
-      log = 0 ∷ 0 ∷ 0 ∷ 0 ∷ 1 ∷ 1 ∷ 1 ∷ 1 ∷ 0 ∷ 0 ∷ 0 ∷ 0 ∷ [];
+      log = 0 ∷ 0 ∷ 0 ∷ 0 ∷ 1 ∷ 1 ∷ 1 ∷ 1 ∷ 0 ∷ 0 ∷ 0 ∷ 0 ∷ 2 ∷ 2 ∷ 2 ∷ 1 ∷ 0 ∷ 0 ∷ 0 ∷ 1 ∷ [];
     }
     -- a BARRIER forgets readers: all load cell 0, and behind it thread 1 stores there
     ∷ record {
       file = lines "kernel=1/threads=2/cells=1/limit=100/rows=6/row=2,0,0,0/row=16,1,2,0/row=37,0,0,0/row=32,0,0,0/row=17,2,0,0/row=34,0,0,0/cell=4/end=kernel";
       report = lines "verdict=passed/row=-/thread=-/other=-/kind=-/at=-/rows=6/steps=4/steps=5/barriers=1/conflicts=0/cell=1/end=report";
-      log = 0 ∷ 2 ∷ 0 ∷ [];
+      log = 0 ∷ 2 ∷ 0 ∷ 1 ∷ 0 ∷ [];
     }
     -- a BARRIER forgets writers: each stores its own cell, and behind it loads the other's
     ∷ record {
@@ -49,19 +50,19 @@ runExamples =
           ++ lines "row=2,0,0,0/row=1,1,1,0/row=5,2,1,0/row=17,0,1,0/row=37,0,0,0/row=16,3,2,0/row=37,0,0,0/row=17,0,2,0"
           ++ lines "cell=4/cell=5/end=kernel";
       report = lines "verdict=passed/row=-/thread=-/other=-/kind=-/at=-/rows=8/steps=6/steps=6/barriers=2/conflicts=0/cell=1/cell=0/end=report";
-      log = 0 ∷ 0 ∷ 1 ∷ 2 ∷ 0 ∷ 0 ∷ [];
+      log = 0 ∷ 0 ∷ 1 ∷ 2 ∷ 0 ∷ 0 ∷ 1 ∷ 0 ∷ 0 ∷ 0 ∷ [];
     }
     -- a thread loads what it stored, and stores what it loaded and stored
     ∷ record {
       file = lines "kernel=1/threads=2/cells=2/limit=100/rows=6/row=2,0,0,0/row=1,1,7,0/row=17,0,1,0/row=16,2,0,0/row=17,0,0,0/row=17,0,2,0/cell=4/cell=5/end=kernel";
       report = lines "verdict=passed/row=-/thread=-/other=-/kind=-/at=-/rows=6/steps=6/steps=6/barriers=0/conflicts=0/cell=7/cell=7/end=report";
-      log = 1 ∷ 2 ∷ 1 ∷ 2 ∷ 0 ∷ 0 ∷ [];
+      log = 1 ∷ 2 ∷ 1 ∷ 2 ∷ 0 ∷ 0 ∷ 7 ∷ 7 ∷ 1 ∷ 1 ∷ [];
     }
     -- diverged with threads 1 and 3 enabled
     ∷ record {
       file = lines "kernel=1/threads=4/cells=1/limit=100/rows=6/row=2,0,0,0/row=1,1,1,0/row=7,2,0,1/row=32,0,2,0/row=37,0,0,0/row=34,0,0,0/cell=0/end=kernel";
       report = lines "verdict=diverged/row=4/thread=1/other=0/kind=-/at=-/rows=4/steps=4/steps=4/steps=4/steps=4/barriers=0/conflicts=0/cell=0/end=report";
-      log = 0 ∷ 0 ∷ 0 ∷ [];
+      log = 0 ∷ 0 ∷ 0 ∷ 0 ∷ 0 ∷ [];
     }
     -- diverged with all but thread 2 enabled
     ∷ record {
@@ -69,7 +70,7 @@ runExamples =
           ++ lines "row=2,0,0,0/row=1,1,2,0/row=12,2,0,1/row=32,0,2,0/row=2,3,0,0/row=33,0,0,0/row=37,0,0,0/row=34,0,0,0"
           ++ lines "cell=0/end=kernel";
       report = lines "verdict=diverged/row=6/thread=0/other=2/kind=-/at=-/rows=6/steps=4/steps=4/steps=6/steps=4/barriers=0/conflicts=0/cell=0/end=report";
-      log = 0 ∷ 0 ∷ 0 ∷ [];
+      log = 0 ∷ 0 ∷ 0 ∷ 0 ∷ 0 ∷ [];
     }
     -- diverged under two saved masks: in the inner ELSE only thread 1 is enabled
     ∷ record {
@@ -77,7 +78,7 @@ runExamples =
           ++ lines "row=2,0,0,0/row=1,1,1,0/row=13,2,1,0/row=32,0,0,0/row=32,0,2,0/row=2,3,0,0/row=33,0,0,0/row=37,0,0,0/row=34,0,0,0/row=34,0,0,0"
           ++ lines "cell=0/end=kernel";
       report = lines "verdict=diverged/row=7/thread=1/other=0/kind=-/at=-/rows=7/steps=4/steps=5/steps=7/steps=7/barriers=0/conflicts=0/cell=0/end=report";
-      log = 0 ∷ 0 ∷ 0 ∷ [];
+      log = 0 ∷ 0 ∷ 0 ∷ 0 ∷ 0 ∷ [];
     }
     -- outside: thread 1 has loaded when thread 3 reaches for cell 3 of 3
     ∷ record {
@@ -85,7 +86,7 @@ runExamples =
           ++ lines "row=2,0,0,0/row=1,1,1,0/row=7,2,0,1/row=32,0,2,0/row=16,3,0,0/row=34,0,0,0"
           ++ lines "cell=4/cell=5/cell=6/end=kernel";
       report = lines "verdict=outside/row=4/thread=3/other=-/kind=-/at=3/rows=4/steps=4/steps=5/steps=4/steps=4/barriers=0/conflicts=0/cell=4/cell=5/cell=6/end=report";
-      log = 0 ∷ 2 ∷ 0 ∷ 0 ∷ 0 ∷ 0 ∷ 0 ∷ 0 ∷ 0 ∷ [];
+      log = 0 ∷ 2 ∷ 0 ∷ 0 ∷ 0 ∷ 0 ∷ 0 ∷ 0 ∷ 0 ∷ 0 ∷ 0 ∷ 0 ∷ 0 ∷ 0 ∷ 0 ∷ [];
     }
     -- outside: threads 0 and 1 have stored when thread 2 reaches for cell 200 of 3
     ∷ record {
@@ -93,7 +94,7 @@ runExamples =
           ++ lines "row=2,0,0,0/row=1,1,100,0/row=6,2,0,1/row=1,3,2,0/row=13,4,0,3/row=32,0,4,0/row=4,2,0,15/row=34,0,0,0/row=17,2,1,0"
           ++ lines "cell=4/cell=5/cell=6/end=kernel";
       report = lines "verdict=outside/row=8/thread=2/other=-/kind=-/at=200/rows=8/steps=9/steps=9/steps=7/barriers=0/conflicts=0/cell=100/cell=100/cell=6/end=report";
-      log = 0 ∷ 0 ∷ 0 ∷ 1 ∷ 2 ∷ 0 ∷ 0 ∷ 0 ∷ 0 ∷ [];
+      log = 0 ∷ 0 ∷ 0 ∷ 1 ∷ 2 ∷ 0 ∷ 0 ∷ 0 ∷ 0 ∷ 100 ∷ 100 ∷ 0 ∷ 0 ∷ 0 ∷ 0 ∷ [];
     }
     -- IF and ELSE within either part of an IF: threads 0 to 3 come to 14, 12, 13 and 11
     ∷ record {
@@ -102,7 +103,7 @@ runExamples =
           ++ lines "row=33,0,0,0/row=32,0,4,0/row=1,5,13,0/row=33,0,0,0/row=1,5,14,0/row=34,0,0,0/row=34,0,0,0/row=17,0,5,0"
           ++ lines "cell=9/cell=9/cell=9/cell=9/end=kernel";
       report = lines "verdict=passed/row=-/thread=-/other=-/kind=-/at=-/rows=19/steps=11/steps=12/steps=12/steps=13/barriers=0/conflicts=0/cell=14/cell=12/cell=13/cell=11/end=report";
-      log = 0 ∷ 0 ∷ 0 ∷ 0 ∷ 1 ∷ 2 ∷ 4 ∷ 8 ∷ 0 ∷ 0 ∷ 0 ∷ 0 ∷ [];
+      log = 0 ∷ 0 ∷ 0 ∷ 0 ∷ 1 ∷ 2 ∷ 4 ∷ 8 ∷ 0 ∷ 0 ∷ 0 ∷ 0 ∷ 14 ∷ 12 ∷ 13 ∷ 11 ∷ 0 ∷ 0 ∷ 0 ∷ 0 ∷ [];
     }
     -- nobody enabled: plain row, access outside, loop, IF with ELSE, BARRIER; each is a row without steps
     ∷ record {
@@ -111,7 +112,7 @@ runExamples =
           ++ lines "row=34,0,0,0/row=37,0,0,0/row=34,0,0,0/row=2,4,0,0"
           ++ lines "cell=4/end=kernel";
       report = lines "verdict=passed/row=-/thread=-/other=-/kind=-/at=-/rows=13/steps=4/steps=4/barriers=0/conflicts=0/cell=4/end=report";
-      log = 0 ∷ 0 ∷ 0 ∷ [];
+      log = 0 ∷ 0 ∷ 0 ∷ 0 ∷ 0 ∷ [];
     }
     -- a loop in a loop, by each thread its own number of times, the inner one entered anew: thread t adds t * (t + 1) times
     ∷ record {
@@ -120,7 +121,7 @@ runExamples =
           ++ lines "row=36,0,0,0/row=17,0,4,0"
           ++ lines "cell=9/cell=9/cell=9/end=kernel";
       report = lines "verdict=passed/row=-/thread=-/other=-/kind=-/at=-/rows=45/steps=11/steps=24/steps=45/barriers=0/conflicts=0/cell=0/cell=2/cell=6/end=report";
-      log = 0 ∷ 0 ∷ 0 ∷ 1 ∷ 2 ∷ 4 ∷ 0 ∷ 0 ∷ 0 ∷ [];
+      log = 0 ∷ 0 ∷ 0 ∷ 1 ∷ 2 ∷ 4 ∷ 0 ∷ 0 ∷ 0 ∷ 0 ∷ 2 ∷ 6 ∷ 0 ∷ 0 ∷ 0 ∷ [];
     }
     -- a loop in an IF that thread 0 does not enter: behind the loop all of the IF go on, behind ENDIF all
     ∷ record {
@@ -129,7 +130,7 @@ runExamples =
           ++ lines "row=34,0,0,0/row=4,3,3,4/row=17,0,3,0"
           ++ lines "cell=9/cell=9/cell=9/end=kernel";
       report = lines "verdict=passed/row=-/thread=-/other=-/kind=-/at=-/rows=21/steps=6/steps=14/steps=20/barriers=0/conflicts=0/cell=0/cell=2/cell=5/end=report";
-      log = 0 ∷ 0 ∷ 0 ∷ 1 ∷ 2 ∷ 4 ∷ 0 ∷ 0 ∷ 0 ∷ [];
+      log = 0 ∷ 0 ∷ 0 ∷ 1 ∷ 2 ∷ 4 ∷ 0 ∷ 0 ∷ 0 ∷ 0 ∷ 2 ∷ 5 ∷ 0 ∷ 0 ∷ 0 ∷ [];
     }
     -- a BARRIER in a loop, twice, and one behind it
     ∷ record {
@@ -137,7 +138,7 @@ runExamples =
           ++ lines "row=2,0,0,0/row=1,1,1,0/row=1,2,2,0/row=35,0,2,0/row=4,3,0,2/row=17,0,3,0/row=37,0,0,0/row=5,2,2,1/row=36,0,0,0/row=37,0,0,0"
           ++ lines "cell=9/cell=9/end=kernel";
       report = lines "verdict=passed/row=-/thread=-/other=-/kind=-/at=-/rows=17/steps=14/steps=14/barriers=3/conflicts=0/cell=1/cell=2/end=report";
-      log = 0 ∷ 0 ∷ 0 ∷ 0 ∷ 0 ∷ 0 ∷ [];
+      log = 0 ∷ 0 ∷ 0 ∷ 0 ∷ 0 ∷ 0 ∷ 0 ∷ 0 ∷ 0 ∷ 0 ∷ [];
     }
     -- thread 2 meets thread 0's load: threads 0 and 1 of the row have stored and counted
     ∷ record {
@@ -145,7 +146,7 @@ runExamples =
           ++ lines "row=2,0,0,0/row=1,1,2,0/row=12,2,0,3/row=32,0,2,0/row=16,4,1,0/row=34,0,0,0/row=17,0,1,0"
           ++ lines "cell=4/cell=5/cell=6/end=kernel";
       report = lines "verdict=race/row=6/thread=2/other=0/kind=rw/at=2/rows=6/steps=7/steps=6/steps=5/barriers=0/conflicts=0/cell=2/cell=2/cell=6/end=report";
-      log = 0 ∷ 0 ∷ 1 ∷ 1 ∷ 2 ∷ 0 ∷ 0 ∷ 0 ∷ 0 ∷ [];
+      log = 0 ∷ 0 ∷ 1 ∷ 1 ∷ 2 ∷ 0 ∷ 0 ∷ 0 ∷ 0 ∷ 2 ∷ 2 ∷ 0 ∷ 0 ∷ 0 ∷ 0 ∷ [];
     }
     -- thread 0's load meets thread 2's store
     ∷ record {
@@ -153,18 +154,18 @@ runExamples =
           ++ lines "row=2,0,0,0/row=1,1,2,0/row=12,2,0,1/row=32,0,2,0/row=17,3,1,0/row=33,0,0,0/row=16,4,3,0/row=34,0,0,0"
           ++ lines "cell=4/end=kernel";
       report = lines "verdict=race/row=6/thread=0/other=2/kind=wr/at=0/rows=6/steps=4/steps=4/steps=6/barriers=0/conflicts=0/cell=2/end=report";
-      log = 0 ∷ 4 ∷ 0 ∷ [];
+      log = 0 ∷ 4 ∷ 0 ∷ 2 ∷ 0 ∷ [];
     }
     -- a limit that the last row reaches, and one less
     ∷ record {
       file = lines "kernel=1/threads=2/cells=1/limit=3/rows=3/row=2,0,0,0/row=2,1,0,0/row=2,2,0,0/cell=4/end=kernel";
       report = lines "verdict=passed/row=-/thread=-/other=-/kind=-/at=-/rows=3/steps=3/steps=3/barriers=0/conflicts=0/cell=4/end=report";
-      log = 0 ∷ 0 ∷ 0 ∷ [];
+      log = 0 ∷ 0 ∷ 0 ∷ 0 ∷ 0 ∷ [];
     }
     ∷ record {
       file = lines "kernel=1/threads=2/cells=1/limit=2/rows=3/row=2,0,0,0/row=2,1,0,0/row=2,2,0,0/cell=4/end=kernel";
       report = lines "verdict=spent/row=2/thread=-/other=-/kind=-/at=-/rows=2/steps=2/steps=2/barriers=0/conflicts=0/cell=4/end=report";
-      log = 0 ∷ 0 ∷ 0 ∷ [];
+      log = 0 ∷ 0 ∷ 0 ∷ 0 ∷ 0 ∷ [];
     }
     -- a BARRIER in a loop in a loop, to which thread 0 comes in the first round and thread 1 in the second
     ∷ record {
@@ -173,7 +174,7 @@ runExamples =
           ++ lines "row=36,0,0,0"
           ++ lines "cell=0/end=kernel";
       report = lines "verdict=diverged/row=7/thread=0/other=1/kind=-/at=-/rows=7/steps=7/steps=7/barriers=0/conflicts=0/cell=0/end=report";
-      log = 0 ∷ 0 ∷ 0 ∷ [];
+      log = 0 ∷ 0 ∷ 0 ∷ 0 ∷ 0 ∷ [];
     }
     -- the same by one thread: it passes once
     ∷ record {
@@ -182,19 +183,19 @@ runExamples =
           ++ lines "row=36,0,0,0"
           ++ lines "cell=0/end=kernel";
       report = lines "verdict=passed/row=-/thread=-/other=-/kind=-/at=-/rows=20/steps=19/barriers=1/conflicts=0/cell=0/end=report";
-      log = 0 ∷ 0 ∷ 0 ∷ [];
+      log = 0 ∷ 0 ∷ 0 ∷ 0 ∷ 0 ∷ [];
     }
     -- spent within a loop that thread 1 alone stays in: the row due is the first of the body
     ∷ record {
       file = lines "kernel=1/threads=2/cells=1/limit=5/rows=4/row=2,0,0,0/row=35,0,0,0/row=2,1,0,0/row=36,0,0,0/cell=4/end=kernel";
       report = lines "verdict=spent/row=2/thread=-/other=-/kind=-/at=-/rows=5/steps=2/steps=5/barriers=0/conflicts=0/cell=4/end=report";
-      log = 0 ∷ 0 ∷ 0 ∷ [];
+      log = 0 ∷ 0 ∷ 0 ∷ 0 ∷ 0 ∷ [];
     }
     -- outside with a number of ten digits
     ∷ record {
       file = lines "kernel=1/threads=2/cells=2/limit=100/rows=5/row=1,1,0,128/row=1,2,0,1/row=6,2,2,2/row=6,1,1,2/row=16,3,1,0/cell=4/cell=5/end=kernel";
       report = lines "verdict=outside/row=4/thread=0/other=-/kind=-/at=2147483648/rows=4/steps=4/steps=4/barriers=0/conflicts=0/cell=4/cell=5/end=report";
-      log = 0 ∷ 0 ∷ 0 ∷ 0 ∷ 0 ∷ 0 ∷ [];
+      log = 0 ∷ 0 ∷ 0 ∷ 0 ∷ 0 ∷ 0 ∷ 0 ∷ 0 ∷ 0 ∷ 0 ∷ [];
     }
     -- 32 threads
     ∷ record {
@@ -210,6 +211,8 @@ runExamples =
           ++ lines "cell=26/cell=27/cell=28/cell=29/cell=30/cell=31/end=report";
       log = replicate 32 0
           ++ (1 ∷ 2 ∷ 4 ∷ 8 ∷ 16 ∷ 32 ∷ 64 ∷ 128 ∷ 256 ∷ 512 ∷ 1024 ∷ 2048 ∷ 4096 ∷ 8192 ∷ 16384 ∷ 32768 ∷ 65536 ∷ 131072 ∷ 262144 ∷ 524288 ∷ 1048576
-          ∷ 2097152 ∷ 4194304 ∷ 8388608 ∷ 16777216 ∷ 33554432 ∷ 67108864 ∷ 134217728 ∷ 268435456 ∷ 536870912 ∷ 1073741824 ∷ 2147483648 ∷ replicate 32 0);
+          ∷ 2097152 ∷ 4194304 ∷ 8388608 ∷ 16777216 ∷ 33554432 ∷ 67108864 ∷ 134217728 ∷ 268435456 ∷ 536870912 ∷ 1073741824 ∷ 2147483648 ∷ replicate 32 0)
+          ++ (0 ∷ 1 ∷ 2 ∷ 3 ∷ 4 ∷ 5 ∷ 6 ∷ 7 ∷ 8 ∷ 9 ∷ 10 ∷ 11 ∷ 12 ∷ 13 ∷ 14 ∷ 15 ∷ 16 ∷ 17 ∷ 18 ∷ 19 ∷ 20
+          ∷ 21 ∷ 22 ∷ 23 ∷ 24 ∷ 25 ∷ 26 ∷ 27 ∷ 28 ∷ 29 ∷ 30 ∷ 31 ∷ replicate 32 0);
     }
     ∷ []

@@ -70,6 +70,21 @@ pub(crate) fn load_store() -> Vec<Row> {
     endless(&ACCESS.repeat(16))
 }
 
+/// Stores to their own cells of 1 alone, and a loop's two rows among 34.
+pub(crate) fn store_equal() -> Vec<Row> {
+    endless(&[[op::STORE, ME, ONE, 0]; 32])
+}
+
+/// The same of 1 and 0 in turn.
+pub(crate) fn store_unequal() -> Vec<Row> {
+    endless(&[[op::STORE, ME, ONE, 0], [op::STORE, ME, ZERO, 0]].repeat(16))
+}
+
+/// Stores of 1 to one cell by all threads, and a loop's two rows among 34.
+pub(crate) fn store_flag() -> Vec<Row> {
+    endless(&[[op::STORE, ZERO, ONE, 0]; 32])
+}
+
 /// The cell numbered CELL instead of the thread's own.
 const ACCESS_CELL: [Row; 2] = [[op::LOAD, 3, CELL, 0], [op::STORE, CELL, 3, 0]];
 
@@ -112,7 +127,7 @@ pub(crate) fn one_bank() -> Vec<Row> {
     endless_after(&at_stride(16), &ACCESS_CELL.repeat(16))
 }
 
-/// Loads of one cell by all threads, and a loop's two rows among 34. Stores to it would race.
+/// Loads of one cell by all threads, and a loop's two rows among 34.
 pub(crate) fn one_cell() -> Vec<Row> {
     endless(&[[op::LOAD, 3, ZERO, 0]; 32])
 }

@@ -13,6 +13,7 @@ const ROUND: usize = 8;
 
 fn main() {
     loops();
+    stores();
     banks();
     files();
     threads();
@@ -40,6 +41,18 @@ fn loops() {
     let barrier = kernels::barrier(ROUND);
     speed("barrier, 32 cells", &measure::bare(&barrier, 32, 32));
     speed("barrier, 1,024 cells", &measure::bare(&barrier, 32, 1_024));
+}
+
+/// Stores by the values that the log finds there.
+fn stores() {
+    heading("stores, 1,000,000 rows, 32 threads", "Mrows/s");
+    for (name, rows) in [
+        ("own cells, one value", kernels::store_equal()),
+        ("own cells, two values", kernels::store_unequal()),
+        ("one cell, one value", kernels::store_flag()),
+    ] {
+        speed(name, &measure::bare(&rows, 32, 32));
+    }
 }
 
 /// Accesses that meet in banks, or whose cells lie in no regular order.

@@ -1,5 +1,5 @@
 //! A checker of barrier kernels in lock step, written from document 01, items 1
-//! to 5 of document 02 and their readings alone. Every entry answers every
+//! to 6 of document 02 and their readings alone. Every entry answers every
 //! input: none of them panics.
 
 mod banks;

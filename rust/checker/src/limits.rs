@@ -23,9 +23,10 @@ pub const INTERVAL_WORDS: usize = 3 * INTERVAL_RECORDS;
 /// Bytes of output that the whole-file entry needs at least.
 pub const REPORT_ROOM: usize = 17_408;
 
-/// Words of log for so many cells: a reader, a writer and an adder mask each.
+/// Words of log for so many cells: a reader, a writer and an adder mask, a first
+/// value and a mark each.
 pub const fn log_words(cells: usize) -> usize {
-    3 * cells
+    5 * cells
 }
 
 /// The refusal numbers of "Turned back", by name.
@@ -56,7 +57,7 @@ pub mod number {
     pub const FILE_LENGTH: u32 = 12;
     /// Lent cells not as many as said.
     pub const LENT_CELLS: u32 = 20;
-    /// Lent log not three times the cells.
+    /// Lent log not five times the cells.
     pub const LENT_LOG: u32 = 21;
     /// Report buffer too short.
     pub const REPORT_BUFFER: u32 = 22;

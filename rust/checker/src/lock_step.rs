@@ -10,7 +10,7 @@ use crate::table::{Instr, Program};
 use crate::verdict::{Outcome, Verdict};
 
 /// Runs a checked program for 1 to 32 threads over the lent cells and a log at
-/// least three times as long. Writes the records of intervals to the first words
+/// least five times as long. Writes the records of intervals to the first words
 /// of `list`, and each thread's steps to those of `steps`. `at_barrier` sees the
 /// cells just before each counted barrier.
 #[allow(clippy::too_many_arguments)] // As the entries have them.
@@ -29,14 +29,18 @@ pub(crate) fn run(
     let (counted, recorded) = (&mut counting, &mut intervals);
     let mut outcome = if program.adds() {
         let memory = &mut Memory::<true>::new(cells, log);
-        run_rows(
+        let outcome = run_rows(
             program, threads, limit, memory, counted, recorded, at_barrier,
-        )
+        );
+        memory.finish();
+        outcome
     } else {
         let memory = &mut Memory::<false>::new(cells, log);
-        run_rows(
+        let outcome = run_rows(
             program, threads, limit, memory, counted, recorded, at_barrier,
-        )
+        );
+        memory.finish();
+        outcome
     };
     counting.write(&mut steps[..threads as usize]);
     outcome.conflicts = intervals.finish(outcome.rows);

@@ -1,5 +1,6 @@
 //! Cells and their access log: who read, who wrote and who added to each cell
-//! since the last counted barrier ("The lock-step run", and item 1).
+//! since the last counted barrier, what was stored first, and whether all
+//! stores were equal ("The lock-step run", and items 1 and 6).
 
 use crate::limits::log_words;
 use crate::registers::{Bits, Enabled, Registers};
@@ -14,28 +15,39 @@ pub(crate) struct Stop {
     pub conflict: Option<(u32, AccessKind)>,
 }
 
-/// The lent cells and log: all reader masks, all writer masks, then all adder
-/// masks. A kernel without ATOMIC ADD has `ADDS` false: its adder masks stay 0,
-/// and loads, stores and barriers are spared them.
+/// The lent cells and log: all reader masks, all writer masks, all adder masks,
+/// all first values, then all marks. A kernel without ATOMIC ADD has `ADDS`
+/// false: its adder masks stay 0, and loads, stores and barriers are spared
+/// them.
+///
+/// First value and mark of a cell without a writer decide nothing. They may be
+/// anything until the run's end, so that a barrier is spared them.
 pub(crate) struct Memory<'a, const ADDS: bool> {
     cells: &'a mut [u32],
     readers: &'a mut [u32],
     writers: &'a mut [u32],
     adders: &'a mut [u32],
+    firsts: &'a mut [u32],
+    marks: &'a mut [u32],
 }
 
 impl<'a, const ADDS: bool> Memory<'a, ADDS> {
-    /// Takes a log at least three times as long as the cells, and clears it.
+    /// Takes a log at least five times as long as the cells, and clears its
+    /// masks.
     pub(crate) fn new(cells: &'a mut [u32], log: &'a mut [u32]) -> Self {
-        let log = &mut log[..log_words(cells.len())];
-        log.fill(0);
-        let (readers, rest) = log.split_at_mut(cells.len());
-        let (writers, adders) = rest.split_at_mut(cells.len());
+        let count = cells.len();
+        let (masks, rest) = log[..log_words(count)].split_at_mut(3 * count);
+        masks.fill(0);
+        let (readers, masks) = masks.split_at_mut(count);
+        let (writers, adders) = masks.split_at_mut(count);
+        let (firsts, marks) = rest.split_at_mut(count);
         Self {
             cells,
             readers,
             writers,
             adders,
+            firsts,
+            marks,
         }
     }
 
@@ -48,6 +60,17 @@ impl<'a, const ADDS: bool> Memory<'a, ADDS> {
         self.writers.fill(0);
         if ADDS {
             self.adders.fill(0);
+        }
+    }
+
+    /// Clears first values and marks where nobody has stored since the last
+    /// counted barrier. The log is then as the run leaves it.
+    pub(crate) fn finish(&mut self) {
+        let stores = self.firsts.iter_mut().zip(self.marks.iter_mut());
+        for (&writers, (first, mark)) in self.writers.iter().zip(stores) {
+            let kept = if writers == 0 { 0 } else { u32::MAX };
+            *first &= kept;
+            *mark &= kept;
         }
     }
 
@@ -82,7 +105,8 @@ impl<'a, const ADDS: bool> Memory<'a, ADDS> {
         Ok(())
     }
 
-    /// STORE cell numbered Rd = Ra, lowest thread first.
+    /// STORE cell numbered Rd = Ra, lowest thread first. Beside another's store
+    /// it is let through if all stores to the cell, its own too, are equal.
     #[inline(always)]
     pub(crate) fn store(
         &mut self,
@@ -96,18 +120,31 @@ impl<'a, const ADDS: bool> Memory<'a, ADDS> {
         let readers = &self.readers[..count];
         let writers = &mut self.writers[..count];
         let adders = if ADDS { &self.adders[..count] } else { &[] };
+        let firsts = &mut self.firsts[..count];
+        let marks = &mut self.marks[..count];
         for (thread, me) in Bits(enabled.mask()) {
             let at = registers.get(d, thread);
             let cell = at as usize;
             if cell >= count {
                 return Err(outside(thread, at));
             }
+            let value = registers.get(a, thread);
             let added = if ADDS { adders[cell] } else { 0 };
-            if readers[cell] | writers[cell] | added | me != me {
-                return Err(self.store_race(thread, at));
+            let (met, stored) = (readers[cell] | added, writers[cell]);
+            // Mostly nobody else was here. Then few words are looked at.
+            if met | stored | me != me {
+                let equal = firsts[cell] == value && marks[cell] == 0;
+                if met | me != me || !equal {
+                    let unequal = if equal { 0 } else { stored };
+                    return Err(self.store_race(thread, at, unequal));
+                }
+                writers[cell] = stored | me;
+            } else if stored == 0 {
+                (writers[cell], firsts[cell], marks[cell]) = (me, value, 0);
+            } else if firsts[cell] != value {
+                marks[cell] = 1;
             }
-            writers[cell] |= me;
-            cells[cell] = registers.get(a, thread);
+            cells[cell] = value;
         }
         Ok(())
     }
@@ -152,10 +189,11 @@ impl<'a, const ADDS: bool> Memory<'a, ADDS> {
         race(thread, at, &[written, added])
     }
 
+    /// `unequal` are the writers, unless all stores are equal.
     #[cold]
-    fn store_race(&self, thread: u32, at: u32) -> Stop {
+    fn store_race(&self, thread: u32, at: u32, unequal: u32) -> Stop {
         let cell = at as usize;
-        let written = (self.writers[cell], AccessKind::Ww);
+        let written = (unequal, AccessKind::Ww);
         let added = (self.adders[cell], AccessKind::Aw);
         let read = (self.readers[cell], AccessKind::Rw);
         race(thread, at, &[written, added, read])

@@ -2,14 +2,15 @@
 
 /// How two accesses to one cell conflict: the other's first, then the
 /// acting thread's. Where the other conflicts by several, a write is shown
-/// before an add, and an add before a read.
+/// before an add, and an add before a read. Equal stores are no conflict.
 #[derive(Clone, Copy, Debug, PartialEq, Eq, Hash, PartialOrd, Ord)]
 pub enum AccessKind {
-    /// The other only read, the thread stores.
+    /// The other read and didn't add, the thread stores. If the other wrote,
+    /// all stores are equal.
     Rw,
     /// The other wrote, the thread loads.
     Wr,
-    /// The other wrote, the thread stores.
+    /// The other wrote, the thread stores, and the stores are not all equal.
     Ww,
     /// The other read and didn't write, the thread adds.
     Ra,
@@ -17,7 +18,8 @@ pub enum AccessKind {
     Ar,
     /// The other wrote, the thread adds.
     Wa,
-    /// The other added and didn't write, the thread stores.
+    /// The other added, the thread stores. If the other wrote, all stores are
+    /// equal.
     Aw,
 }
 

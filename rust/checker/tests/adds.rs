@@ -44,7 +44,9 @@ fn adds_of_all_threads_to_one_cell_pass() {
     let (found, cells, log) = run_logged(&rows, 32, &[5, 6, 7], 9);
     assert_eq!(found, outcome(Verdict::Passed, 3, &[3; 32], 0));
     assert_eq!(cells, [5, 502, 7]);
-    assert_eq!(log, [0, 0, 0, 0, 0, 0, 0, u32::MAX, 0]);
+    assert_eq!(log[..9], [0, 0, 0, 0, 0, 0, 0, u32::MAX, 0]);
+    // An add is no store: no first values, no marks.
+    assert_eq!(log[9..], [0; 6]);
 }
 
 #[test]
@@ -54,7 +56,8 @@ fn adds_to_own_cells_pass() {
     let (found, cells, log) = run_logged(&rows, 3, &[10, 20, 30, 40], 9);
     assert_eq!(found, outcome(Verdict::Passed, 4, &[4; 3], 0));
     assert_eq!(cells, [11, 22, 33, 40]);
-    assert_eq!(log, [0, 0, 0, 0, 0, 0, 0, 0, 1, 2, 4, 0]);
+    assert_eq!(log[..12], [0, 0, 0, 0, 0, 0, 0, 0, 1, 2, 4, 0]);
+    assert_eq!(log[12..], [0; 8]);
 }
 
 #[test]
@@ -79,7 +82,7 @@ fn an_add_wraps_at_2_32() {
 fn an_add_of_0_is_an_add() {
     let (found, cells, log) = run_logged(&[atomic_add(15, 14)], 2, &[9], 9);
     assert_eq!(found.verdict, Verdict::Passed);
-    assert_eq!((cells, log), (vec![9], vec![0, 0, 3]));
+    assert_eq!((cells, log), (vec![9], vec![0, 0, 3, 0, 0]));
     assert_race(&[[18, 15, 14, 0]], LOAD, AccessKind::Ar);
 }
 
@@ -181,7 +184,7 @@ fn each_cell_has_masks_of_its_own() {
     let rows = [only(1, &[load(1, 0)]), vec![ADD]].concat();
     let (found, cells, log) = run_logged(&rows, 2, &[7, 8], 99);
     assert_eq!((found.verdict, cells), (Verdict::Passed, vec![8, 8]));
-    assert_eq!(log, [0, 2, 0, 0, 3, 0]);
+    assert_eq!(log, [0, 2, 0, 0, 3, 0, 0, 0, 0, 0]);
 }
 
 #[test]
@@ -192,7 +195,10 @@ fn own_earlier_accesses_are_no_conflict() {
             let (found, _, log) = run_logged(&rows, 2, &[7], 99);
             assert_eq!(found.verdict, Verdict::Passed);
             let mask = |access: Row| 2 * u32::from(earlier == access || last == access);
-            assert_eq!(log, [LOAD, STORE, ADD].map(mask));
+            assert_eq!(log[..3], [LOAD, STORE, ADD].map(mask));
+            // Thread 1 stores 1, once or twice.
+            let stored = u32::from(earlier == STORE || last == STORE);
+            assert_eq!(log[3..], [stored, 0]);
         }
     }
 }
@@ -220,10 +226,11 @@ fn a_barrier_clears_the_adders() {
         let (found, _, log) = run_logged(&rows, 2, &[7], 99);
         assert_eq!((found.verdict, found.barriers), (Verdict::Passed, 1));
         let mask = |access: Row| 2 * u32::from(last == access);
-        assert_eq!(log, [LOAD, STORE, ADD].map(mask));
+        assert_eq!(log[..3], [LOAD, STORE, ADD].map(mask));
+        assert_eq!(log[3..], [u32::from(last == STORE), 0]);
     }
     let rows = [only(0, &[LOAD, STORE, ADD]), vec![BARRIER]].concat();
-    assert_eq!(run_logged(&rows, 2, &[7], 99).2, [0, 0, 0]);
+    assert_eq!(run_logged(&rows, 2, &[7], 99).2, [0; 5]);
 }
 
 #[test]
@@ -255,7 +262,7 @@ fn outside_is_told_by_rd() {
     };
     let (found, cells, log) = run_logged(&rows, 1, &[1, 2], 9);
     assert_eq!((found, cells), (outcome(outside, 2, &[2], 0), vec![1, 2]));
-    assert_eq!(log, [0; 6]);
+    assert_eq!(log, [0; 10]);
 }
 
 #[test]
@@ -274,7 +281,7 @@ fn the_first_number_behind_the_cells_is_outside() {
         (found, cells),
         (outcome(outside, 2, &[3, 3, 2], 0), vec![1, 1])
     );
-    assert_eq!(log, [0, 0, 0, 0, 1, 2]);
+    assert_eq!(log, [0, 0, 0, 0, 1, 2, 0, 0, 0, 0]);
 }
 
 #[test]
@@ -311,7 +318,7 @@ fn a_racing_add_is_neither_made_nor_logged() {
     let (found, cells, log) = run_logged(&rows, 3, &[10], 99);
     // TID, SET, EQ, IF and ENDIF and SET by all three, LOAD by one.
     assert_eq!(found, outcome(race, 7, &[6, 7, 6], 0));
-    assert_eq!((cells, log), (vec![10], vec![2, 0, 0]));
+    assert_eq!((cells, log), (vec![10], vec![2, 0, 0, 0, 0]));
     // If thread 0 has loaded it, its own add is made, thread 1's is not.
     let rows = [only(0, &[LOAD]), vec![set(2, 5), atomic_add(15, 2)]].concat();
     let race = Verdict::Race {
@@ -323,7 +330,7 @@ fn a_racing_add_is_neither_made_nor_logged() {
     };
     let (found, cells, log) = run_logged(&rows, 3, &[10], 99);
     assert_eq!(found, outcome(race, 7, &[8, 6, 6], 0));
-    assert_eq!((cells, log), (vec![15], vec![1, 0, 1]));
+    assert_eq!((cells, log), (vec![15], vec![1, 0, 1, 0, 0]));
 }
 
 #[test]
@@ -340,7 +347,8 @@ fn some_threads_add_and_the_others_do_not() {
     ];
     let (found, cells, log) = run_logged(&rows, 4, &[1; 3], 9);
     assert_eq!(found, outcome(Verdict::Passed, 7, &[6, 7, 6, 7], 0));
-    assert_eq!((cells, &log[6..]), (vec![1, 1, 5], &[0, 0, 0b1010][..]));
+    assert_eq!((cells, &log[6..9]), (vec![1, 1, 5], &[0, 0, 0b1010][..]));
+    assert_eq!(log[9..], [0; 6]);
 }
 
 #[test]
@@ -348,7 +356,7 @@ fn an_add_with_nobody_enabled_is_a_row_only() {
     let rows = [if_(15), ADD, ENDIF];
     let (found, cells, log) = run_logged(&rows, 2, &[7], 9);
     assert_eq!(found, outcome(Verdict::Passed, 3, &[2, 2], 0));
-    assert_eq!((cells, log), (vec![7], vec![0, 0, 0]));
+    assert_eq!((cells, log), (vec![7], vec![0; 5]));
 }
 
 /// The report of a file of these rows, with two threads and a cell of 0, and
@@ -359,7 +367,7 @@ fn reported(rows: &[Row]) -> (String, Vec<u32>, Vec<u32>) {
     let text = file(rows);
     let len = check_file(text.as_bytes(), &mut cells, &mut log, &mut list, &mut out).unwrap();
     let report = String::from_utf8(out[..len].to_vec()).unwrap();
-    (report, cells[..2].to_vec(), log[..4].to_vec())
+    (report, cells[..2].to_vec(), log[..6].to_vec())
 }
 
 #[test]
@@ -368,8 +376,9 @@ fn files_print_the_sum_and_pack_the_log() {
     let expected = "verdict=passed\nrow=-\nthread=-\nother=-\nkind=-\nat=-\n\
         rows=2\nsteps=2\nsteps=2\nbarriers=0\nconflicts=0\ncell=6\nend=report\n";
     assert_eq!(report, expected);
-    // One reader mask, one writer mask, one adder mask, and the rest is kept.
-    assert_eq!((cells, log), (vec![6, 5], vec![0, 0, 3, 6]));
+    // One reader mask, one writer mask, one adder mask, a value and a mark, and
+    // the rest is kept.
+    assert_eq!((cells, log), (vec![6, 5], vec![0, 0, 3, 0, 0, 6]));
 }
 
 #[test]
@@ -382,13 +391,13 @@ fn files_print_the_kind() {
              rows=2\nsteps=2\nsteps=2\nbarriers=0\nconflicts=0\ncell=1\nend=report\n"
         );
         assert_eq!(report, expected);
-        assert_eq!((cells, log), (vec![1, 5], vec![0, 0, 3, 6]));
+        assert_eq!((cells, log), (vec![1, 5], vec![0, 0, 3, 0, 0, 6]));
     }
     let (report, _, log) = reported(&[LOAD, ADD]);
     assert!(report.starts_with("verdict=race\nrow=1\nthread=0\nother=1\nkind=ra\nat=0\n"));
-    assert_eq!(log, [3, 0, 0, 6]);
+    assert_eq!(log, [3, 0, 0, 0, 0, 6]);
     let alone = [tid(0), if_(0), STORE, ENDIF, ADD];
     let (report, _, log) = reported(&alone);
     assert!(report.starts_with("verdict=race\nrow=4\nthread=0\nother=1\nkind=wa\nat=0\n"));
-    assert_eq!(log, [0, 2, 0, 6]);
+    assert_eq!(log, [0, 2, 0, 1, 0, 6]);
 }

@@ -27,7 +27,7 @@ type Record = [u32; 3];
 /// The outcome of a launch and the records used.
 /// All words behind the records must be kept.
 fn recorded(rows: &[Row], threads: u32, cells: &[u32], limit: u32) -> (Outcome, Vec<Record>) {
-    let (mut after, mut log) = (cells.to_vec(), vec![7; 3 * cells.len()]);
+    let (mut after, mut log) = (cells.to_vec(), vec![7; 5 * cells.len()]);
     let (mut list, mut steps) = (vec![JUNK; INTERVAL_WORDS + 7], [JUNK; 32]);
     let (table, said) = (rows.concat(), cells.len() as u32);
     let ran = bare_launch(
@@ -270,8 +270,10 @@ fn there_is_always_a_first_record() {
         (ran.verdict, found),
         (Verdict::Spent { row: 0 }, vec![[0, 0, 0]])
     );
-    // Its first row stops.
-    assert_eq!(recorded(&[store(0, 0)], 2, &[0], 9).1, [[0, 0, 0]]);
+    // Its first row is run, equal stores of both; or its second stops.
+    assert_eq!(recorded(&[store(0, 0)], 2, &[0], 9).1, [[0, 1, 0]]);
+    let rows = [tid(0), store(1, 0)];
+    assert_eq!(recorded(&rows, 2, &[0], 9).1, [[0, 1, 0]]);
 }
 
 #[test]
@@ -550,7 +552,7 @@ fn observed_launches_have_the_same_records() {
     let rows = [at_distance(16), vec![load(4, 3), BARRIER, load(4, 0)]]
         .concat()
         .concat();
-    let (mut cells, mut log, mut seen) = (vec![0; 64], vec![0; 192], 0);
+    let (mut cells, mut log, mut seen) = (vec![0; 64], vec![0; 320], 0);
     let (mut list, mut steps) = (vec![JUNK; INTERVAL_WORDS], [JUNK; 32]);
     let ran = observed_launch(
         &rows,
@@ -594,13 +596,13 @@ fn r30_where_fewer_than_3_075_words_are_lent() {
     for words in [
         0, 1, 2, 3, 6, 1_024, 1_025, 2_050, 3_071, 3_072, 3_073, 3_074,
     ] {
-        let (mut cells, mut log, mut steps) = ([5; 2], [6; 6], [JUNK; 32]);
+        let (mut cells, mut log, mut steps) = ([5; 2], [6; 10], [JUNK; 32]);
         let mut list = vec![JUNK; words];
         let found = bare_launch(
             &BARRIER, 1, 2, 9, &mut cells, &mut log, &mut list, &mut steps,
         );
         assert_eq!(found, Err(LENT), "{words}");
-        assert_eq!((cells, log, steps), ([5; 2], [6; 6], [JUNK; 32]));
+        assert_eq!((cells, log, steps), ([5; 2], [6; 10], [JUNK; 32]));
         assert!(list.iter().all(|&word| word == JUNK));
     }
     for words in [3_075, 3_076, 3_077, 3_078, 6_150] {
@@ -611,7 +613,7 @@ fn r30_where_fewer_than_3_075_words_are_lent() {
             2,
             9,
             &mut [5; 2],
-            &mut [6; 6],
+            &mut [6; 10],
             &mut list,
             &mut [JUNK; 32],
         );
@@ -630,18 +632,20 @@ fn r30_comes_behind_the_rows_and_20_and_21() {
         assert!(list.iter().all(|&word| word == JUNK));
         found.unwrap_err().number
     };
-    assert_eq!(bare(&[99, 0, 0, 0], 2, 6, 0), 3);
-    assert_eq!(bare(&[], 1, 6, 3_074), 20);
-    assert_eq!(bare(&[], 2, 5, 3_074), 21);
-    assert_eq!(bare(&[], 2, 7, 0), 21);
-    assert_eq!(bare(&[], 2, 6, 3_074), 30);
+    assert_eq!(bare(&[99, 0, 0, 0], 2, 10, 0), 3);
+    assert_eq!(bare(&[], 1, 10, 3_074), 20);
+    assert_eq!(bare(&[], 2, 9, 3_074), 21);
+    assert_eq!(bare(&[], 2, 11, 0), 21);
+    assert_eq!(bare(&[], 2, 6, 0), 21);
+    assert_eq!(bare(&[], 2, 10, 3_074), 30);
 }
 
 #[test]
 fn r30_of_whole_files_comes_behind_21_and_before_24() {
     for (cells, log, words, room, expected) in [
-        (1_023, 3_072, 3_074, REPORT_ROOM, 20),
-        (LENT_CELLS, 3_071, 3_074, 0, 21),
+        (1_023, 5_120, 3_074, REPORT_ROOM, 20),
+        (LENT_CELLS, 5_119, 3_074, 0, 21),
+        (LENT_CELLS, 3_072, 3_074, 0, 21),
         (LENT_CELLS, LENT_LOG, 3_074, REPORT_ROOM, 30),
         (LENT_CELLS, LENT_LOG, 3_074, REPORT_ROOM - 1, 30),
         (LENT_CELLS, LENT_LOG, 0, 0, 30),

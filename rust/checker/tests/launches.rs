@@ -187,17 +187,21 @@ fn every_reader_of_a_cell_is_kept() {
 }
 
 #[test]
-fn equal_stores_race() {
+fn equal_stores_are_let_through_and_unequal_ones_race() {
+    assert_eq!(
+        run(&[store(0, 0)], 2, &[0], 9).0,
+        outcome(Verdict::Passed, 1, &[1, 1], 0)
+    );
     let race = Verdict::Race {
-        row: 0,
+        row: 1,
         thread: 1,
         other: 0,
         kind: AccessKind::Ww,
         at: 0,
     };
     assert_eq!(
-        run(&[store(0, 0)], 2, &[0], 9).0,
-        outcome(race, 0, &[1, 0], 0)
+        run(&[tid(1), store(0, 1)], 2, &[0], 9).0,
+        outcome(race, 1, &[2, 1], 0)
     );
 }
 
@@ -309,7 +313,7 @@ fn a_loop_in_a_loop_saves_its_mask_anew() {
 #[test]
 fn barriers_are_observed_before_the_row_is_counted() {
     let rows = [tid(0), store(0, 0), BARRIER, BARRIER, store(0, 1)];
-    let (mut cells, mut log) = ([7, 7], [0; 6]);
+    let (mut cells, mut log) = ([7, 7], [0; 10]);
     let mut seen = Vec::new();
     let (table, mut steps) = (rows.concat(), [JUNK; 32]);
     let (lent, log_lent) = (&mut cells, &mut log);
@@ -322,7 +326,7 @@ fn barriers_are_observed_before_the_row_is_counted() {
     let passed = outcome(Verdict::Passed, 5, &[3, 3], 2);
     assert_eq!(found(ran.unwrap(), 2, &steps), passed);
     assert_eq!(seen, [[0, 1], [0, 1]]);
-    assert_eq!((cells, log), ([0, 0], [0, 0, 1, 2, 0, 0]));
+    assert_eq!((cells, log), ([0, 0], [0, 0, 1, 2, 0, 0, 0, 0, 0, 0]));
 }
 
 #[test]

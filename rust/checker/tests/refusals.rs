@@ -43,11 +43,14 @@ fn bare_launches_in_order() {
 #[test]
 fn lent_buffers_fit_exactly() {
     for (cells, log, expected) in [
-        (1, 6, refusal(20, 0)),
-        (3, 5, refusal(20, 0)),
-        (2, 5, refusal(21, 0)),
-        (2, 7, refusal(21, 0)),
+        (1, 10, refusal(20, 0)),
+        (3, 9, refusal(20, 0)),
+        (2, 9, refusal(21, 0)),
+        (2, 11, refusal(21, 0)),
         (2, 4, refusal(21, 0)), // twice the cells
+        (2, 6, refusal(21, 0)), // three times, as without values and marks
+        (2, 8, refusal(21, 0)), // one of them only
+        (2, 12, refusal(21, 0)),
         (2, 0, refusal(21, 0)),
     ] {
         let (mut lent_cells, mut lent_log) = (vec![5; cells], vec![6; log]);
@@ -59,7 +62,7 @@ fn lent_buffers_fit_exactly() {
         assert_eq!(list, [JUNK; INTERVAL_WORDS]);
         assert_eq!((lent_cells, lent_log), (vec![5; cells], vec![6; log]));
     }
-    let (cells, log, list) = (&mut [5; 2], &mut [6; 6], &mut [7; INTERVAL_WORDS]);
+    let (cells, log, list) = (&mut [5; 2], &mut [6; 10], &mut [7; INTERVAL_WORDS]);
     let fitting = bare_launch(&[], 1, 2, 0, cells, log, list, &mut [0; 32]);
     assert!(fitting.is_ok());
 }
@@ -279,15 +282,18 @@ fn files_rows_come_after_all_lines_and_count_from_0() {
 #[test]
 fn whole_file_buffers() {
     for (cells, log, out, expected) in [
-        (1_023, 3_071, 0, 20),
-        (1_025, 3_072, 17_408, 20),
-        (3, 9, 17_408, 20),
-        (1_024, 3_071, 17_407, 21),
-        (1_024, 3_073, 17_408, 21),
+        (1_023, 5_119, 0, 20),
+        (1_025, 5_120, 17_408, 20),
+        (3, 15, 17_408, 20),
+        (1_024, 5_119, 17_407, 21),
+        (1_024, 5_121, 17_408, 21),
         (1_024, 2_048, 17_408, 21),
-        (1_024, 9, 17_408, 21), // three times the file's own cells
-        (1_024, 3_072, 17_407, 24),
-        (1_024, 3_072, 0, 24),
+        (1_024, 3_072, 17_408, 21),
+        (1_024, 4_096, 17_408, 21),
+        (1_024, 6_144, 17_408, 21),
+        (1_024, 15, 17_408, 21), // five times the file's own cells
+        (1_024, 5_120, 17_407, 24),
+        (1_024, 5_120, 0, 24),
     ] {
         let (mut lent_cells, mut lent_log, mut room) = (vec![5; cells], vec![6; log], vec![7; out]);
         let list = &mut [JUNK; INTERVAL_WORDS];

@@ -166,17 +166,18 @@ fn r22_names_the_length_needed() {
 
 #[test]
 fn the_lent_log_is_packed_and_the_rest_kept() {
-    let (mut cells, mut log) = (vec![5; 1_024], vec![6; 3_072]);
+    let (mut cells, mut log) = (vec![5; 1_024], vec![6; 5_120]);
     let (mut list, mut out) = (vec![JUNK; INTERVAL_WORDS], vec![b'?'; 20_000]);
     let len = check_file(P1.as_bytes(), &mut cells, &mut log, &mut list, &mut out).unwrap();
     assert_eq!(&out[..len], P1_REPORT.as_bytes());
     assert!(out[len..].iter().all(|&byte| byte == b'?'));
     assert_eq!(&cells[..4], [2, 1, 1, 5]);
     assert!(cells[3..].iter().all(|&word| word == 5));
-    // Thread 0 read cells 1 and 0 and wrote 0; thread 1 read 2 and 1. Nobody
-    // added.
-    assert_eq!(&log[..9], [0b01, 0b11, 0b10, 0b01, 0, 0, 0, 0, 0]);
-    assert!(log[9..].iter().all(|&word| word == 6));
+    // Thread 0 read cells 1 and 0 and wrote 2 to 0; thread 1 read 2 and 1.
+    // Nobody added, and there is no mark.
+    assert_eq!(&log[..6], [0b01, 0b11, 0b10, 0b01, 0, 0]);
+    assert_eq!(&log[6..15], [0, 0, 0, 2, 0, 0, 0, 0, 0]);
+    assert!(log[15..].iter().all(|&word| word == 6));
 }
 
 #[test]

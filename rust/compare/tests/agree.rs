@@ -64,9 +64,26 @@ enum Faulty {
     ForgetsTheAdders,
     PutsTheAddersBeforeTheWriters,
     LeavesTheAddersAsLent,
-    TakesALogOfTwoKinds,
+    ForgetsTheValues,
+    ForgetsTheMarks,
+    ForgetsTheTopBitOfAValue,
+    PutsTheValuesBeforeTheAdders,
+    PutsTheMarksBeforeTheValues,
+    PutsEachMarkBehindItsValue,
+    LeavesTheValuesAsLent,
+    LeavesTheMarksAsLent,
+    KeepsTheLastValue,
+    MarksEqualStores,
+    MarksByTheThreads,
+    MarksTheRefusedStore,
+    TakesALogOfTheMasks,
+    TakesALogWithoutMarks,
+    TakesALogOfSixKinds,
+    TakesALogAWordShort,
+    TakesALogAWordTooLong,
     SwapsTheLetters,
     ShowsAnAddBeforeAWrite,
+    ShowsAnEqualStore,
     CostsOneTooMany,
     CountsARowTooMany,
     PutsACostInTheNextRecord,
@@ -187,20 +204,66 @@ impl Faulty {
         matches!(self, Faulty::RefusesALongerList) && records.len() > INTERVAL_WORDS
     }
 
-    /// Does the mistake to the log that a run of so many cells has left.
-    fn spoil_log(self, log: &mut [u32], lent: &[u32], cells: usize) {
-        let [writers, adders] = [cells..2 * cells, 2 * cells..3 * cells];
+    /// Does the mistake to the log that a run has left, beside its cells.
+    fn spoil_log(self, log: &mut [u32], lent: &[u32], cells: &[u32]) {
+        let count = cells.len();
+        let kind = |which: usize| which * count..(which + 1) * count;
+        let [writers, adders, values, marks] = [1, 2, 3, 4].map(kind);
         match self {
             Faulty::ForgetsTheAdders => log[adders].fill(0),
+            Faulty::ForgetsTheValues => log[values].fill(0),
+            Faulty::ForgetsTheMarks => log[marks].fill(0),
+            Faulty::ForgetsTheTopBitOfAValue => {
+                log[values].iter_mut().for_each(|w| *w &= !(1 << 31))
+            }
             Faulty::PutsTheAddersBeforeTheWriters => {
-                log[writers.start..adders.end].rotate_left(cells)
+                log[writers.start..adders.end].rotate_left(count)
+            }
+            Faulty::PutsTheValuesBeforeTheAdders => {
+                log[adders.start..values.end].rotate_left(count)
+            }
+            Faulty::PutsTheMarksBeforeTheValues => log[values.start..marks.end].rotate_left(count),
+            Faulty::PutsEachMarkBehindItsValue => {
+                let pairs = log[values.clone()].iter().zip(&log[marks.clone()]);
+                let pairs: Vec<u32> = pairs.flat_map(|(&value, &mark)| [value, mark]).collect();
+                log[values.start..marks.end].copy_from_slice(&pairs);
             }
             Faulty::LeavesTheAddersAsLent => {
                 for word in adders {
                     log[word] |= lent[word];
                 }
             }
-            _ => {}
+            // Where nobody has stored, a value and a mark decide nothing; yet they are 0.
+            Faulty::LeavesTheValuesAsLent | Faulty::LeavesTheMarksAsLent => {
+                let left = match self {
+                    Faulty::LeavesTheValuesAsLent => values,
+                    _ => marks,
+                };
+                for (writer, word) in writers.zip(left) {
+                    if log[writer] == 0 {
+                        log[word] = lent[word];
+                    }
+                }
+            }
+            _ => self.spoil_stores(log, cells),
+        }
+    }
+
+    /// The same cell by cell, where somebody has stored.
+    fn spoil_stores(self, log: &mut [u32], cells: &[u32]) {
+        let count = cells.len();
+        for (cell, &left) in cells.iter().enumerate() {
+            let writers = log[count + cell];
+            if writers == 0 {
+                continue;
+            }
+            let [value, mark] = [3 * count + cell, 4 * count + cell];
+            match self {
+                Faulty::KeepsTheLastValue if log[mark] == 1 => log[value] = left,
+                Faulty::MarksEqualStores if !writers.is_power_of_two() => log[mark] = 1,
+                Faulty::MarksByTheThreads if log[mark] == 1 => log[mark] = writers,
+                _ => {}
+            }
         }
     }
 
@@ -274,13 +337,21 @@ impl Faulty {
         }
     }
 
-    /// Whether a log that is too short by one kind of mask is taken.
+    /// Whether a log of a wrong length is taken, where five words a cell are due.
     fn takes(self, log: &[u32], words: usize) -> bool {
-        matches!(self, Faulty::TakesALogOfTwoKinds) && 3 * log.len() == 2 * words
+        let (lent, cells) = (log.len(), words / 5);
+        match self {
+            Faulty::TakesALogOfTheMasks => lent == 3 * cells,
+            Faulty::TakesALogWithoutMarks => lent == 4 * cells,
+            Faulty::TakesALogOfSixKinds => lent == 6 * cells,
+            Faulty::TakesALogAWordShort => lent + 1 == words,
+            Faulty::TakesALogAWordTooLong => lent == words + 1,
+            _ => false,
+        }
     }
 
-    /// The kind that the mistake makes of a race, with the masks of its cell.
-    fn spoil_kind(self, verdict: &mut Verdict, log: &[u32], cells: usize) {
+    /// The kind that the mistake makes of a race, with the masks of its cell; or the mark that it leaves there.
+    fn spoil_race(self, verdict: &mut Verdict, log: &mut [u32], cells: usize) {
         let Verdict::Race {
             kind, other, at, ..
         } = verdict
@@ -296,6 +367,15 @@ impl Faulty {
                     AccessKind::Ww if added => AccessKind::Aw,
                     kind => kind,
                 };
+            }
+            Faulty::ShowsAnEqualStore => {
+                let stored = log[cells + *at as usize] >> *other & 1 == 1;
+                if stored && matches!(*kind, AccessKind::Rw | AccessKind::Aw) {
+                    *kind = AccessKind::Ww;
+                }
+            }
+            Faulty::MarksTheRefusedStore if *kind == AccessKind::Ww => {
+                log[4 * cells + *at as usize] = 1
             }
             _ => {}
         }
@@ -365,7 +445,7 @@ impl Checker for Faulty {
         if let (Ok(launch), Ok(written)) = (parse_file(file), &mut answer) {
             let barriers = barriers_in(&output[..*written]);
             self.spoil_records(records, &lent_records, barriers);
-            self.spoil_log(log, &lent, launch.cells.len());
+            self.spoil_log(log, &lent, &cells[..launch.cells.len()]);
             *written = self.spoil_report(output, *written);
         }
         let answer = match (self, answer.map_err(|refusal| refusal.number)) {
@@ -426,8 +506,8 @@ impl Checker for Faulty {
                 outcome.conflicts += 1;
             }
             self.spoil_steps(steps, &lent_steps, threads as usize, outcome.verdict);
-            self.spoil_kind(&mut outcome.verdict, log, count);
-            self.spoil_log(log, &lent, count);
+            self.spoil_race(&mut outcome.verdict, log, count);
+            self.spoil_log(log, &lent, cells);
         }
         match self {
             Faulty::ChangesTheLastStepWord => steps[31] ^= 1,
@@ -480,10 +560,6 @@ fn a_fault_in_files_is_found_out() {
         Faulty::ClearsTheLogOnRefusal,
         Faulty::TellsTheOutputBeforeTheLog,
         Faulty::TellsTheLogBeforeTheCells,
-        Faulty::ForgetsTheAdders,
-        Faulty::PutsTheAddersBeforeTheWriters,
-        Faulty::LeavesTheAddersAsLent,
-        Faulty::TakesALogOfTwoKinds,
         Faulty::SwapsTheLetters,
         Faulty::SumsTheSteps,
         Faulty::PutsTheLastThreadFirst,
@@ -520,6 +596,38 @@ const RECORDS: [Faulty; 18] = [
     Faulty::RefusesALongerList,
 ];
 
+/// Faults in the log, likewise.
+const LOG: [Faulty; 19] = [
+    Faulty::ForgetsTheAdders,
+    Faulty::PutsTheAddersBeforeTheWriters,
+    Faulty::LeavesTheAddersAsLent,
+    Faulty::ForgetsTheValues,
+    Faulty::ForgetsTheMarks,
+    Faulty::ForgetsTheTopBitOfAValue,
+    Faulty::PutsTheValuesBeforeTheAdders,
+    Faulty::PutsTheMarksBeforeTheValues,
+    Faulty::PutsEachMarkBehindItsValue,
+    Faulty::LeavesTheValuesAsLent,
+    Faulty::LeavesTheMarksAsLent,
+    Faulty::KeepsTheLastValue,
+    Faulty::MarksEqualStores,
+    Faulty::MarksByTheThreads,
+    Faulty::TakesALogOfTheMasks,
+    Faulty::TakesALogWithoutMarks,
+    Faulty::TakesALogOfSixKinds,
+    Faulty::TakesALogAWordShort,
+    Faulty::TakesALogAWordTooLong,
+];
+
+#[test]
+fn a_fault_in_the_log_is_found_out() {
+    for kind in [Kind::File, Kind::Bare] {
+        for faulty in LOG {
+            assert!(found_out(faulty, kind), "{kind:?}: {faulty:?}");
+        }
+    }
+}
+
 #[test]
 fn a_fault_in_records_is_found_out() {
     for kind in [Kind::File, Kind::Bare] {
@@ -547,12 +655,10 @@ fn a_fault_in_bare_launches_is_found_out() {
         Faulty::ClearsTheLogOnRefusal,
         Faulty::TellsTheLogBeforeTheCells,
         Faulty::TellsCellsBeforeThreads,
-        Faulty::ForgetsTheAdders,
-        Faulty::PutsTheAddersBeforeTheWriters,
-        Faulty::LeavesTheAddersAsLent,
-        Faulty::TakesALogOfTwoKinds,
         Faulty::SwapsTheLetters,
         Faulty::ShowsAnAddBeforeAWrite,
+        Faulty::ShowsAnEqualStore,
+        Faulty::MarksTheRefusedStore,
         Faulty::CountsAConflictTooMany,
     ] {
         assert!(found_out(faulty, Kind::Bare), "{faulty:?}");

@@ -36,12 +36,14 @@ struct Launch {
     left: Steps,
 }
 
-/// A file or a bare launch: which of its buffers are right, the list of records that it was lent, and what became of it.
+/// A file or a bare launch: which of its buffers are right, the log and the list of records that it was lent, and what became of it.
 #[derive(Clone, Copy, Debug)]
 struct List {
     cells: bool,
     log: bool,
     output: bool,
+    /// Words of log, lent and due.
+    log_words: [usize; 2],
     words: usize,
     /// No word is one that a run leaves.
     junk: bool,
@@ -53,17 +55,20 @@ struct List {
 
 impl List {
     fn new<T>(
-        right: [bool; 3],
+        cells: bool,
+        log_words: [usize; 2],
+        output: bool,
         before: &[u32],
         after: &[u32],
         answer: &Result<T, Refusal>,
     ) -> Self {
-        let [cells, log, output] = right;
+        let [log, due] = log_words;
         let records = before.chunks(3).zip(after.chunks(3));
         Self {
             cells,
-            log,
+            log: log == due,
             output,
+            log_words,
             words: before.len(),
             junk: before.iter().all(|&word| word >= 1 << 31),
             changed: records.filter(|(was, is)| was != is).count(),
@@ -95,12 +100,14 @@ impl Checker for Witness {
     ) -> Result<usize, Refusal> {
         let lent = records.to_vec();
         let answer = Independent.check_file(file, cells, log, records, output);
-        let right = [
+        let list = List::new(
             cells.len() == LENT_CELLS,
-            log.len() == LENT_LOG,
+            [log.len(), LENT_LOG],
             output.len() >= REPORT_ROOM,
-        ];
-        let list = List::new(right, &lent, records, &answer);
+            &lent,
+            records,
+            &answer,
+        );
         self.lists.borrow_mut().push(list);
         answer
     }
@@ -117,8 +124,14 @@ impl Checker for Witness {
         let (lent, lent_records) = (*steps, records.to_vec());
         let answer = Independent.bare_launch(table, numbers, cells, log, records, steps);
         let said = numbers.cells as usize;
-        let right = [cells.len() == said, log.len() == log_words(said), true];
-        let list = List::new(right, &lent_records, records, &answer);
+        let list = List::new(
+            cells.len() == said,
+            [log.len(), log_words(said)],
+            true,
+            &lent_records,
+            records,
+            &answer,
+        );
         self.lists.borrow_mut().push(list);
         self.launches.borrow_mut().push(Launch {
             threads: numbers.threads as usize,
@@ -254,6 +267,53 @@ fn lists(kind: Kind) -> &'static [List] {
     let lists = lists.get_or_init(|| witness(kind).lists.into_inner());
     assert!(lists.iter().all(|list| list.junk), "{kind:?}");
     lists
+}
+
+#[test]
+fn files_are_lent_logs_of_wrong_lengths_beside_each_wrong_buffer() {
+    let lists = lists(Kind::File);
+    assert!(lists.iter().all(|list| list.log_words[1] == 5_120));
+    // By a word; as many words a cell as there are masks, which was once right; one kind too few and one too many.
+    for words in [5_119, 5_121, 3_072, 4_096, 6_144] {
+        for wrong in 0..8 {
+            let [cells, records, output] = [0, 1, 2].map(|which| wrong >> which & 1 == 0);
+            let of = |list: &&List| {
+                let others = (list.cells, list.words >= INTERVAL_WORDS, list.output);
+                list.log_words[0] == words && others == (cells, records, output)
+            };
+            let due = if cells { 21 } else { 20 };
+            let told = |list: &List| list.number == due;
+            assert!(lists.iter().filter(of).any(told), "{words}, {wrong:03b}");
+        }
+    }
+    let ran = lists.iter().filter(|list| list.number == 0).count();
+    assert!(ran > 20_000, "{ran}");
+}
+
+#[test]
+fn bare_launches_are_lent_logs_of_wrong_lengths() {
+    let lists = lists(Kind::Bare);
+    let told = |words: &dyn Fn(usize) -> Option<usize>| {
+        let told = |list: &&List| {
+            let [lent, due] = list.log_words;
+            list.number == 21 && words(due / 5) == Some(lent)
+        };
+        lists.iter().filter(told).count()
+    };
+    for kinds in [0, 1, 2, 3, 4, 6] {
+        assert!(
+            told(&|cells| Some(kinds * cells)) > 10,
+            "{kinds} words a cell"
+        );
+    }
+    assert!(
+        told(&|cells| (5 * cells).checked_sub(1)) > 10,
+        "a word short"
+    );
+    assert!(told(&|cells| Some(5 * cells + 1)) > 10, "a word too long");
+    for words in [5_119, 5_120, 5_121, 3_072] {
+        assert!(told(&|_| Some(words)) > 0, "{words} words");
+    }
 }
 
 /// Lengths that are too short: by a word, by a record, as many as there are records, room for one, none.

@@ -1,5 +1,5 @@
 //! "The threads' own machine": written from that section, from "The kernel
-//! table" and from items 1 and 3 alone. Nothing here knows of masks or of the
+//! table" and from items 1, 3 and 6 alone. Nothing here knows of masks or of the
 //! lock-step run.
 
 use std::cmp::Ordering;
@@ -103,14 +103,16 @@ struct Thread {
 #[derive(Clone, Copy, Debug, PartialEq, Eq, Hash, PartialOrd, Ord)]
 enum Kind {
     Load,
-    Store,
+    /// With the value stored.
+    Store(u32),
     Add,
 }
 
 impl Kind {
-    /// Loads agree with loads and adds with adds, in any order.
+    /// Loads agree with loads, adds with adds, and stores with stores of the
+    /// same value, in any order.
     fn agrees_with(self, other: Self) -> bool {
-        self == other && self != Kind::Store
+        self == other
     }
 }
 
@@ -152,8 +154,8 @@ pub enum Move {
 pub enum BadEnd {
     /// An access outside the cells.
     Outside,
-    /// Two records of one cell by different threads: at least one a store, or
-    /// one an add and the other a load.
+    /// Two records of one cell by different threads, which are not two loads,
+    /// two adds or two stores of one value.
     Race,
 }
 
@@ -267,7 +269,7 @@ impl State {
             }
             17 => {
                 let at = thread.registers[d];
-                self.access(number, at, Kind::Store)?;
+                self.access(number, at, Kind::Store(x))?;
                 self.cells[at as usize] = x;
             }
             18 => {
@@ -429,16 +431,42 @@ mod tests {
     }
 
     #[test]
-    fn only_loads_and_only_adds_agree() {
+    fn only_loads_only_adds_and_only_equal_stores_agree() {
         use Kind::{Add, Load, Store};
-        let kinds = [Load, Store, Add];
-        let agree = kinds.map(|one| kinds.map(|other| one.agrees_with(other)));
-        let (yes, no) = (true, false);
-        assert_eq!(agree, [[yes, no, no], [no, no, no], [no, no, yes]]);
+        let kinds = [Load, Store(0), Store(1), Store(1 << 31), Add];
+        for (i, one) in kinds.into_iter().enumerate() {
+            for (j, other) in kinds.into_iter().enumerate() {
+                assert_eq!(one.agrees_with(other), i == j, "{one:?}, {other:?}");
+            }
+        }
         let access = |cell, thread, kind| Access { cell, thread, kind };
         assert!(access(1, 0, Add).races_with(access(1, 1, Load)));
         assert!(!access(1, 0, Add).races_with(access(1, 0, Load)));
         assert!(!access(1, 0, Add).races_with(access(2, 1, Load)));
+        assert!(access(1, 0, Store(5)).races_with(access(1, 1, Store(6))));
+        assert!(!access(1, 0, Store(5)).races_with(access(1, 1, Store(5))));
+        assert!(!access(1, 0, Store(5)).races_with(access(1, 0, Store(6))));
+        assert!(!access(1, 0, Store(5)).races_with(access(2, 1, Store(6))));
+        assert!(access(1, 0, Store(5)).races_with(access(1, 1, Load)));
+        assert!(access(1, 0, Store(5)).races_with(access(1, 1, Add)));
+    }
+
+    /// Every value that a thread has stored is kept, each once.
+    #[test]
+    fn the_record_keeps_all_values_of_a_thread() {
+        let mut state = State::start(2, &[0, 0]);
+        for value in [6, 5, 6, 0, 5] {
+            assert_eq!(state.access(0, 1, Kind::Store(value)), Ok(()));
+        }
+        let kept: Vec<Kind> = state.record.iter().map(|access| access.kind).collect();
+        assert_eq!(kept, [0, 5, 6].map(Kind::Store));
+        for value in [0, 5, 6, 7] {
+            let met = state.access(1, 1, Kind::Store(value));
+            assert_eq!(met, Err(BadEnd::Race), "{value}");
+            assert_eq!(state.access(1, 0, Kind::Store(5)), Ok(()));
+        }
+        assert_eq!(state.access(0, 0, Kind::Store(5)), Ok(()));
+        assert_eq!(state.access(0, 0, Kind::Store(6)), Err(BadEnd::Race));
     }
 
     #[test]

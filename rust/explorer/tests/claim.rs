@@ -1,6 +1,8 @@
 //! The claim over a fixed number of seeds, and for launches by hand.
 
 use explorer::claim::{check, Confirmed};
+use explorer::machine::{BadEnd, Kernel, Move, Standing, State};
+use explorer::search::{explore, replay, Replay};
 use explorer::{check_seed, Tally};
 use generator::SmallLaunch;
 
@@ -305,4 +307,214 @@ fn far_amounts_copy_the_top_bit_as_near_ones_do() {
         let shr = launch(2, &rows(SHR, amount), &[0]);
         assert_eq!(check(&shr), Ok(Confirmed::EndsBadly), "{amount:?}");
     }
+}
+
+/// SET R2 = value and STORE it in cell 0, whose number R15 is.
+fn put(value: u16) -> Vec<[u8; 4]> {
+    vec![set(2, value), [17, 15, 2, 0]]
+}
+
+/// One thread's rows in IF, those of the others in ELSE; thread 0 is the other.
+fn arms(thread_1: &[[u8; 4]], thread_0: &[[u8; 4]]) -> Vec<[u8; 4]> {
+    let head = [TID, ONE, begin_if(0)];
+    [&head[..], thread_1, &[ELSE], thread_0, &[ENDIF]].concat()
+}
+
+fn claimed(threads: u32, rows: &[[u8; 4]]) -> Confirmed {
+    check(&launch(threads, rows, &[7, 7, 7])).unwrap()
+}
+
+#[test]
+fn a_flag_set_by_all_passes_in_every_order() {
+    for threads in [2, 3] {
+        assert_eq!(claimed(threads, &put(1)), Confirmed::Passed);
+        assert_eq!(claimed(threads, &put(0)), Confirmed::Passed);
+        // Read behind a barrier, or set to another value.
+        let read = [put(1), vec![BARRIER, LOAD], put(1)].concat();
+        assert_eq!(claimed(threads, &read[..4]), Confirmed::Passed);
+        assert_eq!(claimed(threads, &read), Confirmed::EndsBadly);
+        let again = [put(1), vec![BARRIER], put(2), vec![BARRIER], put(1)].concat();
+        assert_eq!(claimed(threads, &again), Confirmed::Passed);
+        let together = [put(1), put(2)].concat();
+        assert_eq!(claimed(threads, &together), Confirmed::EndsBadly);
+    }
+}
+
+#[test]
+fn stores_of_two_threads_pass_exactly_if_equal() {
+    for one in [0, 1, 5, 256] {
+        for other in [0, 1, 5, 256] {
+            let found = claimed(2, &arms(&put(one), &put(other)));
+            let expected = if one == other {
+                Confirmed::Passed
+            } else {
+                Confirmed::EndsBadly
+            };
+            assert_eq!(found, expected, "{one}, {other}");
+        }
+    }
+    // Equal but for the top bit, which is shifted out or kept.
+    let top = [set(2, 32_768), set(3, 32_768), [4, 3, 3, 3], [6, 2, 2, 3]];
+    let store = [17, 15, 2, 0];
+    let high = [&top[..], &[store]].concat();
+    assert_eq!(claimed(2, &arms(&high, &put(0))), Confirmed::EndsBadly);
+    assert_eq!(claimed(2, &arms(&high, &high)), Confirmed::Passed);
+}
+
+/// The cell's last value is the same whatever the order: it is a race still.
+#[test]
+fn own_unequal_stores_count_whatever_the_cell_holds_at_last() {
+    // 5, 6 and 5 beside 5; only some orders meet the 6 first.
+    let back = [put(5), put(6), put(5)].concat();
+    assert_eq!(claimed(2, &arms(&back, &put(5))), Confirmed::EndsBadly);
+    assert_eq!(claimed(2, &arms(&put(5), &back)), Confirmed::EndsBadly);
+    let two = [put(5), put(6)].concat();
+    for last in [5, 6] {
+        assert_eq!(claimed(2, &arms(&two, &put(last))), Confirmed::EndsBadly);
+        assert_eq!(claimed(2, &arms(&put(last), &two)), Confirmed::EndsBadly);
+    }
+    // Both store 5 and 6, so that in lock step 6 is the last value.
+    assert_eq!(claimed(2, &two), Confirmed::EndsBadly);
+    // One alone may, and another behind a barrier.
+    assert_eq!(claimed(2, &arms(&two, &[])), Confirmed::Passed);
+    assert_eq!(claimed(2, &arms(&back, &[])), Confirmed::Passed);
+    let parted = [arms(&two, &[]), vec![BARRIER], put(5)].concat();
+    assert_eq!(claimed(3, &parted), Confirmed::EndsBadly); // 5 and 6 by two
+    assert_eq!(claimed(2, &parted), Confirmed::Passed);
+}
+
+/// Storing what the cell holds already changes no cell in any order.
+#[test]
+fn a_load_beside_an_equal_store_ends_badly() {
+    for (one, other) in [
+        (put(7), vec![LOAD]),
+        (vec![LOAD], put(7)),
+        ([put(7), vec![LOAD]].concat(), put(7)),
+        (put(7), [vec![LOAD], put(7)].concat()),
+        ([put(7), vec![LOAD]].concat(), [put(7), vec![LOAD]].concat()),
+    ] {
+        assert_eq!(claimed(2, &arms(&one, &other)), Confirmed::EndsBadly);
+        assert_eq!(claimed(3, &arms(&one, &other)), Confirmed::EndsBadly);
+    }
+    // Three threads set the flag, thread 0 alone reads it too.
+    let rows = arms(&put(7), &[put(7), vec![LOAD]].concat());
+    assert_eq!(claimed(3, &rows), Confirmed::EndsBadly);
+    assert_eq!(claimed(1, &rows), Confirmed::Passed);
+}
+
+#[test]
+fn an_add_beside_an_equal_store_ends_badly() {
+    // An add of 0 changes no cell either.
+    let nothing = vec![[18, 15, 14, 0]];
+    for (one, other) in [
+        (put(7), nothing.clone()),
+        (nothing.clone(), put(7)),
+        ([put(7), nothing.clone()].concat(), put(7)),
+        (put(7), [put(7), nothing.clone()].concat()),
+    ] {
+        assert_eq!(claimed(2, &arms(&one, &other)), Confirmed::EndsBadly);
+        assert_eq!(claimed(3, &arms(&one, &other)), Confirmed::EndsBadly);
+    }
+}
+
+/// Each thread stores to cell 0 what it finds in its own cell.
+#[test]
+fn loaded_values_decide() {
+    let rows = [TID, ONE, [4, 3, 0, 1], [16, 4, 3, 0], [17, 15, 4, 0]];
+    let of = |cells: &[u32]| check(&launch(cells.len() as u32 - 1, &rows, cells)).unwrap();
+    assert_eq!(of(&[0, 9, 9]), Confirmed::Passed);
+    assert_eq!(of(&[0, 9, 9, 9]), Confirmed::Passed);
+    assert_eq!(of(&[0, 9, 8]), Confirmed::EndsBadly);
+    assert_eq!(of(&[0, 9, 9, 8]), Confirmed::EndsBadly);
+    assert_eq!(of(&[0, 9, 9, 9 + 65_536]), Confirmed::EndsBadly);
+}
+
+#[test]
+fn a_flag_set_in_loops_passes_and_another_value_ends_badly() {
+    let round = |value: [u8; 4]| {
+        let head = [TID, ONE, [4, 3, 0, 1], set(2, 4), begin_while(3)];
+        let body = [value, [17, 15, 2, 0], [5, 3, 3, 1], ENDWHILE];
+        [&head[..], &body].concat()
+    };
+    // One trip for thread 0, two for thread 1: 4 in each.
+    assert_eq!(claimed(2, &round(set(2, 4))), Confirmed::Passed);
+    assert_eq!(claimed(3, &round(set(2, 4))), Confirmed::Passed);
+    // 5 and 6: thread 1's second trip stores 6 beside thread 0's 5.
+    assert_eq!(claimed(2, &round([4, 2, 2, 1])), Confirmed::EndsBadly);
+    // A release in each trip parts them, but thread 0 stays behind at it.
+    let barrier = [&round(set(2, 4))[..7], &[BARRIER], &round(set(2, 4))[7..]].concat();
+    assert_eq!(claimed(2, &barrier), Confirmed::Stuck);
+}
+
+/// Plays the rows of the threads in this order, for two threads.
+fn play(rows: &[[u8; 4]], order: &[usize]) -> Replay {
+    let run: Vec<Move> = order.iter().map(|&thread| Move::Row(thread)).collect();
+    let start = State::start(2, &[7, 7, 7]);
+    replay(&Kernel::new(&rows.concat()), start, &run)
+}
+
+/// Thread 1 stores 5, 6 and 5, thread 0 stores 5: who meets the race, and by
+/// which store, is a matter of the order.
+#[test]
+fn either_thread_may_be_the_one_that_meets_the_race() {
+    let rows = arms(&[put(5), put(6), put(5)].concat(), &put(5));
+    let start = [[0; 3], [1; 3]].concat();
+    let after = |order: &[usize]| play(&rows, &[&start, order].concat());
+    let raced = Replay::Bad(BadEnd::Race);
+    // Thread 0 first, or behind the first 5: the 6 is met.
+    assert_eq!(after(&[0, 0, 1, 1, 1, 1]), raced);
+    assert_eq!(after(&[1, 1, 0, 0, 1, 1]), raced);
+    let not_yet = after(&[1, 1, 0, 0, 1]);
+    assert!(matches!(not_yet, Replay::Stands(Standing::Open(_))));
+    // Behind the 6, or behind the second 5, thread 0 meets it.
+    assert_eq!(after(&[1, 1, 1, 1, 0, 0]), raced);
+    assert_eq!(after(&[1, 1, 1, 1, 1, 1, 0, 0]), raced);
+    let not_yet = after(&[1, 1, 1, 1, 1, 1, 0]);
+    assert!(matches!(not_yet, Replay::Stands(Standing::Open(_))));
+}
+
+/// Thread 1 sets the flag and goes outside, or loops for ever; thread 0 sets it
+/// too, and then to another value. That is met in some orders only.
+#[test]
+fn an_order_that_meets_no_race_is_there_besides_one_that_does() {
+    let unequal = [put(5), put(6)].concat();
+    let outside = [put(5), vec![[16, 3, 2, 0]]].concat();
+    let rows = arms(&outside, &unequal);
+    let start = [[0; 3], [1; 3]].concat();
+    let after = |order: &[usize]| play(&rows, &[&start, order].concat());
+    assert_eq!(after(&[1, 1, 0, 0, 1]), Replay::Bad(BadEnd::Outside));
+    assert_eq!(after(&[1, 1, 0, 0, 0, 0]), Replay::Bad(BadEnd::Race));
+    assert_eq!(after(&[0, 0, 0, 0, 1, 1]), Replay::Bad(BadEnd::Race));
+    assert_eq!(claimed(2, &rows), Confirmed::EndsBadly);
+    let endless = [put(5), vec![begin_while(1), ENDWHILE]].concat();
+    for rows in [
+        arms(&endless, &unequal),
+        [arms(&put(5), &unequal), endless[2..].to_vec()].concat(),
+    ] {
+        let start = State::start(2, &[7, 7, 7]);
+        let findings = explore(&Kernel::new(&rows.concat()), start, 9_999);
+        let (_, end) = findings.bad.unwrap();
+        assert_eq!((end, findings.endless.is_some()), (BadEnd::Race, true));
+    }
+    // In lock step the race comes before the loop, or the loop for ever.
+    let late = [arms(&put(5), &unequal), endless[2..].to_vec()].concat();
+    assert_eq!(claimed(2, &late), Confirmed::EndsBadly);
+    assert_eq!(claimed(2, &arms(&endless, &unequal)), Confirmed::Endless);
+}
+
+/// A thread that goes on storing for ever comes back to a state of its own,
+/// although the record keeps all that it has stored.
+#[test]
+fn endless_stores_are_endless() {
+    let round = [[put(5), put(6)].concat(), vec![ENDWHILE]].concat();
+    let rows = [
+        &[TID, ONE, begin_if(0), begin_while(1)],
+        &round[..],
+        &[ENDIF],
+    ]
+    .concat();
+    assert_eq!(claimed(2, &rows), Confirmed::Endless);
+    let equal = [&[ONE, begin_while(1)][..], &put(5), &[ENDWHILE]].concat();
+    assert_eq!(claimed(2, &equal), Confirmed::Endless);
+    assert_eq!(claimed(3, &equal), Confirmed::Endless);
 }

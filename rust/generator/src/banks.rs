@@ -332,14 +332,14 @@ fn stop(rng: &mut Rng, common: &Common) -> Vec<Row> {
     } else {
         vec![]
     };
-    let rows = match rng.below(6) {
-        0 | 1 => {
+    let rows = match rng.below(8) {
+        0 | 1 | 7 => {
             let far = rng.pick(&[1_024, 32_768, common.cells]);
             let access = rng.pick(&[load(4, 3), store(3, 0), atomic_add(3, 1)]);
             vec![set(8, far), mul(6, 6, 8), add(3, 3, 6), access]
         }
         // A lower thread has just used the cell.
-        2 | 3 => {
+        2 | 3 | 6 => {
             let lower = distance * rng.range(mine.min(1), mine);
             vec![set(8, lower), mul(6, 6, 8), sub(3, 3, 6), store(3, 0)]
         }
@@ -390,7 +390,7 @@ fn all_records(rng: &mut Rng) -> Plan {
     let releases = match rng.below(8) {
         0 | 1 => rng.range(1_027, 1_100),
         2 => rng.range(1_100, 2_500),
-        _ => rng.pick(&[1_023, 1_024, 1_024, 1_025, 1_025, 1_026]),
+        _ => rng.pick(&[1_023, 1_023, 1_024, 1_024, 1_025, 1_025, 1_026, 1_026]),
     };
     let a_trip = rng.pick(&[1, 1, 2, 3, 5, 8]);
     let mut rows = head(&common);

@@ -34,8 +34,8 @@ pub struct BareLaunch {
 /// A bare launch: sound, hurt in some way, with a small table that is turned
 /// back, or with one fault or two at once.
 pub fn bare(rng: &mut Rng, any_plan: impl FnOnce(&mut Rng) -> Plan) -> BareLaunch {
-    let mut launch = match rng.below(18) {
-        0..=10 => {
+    let mut launch = match rng.below(20) {
+        0..=10 | 18 => {
             let plan = any_plan(rng);
             hurt_or_not(rng, plan)
         }
@@ -104,7 +104,7 @@ fn hurt_or_not(rng: &mut Rng, mut plan: Plan) -> BareLaunch {
 }
 
 fn hurt(rng: &mut Rng, launch: &mut BareLaunch) {
-    match rng.below(12) {
+    match rng.below(16) {
         0 => {
             let len = rng.index(launch.table.len() + 1);
             launch.table.truncate(len);
@@ -138,16 +138,25 @@ fn resize(rng: &mut Rng, words: &mut Vec<u32>) {
     words.resize(target, 7);
 }
 
-/// As other buffers, or as if one kind of mask were missing, or two, or as if
-/// there were a kind more.
+/// As other buffers, or as the whole-file entry wants it or once wanted it, or
+/// with fewer words for each cell or one more, now and then but for one word.
 fn resize_log(rng: &mut Rng, launch: &mut BareLaunch) {
-    match rng.below(20) {
-        0..=10 => return resize(rng, &mut launch.lent_log),
-        11 | 12 => return launch.lent_log.resize(LENT_LOG, 7),
-        _ => {}
-    }
-    let masks = rng.pick(&[1, 2, 2, 2, 4]);
-    launch.lent_log.resize(masks * launch.lent_cells.len(), 7);
+    let target = match rng.below(20) {
+        0..=5 => return resize(rng, &mut launch.lent_log),
+        6 | 7 => LENT_LOG,
+        8 => rng.pick(&[LENT_LOG - 1, LENT_LOG + 1, 3 * LENT_CELLS]),
+        9 => 0,
+        _ => {
+            let words =
+                rng.pick(&[1, 1, 1, 2, 2, 2, 2, 3, 3, 3, 4, 4, 4, 6, 6]) * launch.lent_cells.len();
+            match rng.below(8) {
+                0 => words + 1,
+                1 => words.saturating_sub(1),
+                _ => words,
+            }
+        }
+    };
+    launch.lent_log.resize(target, 7);
 }
 
 /// The faults of a bare launch that a refusal of their own is told for, in
@@ -176,12 +185,20 @@ const FAULTS: [fn(&mut Rng, &mut BareLaunch, &Plan); 9] = [
     |rng, launch, _| cut_intervals(rng, &mut launch.lent_intervals),
 ];
 
+/// The place of the log among them.
+const LOG: usize = 7;
+
 /// One fault of a small launch, or two, often such as are told one after the
 /// other.
 fn one_or_two_faults(rng: &mut Rng) -> BareLaunch {
     let plan = small_plan(rng);
     let mut launch = of(rng, plan.clone());
-    let first = rng.index(FAULTS.len());
+    // A log has more wrong lengths than other buffers.
+    let first = if rng.one_in(12) {
+        LOG
+    } else {
+        rng.index(FAULTS.len())
+    };
     FAULTS[first](rng, &mut launch, &plan);
     match rng.below(4) {
         0 => {}

@@ -19,7 +19,9 @@ mod slips;
 mod small;
 mod small_counts;
 mod small_shifts;
+mod small_stores;
 mod spelling;
+mod stores;
 mod tables;
 mod words;
 
@@ -42,7 +44,7 @@ pub fn launch(seed: u64) -> Vec<u8> {
         14..=28 => slips::misspelt(&mut rng),
         29..=31 => slips::hurt_bytes(&mut rng),
         32..=37 => slips::headers(&mut rng),
-        38..=50 => slips::faulty_table(&mut rng),
+        38..=51 => slips::faulty_table(&mut rng),
         _ => any_plan(&mut rng).file(),
     }
 }
@@ -63,13 +65,14 @@ pub fn small(seed: u64) -> SmallLaunch {
 }
 
 fn any_plan(rng: &mut Rng) -> Plan {
-    match rng.below(100) {
-        0..=30 => patterns::pattern(rng),
-        31..=38 => banks::banks(rng),
-        39..=45 | 67..=71 => counts::counts(rng),
-        46..=51 | 72..=75 => intervals::intervals(rng),
-        52..=66 => random::random(rng),
-        76..=84 => extremes::extreme(rng),
+    match rng.below(118) {
+        0..=38 => patterns::pattern(rng),
+        39..=48 => banks::banks(rng),
+        49..=62 => counts::counts(rng),
+        63..=74 => intervals::intervals(rng),
+        75..=81 => random::random(rng),
+        82..=89 => extremes::extreme(rng),
+        90..=99 => stores::stores(rng),
         _ => words::words(rng),
     }
 }

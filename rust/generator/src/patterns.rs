@@ -6,7 +6,7 @@ use crate::asm::*;
 use crate::plan::Plan;
 use crate::rng::Rng;
 
-const PATTERNS: [fn(&mut Rng) -> Plan; 33] = [
+const PATTERNS: [fn(&mut Rng) -> Plan; 49] = [
     reduction,
     scan,
     stencil,
@@ -19,13 +19,20 @@ const PATTERNS: [fn(&mut Rng) -> Plan; 33] = [
     nested_loops,
     two_loops,
     two_loops,
+    two_loops,
     uneven_trips,
     uneven_trips,
+    uneven_trips,
     guarded_barrier,
     guarded_barrier,
     guarded_barrier,
     guarded_barrier,
     guarded_barrier,
+    guarded_barrier,
+    guarded_barrier,
+    guarded_barrier,
+    guarded_barrier,
+    reaching_the_end,
     reaching_the_end,
     rotating_counters,
     one_after_the_other,
@@ -38,6 +45,15 @@ const PATTERNS: [fn(&mut Rng) -> Plan; 33] = [
     one_after_the_other,
     one_after_the_other,
     one_after_the_other,
+    one_after_the_other,
+    one_after_the_other,
+    one_after_the_other,
+    one_after_the_other,
+    one_after_the_other,
+    one_after_the_other,
+    one_after_many,
+    one_after_many,
+    one_after_many,
     one_after_many,
     one_after_many,
 ];
@@ -492,7 +508,8 @@ fn rotating_counters(rng: &mut Rng) -> Plan {
 }
 
 /// One thread loads a cell, stores it, adds to it or several of these; then
-/// another does, or all the others do, mostly without a barrier between.
+/// another does, or all the others do, mostly without a barrier between. All
+/// store the thread's number or, in half of the launches, the same.
 fn one_after_the_other(rng: &mut Rng) -> Plan {
     let threads = match rng.below(2) {
         0 => 32,
@@ -502,6 +519,7 @@ fn one_after_the_other(rng: &mut Rng) -> Plan {
     let (any, last) = (rng.below(threads), threads - 1);
     let (first, second) = rng.pick(&[(0, last), (last, 0), (any, last), (last, any)]);
     let at = rng.pick(&[0, 0, 1, 6]);
+    let value = rng.pick(&[0, 1]);
     let mut rows = vec![
         tid(0),
         count(1),
@@ -511,25 +529,26 @@ fn one_after_the_other(rng: &mut Rng) -> Plan {
         eq(6, 0, 2),
         begin_if(6),
     ];
-    rows.extend(accesses(rng));
+    rows.extend(accesses(rng, value));
     rows.push(ENDIF);
     rows.extend(between(rng));
-    if rng.one_in(2) {
+    if !rng.one_in(3) {
         rows.extend([eq(7, 0, 3), begin_if(7)]);
     } else {
         rows.extend([eq(7, 6, 15), begin_if(7)]);
     }
-    rows.extend(accesses(rng));
+    rows.extend(accesses(rng, value));
     rows.push(ENDIF);
     let cells = cells(rng, at + 1);
     Plan::new(rng, threads, rows, cells)
 }
 
 /// The cell numbered R5 loaded, stored or added to, or any two of these, or
-/// all three, in any order and each set as likely as another.
-fn accesses(rng: &mut Rng) -> Vec<Row> {
-    let kinds = [load(4, 5), store(5, 0), atomic_add(5, 1)];
-    let set = rng.range(1, 7);
+/// all three, in any order. The register of the value to be stored is given.
+fn accesses(rng: &mut Rng, value: u8) -> Vec<Row> {
+    let kinds = [load(4, 5), store(5, value), atomic_add(5, 1)];
+    // Two or three at once come up more often.
+    let set = rng.pick(&[1, 2, 3, 4, 5, 5, 6, 6, 7, 7]);
     let mut rows: Vec<Row> = (0..3)
         .filter(|kind| set >> kind & 1 == 1)
         .map(|kind| kinds[kind])
@@ -542,14 +561,18 @@ fn accesses(rng: &mut Rng) -> Vec<Row> {
     rows
 }
 
-/// All threads load a cell or add to it, or those below some number, or the
-/// others; then one of all threads loads it, stores it or adds to it.
+/// All threads load a cell, add to it or store the same there, or those below
+/// some number, or the others; then one of all threads loads it, stores it or
+/// adds to it.
 fn one_after_many(rng: &mut Rng) -> Plan {
-    let threads = rng.threads().max(2);
+    let threads = match rng.below(2) {
+        0 => 32,
+        _ => rng.threads().max(2),
+    };
     let from = rng.below(threads);
     let last = rng.pick(&[0, from, threads - 1]);
     let mut rows = vec![tid(0), count(1), set(2, from), set(3, last)];
-    let many = rng.pick(&[load(4, 5), atomic_add(5, 1)]);
+    let many = rng.pick(&[load(4, 5), atomic_add(5, 1), store(5, 1)]);
     match rng.below(3) {
         0 => rows.push(many),
         1 => rows.extend([lt(6, 0, 2), begin_if(6), tid(7), ELSE, many, ENDIF]),
@@ -557,7 +580,7 @@ fn one_after_many(rng: &mut Rng) -> Plan {
     }
     rows.extend(between(rng));
     rows.extend([eq(7, 0, 3), begin_if(7)]);
-    rows.push(rng.pick(&[load(4, 5), store(5, 0), atomic_add(5, 1)]));
+    rows.push(rng.pick(&[load(4, 5), store(5, 0), store(5, 1), atomic_add(5, 1)]));
     rows.push(ENDIF);
     let cells = cells(rng, 1);
     Plan::new(rng, threads, rows, cells)

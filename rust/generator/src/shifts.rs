@@ -157,13 +157,15 @@ fn deciding_rows(rng: &mut Rng, decides: Decides) -> Vec<Row> {
 
 /// A word for each thread, then its amount.
 fn deciding_words(rng: &mut Rng, decides: Decides, threads: u32) -> Vec<u32> {
-    // All come to the barrier or none does; each has another cell.
+    // Mostly all come to the barrier or none does; each has another cell.
     let (all, turn) = (rng.below(4), rng.below(threads));
+    let some = rng.one_in(5);
     let (mut words, mut amounts) = (vec![], vec![]);
     for thread in 0..threads {
         let target = match decides {
             Decides::Arm => rng.below(2),
             Decides::Trips => rng.below(4),
+            Decides::Barrier if some => rng.below(2),
             Decides::Barrier => all,
             Decides::Cell => (thread + turn) % threads,
         };

@@ -54,9 +54,9 @@ pub fn misspelt(rng: &mut Rng) -> Vec<u8> {
 /// file that is as long as it may be, or longer.
 pub fn hurt_bytes(rng: &mut Rng) -> Vec<u8> {
     let mut file = small_plan(rng).file();
-    match rng.below(4) {
+    match rng.below(5) {
         0 => lose_a_line_end(rng, &mut file),
-        1 => stretch(rng, &mut file),
+        1 | 2 => stretch(rng, &mut file),
         _ => {
             let behind: &[&[u8]] = &[
                 b"\n",

@@ -4,6 +4,7 @@ use crate::asm::*;
 use crate::rng::Rng;
 use crate::small_counts::uneven;
 use crate::small_shifts::shifts;
+use crate::small_stores::stores;
 
 /// A launch of few threads, rows and cells; its table is well-formed.
 #[derive(Clone, Debug, PartialEq, Eq)]
@@ -17,12 +18,13 @@ pub struct SmallLaunch {
 }
 
 /// A small launch: rows at random, a short loop with barriers and accesses, a
-/// shift on which the outcome hangs, or threads with unequal steps.
+/// shift on which the outcome hangs, threads with unequal steps, or stores that
+/// meet.
 pub fn small_launch(rng: &mut Rng) -> SmallLaunch {
     let threads = rng.pick(&[2, 2, 2, 3]);
     let mut count = rng.range(1, 3);
     let mut behind = vec![];
-    let rows = match rng.below(26) {
+    let rows = match rng.below(31) {
         0..=3 => short_loop(rng),
         4..=5 => exchange(rng),
         6..=8 => two_arms(rng),
@@ -30,9 +32,23 @@ pub fn small_launch(rng: &mut Rng) -> SmallLaunch {
         10 => turns(rng),
         11 => two_loops(rng),
         12..=14 => two_accesses(rng),
-        16..=19 => {
+        16..=19 | 26 => {
             let (rows, words) = shifts(rng);
             behind = words;
+            rows
+        }
+        27.. => {
+            // The flag is cell 0, and the words are right behind it.
+            let (rows, words) = stores(rng);
+            if !words.is_empty() {
+                let mut cells = vec![rng.below(3)];
+                cells.extend(&words[..threads as usize]);
+                return SmallLaunch {
+                    table: rows.concat(),
+                    threads,
+                    cells,
+                };
+            }
             rows
         }
         _ => loose_rows(rng),

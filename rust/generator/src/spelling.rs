@@ -11,6 +11,12 @@ pub fn misspell(rng: &mut Rng, line: &mut Line) {
     if line.is_empty() {
         return line.push(b'=');
     }
+    for (right, wrong) in [(b"kernel=1".as_slice(), KERNEL), (b"end=kernel", END)] {
+        if line == right && rng.one_in(3) {
+            *line = rng.pick(wrong).to_vec();
+            return;
+        }
+    }
     match rng.below(16) {
         0..=7 => hurt_number(rng, line),
         8..=11 => hurt_key(rng, line),
@@ -80,6 +86,31 @@ pub fn hurt_number(rng: &mut Rng, line: &mut Line) {
     };
     line.splice(start..start + len, new);
 }
+
+/// Spellings in place of the first line.
+const KERNEL: &[&[u8]] = &[
+    b"kernel=",
+    b"kernel=2",
+    b"kernel=11",
+    b"kernel1",
+    b"kerne=1",
+    b"kernels=1",
+    b"Kernel=1",
+    b"kernel==1",
+    b"kernel=0",
+];
+
+/// Spellings in place of the last line.
+const END: &[&[u8]] = &[
+    b"end=kerne",
+    b"end=kernels",
+    b"end=kernelkernel",
+    b"end=KERNEL",
+    b"en=kernel",
+    b"end",
+    b"end=",
+    b"end=report",
+];
 
 /// Spellings in place of a number.
 const FRESH: &[&[u8]] = &[

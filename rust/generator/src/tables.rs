@@ -49,8 +49,8 @@ const NEAR: [u8; 6] = [0, 15, 19, 31, 38, 255];
 
 /// A small table with a fault or two, or at the edge of one.
 pub fn table(rng: &mut Rng) -> Vec<Row> {
-    match rng.below(25) {
-        0..=12 => one_byte(rng),
+    match rng.below(28) {
+        0..=12 | 25.. => one_byte(rng),
         13 | 14 => one_op(rng),
         15 | 16 => loose(rng),
         17 => one_misfit(rng),

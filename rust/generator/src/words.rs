@@ -7,14 +7,22 @@ use crate::plan::Plan;
 use crate::rng::Rng;
 use crate::shifts::{deciding_shifts, shifts};
 
-const KERNELS: [fn(&mut Rng) -> Plan; 10] = [
+const KERNELS: [fn(&mut Rng) -> Plan; 18] = [
     shifts,
     shifts,
+    shifts,
+    shifts,
+    deciding_shifts,
+    deciding_shifts,
+    deciding_shifts,
     deciding_shifts,
     comparisons,
     truths,
     truths,
+    truths,
     sums,
+    addresses,
+    addresses,
     addresses,
     addresses,
     addresses,

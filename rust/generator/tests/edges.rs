@@ -204,7 +204,7 @@ fn two_faults_in_a_header() {
 /// What the row checks say of a table, with all else in order.
 fn rows_refused(table: &[u8]) -> Option<Refusal> {
     let list = &mut [0; INTERVAL_WORDS];
-    bare_launch(table, 1, 1, 0, &mut [0], &mut [0; 3], list, &mut [0; 32]).err()
+    bare_launch(table, 1, 1, 0, &mut [0], &mut [0; 5], list, &mut [0; 32]).err()
 }
 
 /// The four bytes of a `row=` line that is spelt right.
@@ -378,13 +378,22 @@ fn two_faults_of_a_bare_launch() {
             let seen = found == ["21"] && cells > 1 && log == length;
             counts.see(format!("log of {name}"), seen);
         };
-        see("one word more", 3 * cells + 1);
-        see("one word fewer", 3 * cells - usize::from(cells > 0));
+        see("one word more", 5 * cells + 1);
+        see("one word fewer", 5 * cells - usize::from(cells > 0));
         see("one kind", cells);
         see("two kinds", 2 * cells);
+        see("three kinds", 3 * cells);
         see("four kinds", 4 * cells);
-        see("a whole file", 3_072);
+        see("six kinds", 6 * cells);
+        see("a whole file", 5_120);
         see("no word", 0);
+        let whole = [3_072, 5_119, 5_121].contains(&log);
+        counts.see("log of nearly a whole file", found == ["21"] && whole);
+        for words in [3, 4, 6] {
+            let near = log.abs_diff(words * cells) == 1;
+            let seen = found == ["21"] && cells > 1 && near;
+            counts.see("log of other words a cell but for one", seen);
+        }
     }
     counts.expect(5);
 }
@@ -630,8 +639,8 @@ fn addresses_at_the_end_and_behind_it() {
     counts.expect(4);
 }
 
-/// A plan's outcome, the steps of each thread, its cells and the three masks of
-/// each cell, where it isn't refused.
+/// A plan's outcome, the steps of each thread, its cells and the log of each
+/// cell, where it isn't refused.
 struct Ran {
     outcome: Outcome,
     steps: Vec<u32>,
@@ -665,6 +674,11 @@ impl Ran {
     fn masks(&self, cell: usize) -> [u32; 3] {
         let cells = self.before.len();
         [0, 1, 2].map(|kind| self.log[kind * cells + cell])
+    }
+
+    /// Whether unequal stores were made to a cell.
+    fn marked(&self, cell: usize) -> bool {
+        self.log[4 * self.before.len() + cell] == 1
     }
 
     fn passed(&self) -> bool {
@@ -705,7 +719,8 @@ fn letters(masks: [u32; 3], thread: u32) -> String {
 
 /// What the other had done to the cell, and what the thread then did. Nineteen
 /// of these are races: loads meet all but nothing and r, stores all but
-/// nothing, adds all but nothing and a.
+/// nothing, adds all but nothing and a. Where stores meet they are not equal;
+/// where they are, three more are races by what the other did besides.
 #[test]
 fn every_access_meets_all_that_another_can_have_done() {
     let mut counts = Counts::default();
@@ -717,16 +732,24 @@ fn every_access_meets_all_that_another_can_have_done() {
         }
     }
     assert_eq!(counts.0.len(), 19);
+    for other in ["rw", "wa", "rwa"] {
+        counts.see(format!("{other} then w, equal"), false);
+    }
     for (_, ran) in ran() {
         if let Verdict::Race {
             other, kind, at, ..
         } = ran.outcome.verdict
         {
             let others = letters(ran.masks(at as usize), other);
-            counts.see(format!("{others} then {}", acting(kind)), true);
+            let equal = if acting(kind) == 'w' && others.contains('w') && kind != AccessKind::Ww {
+                ", equal"
+            } else {
+                ""
+            };
+            counts.see(format!("{others} then {}{equal}", acting(kind)), true);
         }
     }
-    assert_eq!(counts.0.len(), 19);
+    assert_eq!(counts.0.len(), 22);
     counts.expect(6);
 }
 
@@ -749,11 +772,12 @@ fn races_with_many_and_by_threads_that_were_there() {
         let many = masks.iter().any(|mask| mask.count_ones() > 2);
         let own = letters(masks, thread);
         let mut see = |name: &str, seen: bool| counts.see(format!("{kind:?}: {name}"), seen);
-        // A thread that stored is alone at the cell.
-        if !matches!(kind, AccessKind::Wr | AccessKind::Ww | AccessKind::Wa) {
-            see("many", many);
-            see("many, the thread too", many && !own.is_empty());
-            see("a higher thread", other > thread);
+        see("many", many);
+        see("many, the thread too", many && !own.is_empty());
+        see("a higher thread", other > thread);
+        // One that stored unequal values is alone at the cell.
+        if kind == AccessKind::Ww {
+            see("own unequal stores of the other", ran.marked(at as usize));
         }
         see("thread 31", thread == 31);
         see("other 31", other == 31);
@@ -767,7 +791,7 @@ fn adds_of_many_threads_and_of_edge_words() {
     let mut counts = Counts::default();
     for (plan, ran) in ran().filter(|(_, ran)| ran.passed()) {
         let cells = ran.before.len();
-        let adders = &ran.log[2 * cells..];
+        let adders = &ran.log[2 * cells..3 * cells];
         let has = |op: u8| plan.rows.iter().any(|row| row[0] == op);
         let any = adders.iter().any(|&mask| mask != 0);
         counts.see("all 32 threads", adders.contains(&u32::MAX));

@@ -149,9 +149,15 @@ fn small_launches() {
         let outcome = found.expect("small launches are well-formed");
         count(&mut tally, verdict_names(outcome.verdict));
         let passed = outcome.verdict == Verdict::Passed;
-        let met = log[2 * cells.len()..].iter().any(|m| m.count_ones() > 1);
-        if passed && met {
+        let met = |kind: usize| {
+            let masks = &log[kind * cells.len()..(kind + 1) * cells.len()];
+            passed && masks.iter().any(|mask| mask.count_ones() > 1)
+        };
+        if met(2) {
             count(&mut tally, vec!["adds that meet".to_string()]);
+        }
+        if met(1) {
+            count(&mut tally, vec!["equal stores that meet".to_string()]);
         }
         if passed
             && steps[..small.threads as usize]
@@ -164,6 +170,7 @@ fn small_launches() {
     expect(&tally, &verdicts(), 500);
     expect(&tally, &kinds(), 60);
     expect(&tally, &["adds that meet".to_string()], 300);
+    expect(&tally, &["equal stores that meet".to_string()], 300);
     expect(&tally, &["unequal counts".to_string()], 800);
 }
 

@@ -1,4 +1,4 @@
-//! Item 5 against a slow computation of its own.
+//! Items 5 and 6 against a slow computation of their own.
 
 mod slow;
 
@@ -19,6 +19,25 @@ fn name(verdict: Verdict) -> &'static str {
     }
 }
 
+/// Thread, other, kind and cell.
+fn race(verdict: Verdict) -> Option<(usize, usize, String, usize)> {
+    match verdict {
+        Verdict::Race {
+            thread,
+            other,
+            kind,
+            at,
+            ..
+        } => Some((
+            thread as usize,
+            other as usize,
+            format!("{kind:?}").to_lowercase(),
+            at as usize,
+        )),
+        _ => None,
+    }
+}
+
 const JUNK: u32 = 0xdead_beef;
 
 /// The records of a list of which all else is as it was lent.
@@ -33,11 +52,11 @@ fn records(list: &[u32], barriers: u32) -> Vec<[u32; 3]> {
 const LONG: u32 = 60_000;
 
 #[test]
-fn bare_launches_have_the_costs_and_records_of_a_slow_run() {
+fn bare_launches_have_the_costs_records_and_log_of_a_slow_run() {
     let (mut compared, mut costly) = (0, 0);
     for plan in (0..6_000).map(generator::plan) {
         let (mut cells, table) = (plan.cells.clone(), plan.table());
-        let mut log = vec![0; log_words(cells.len())];
+        let mut log = vec![JUNK; log_words(cells.len())];
         let (mut list, mut steps) = (vec![JUNK; INTERVAL_WORDS + 5], [0; 32]);
         let (threads, said) = (plan.threads, cells.len() as u32);
         let ran = bare_launch(
@@ -49,6 +68,9 @@ fn bare_launches_have_the_costs_and_records_of_a_slow_run() {
             rows: outcome.rows,
             barriers: outcome.barriers,
             records: records(&list, outcome.barriers),
+            race: race(outcome.verdict),
+            cells,
+            log,
         };
         let sum = |word: usize| found.records.iter().map(|record| record[word]).sum::<u32>();
         assert_eq!((sum(1), sum(2)), (outcome.rows, outcome.conflicts));
@@ -73,7 +95,7 @@ fn bare_launches_have_the_costs_and_records_of_a_slow_run() {
 fn files_have_the_records_of_a_slow_run_and_print_their_sum() {
     let mut compared = 0;
     for file in (0..4_000).map(generator::launch) {
-        let (mut cells, mut log) = (vec![0; LENT_CELLS], vec![0; LENT_LOG]);
+        let (mut cells, mut log) = (vec![JUNK; LENT_CELLS], vec![JUNK; LENT_LOG]);
         let (mut list, mut out) = (vec![JUNK; INTERVAL_WORDS], vec![0; REPORT_ROOM]);
         let Ok(len) = check_file(&file, &mut cells, &mut log, &mut list, &mut out) else {
             assert!(list.iter().all(|&word| word == JUNK));
@@ -93,6 +115,15 @@ fn files_have_the_records_of_a_slow_run_and_print_their_sum() {
         );
         assert!(report.contains(&line), "{report}, not {line}");
         assert_eq!(records(&list, expected.barriers), expected.records);
+        let kind = expected
+            .race
+            .map_or("-".to_string(), |(_, _, kind, _)| kind);
+        assert!(report.contains(&format!("\nkind={kind}\n")), "{report}");
+        // The rest of the lent words is kept.
+        for (lent, first) in [(&cells, &expected.cells), (&log, &expected.log)] {
+            assert_eq!(lent[..first.len()], first[..]);
+            assert!(lent[first.len()..].iter().all(|&word| word == JUNK));
+        }
         compared += 1;
     }
     println!("{compared} compared");

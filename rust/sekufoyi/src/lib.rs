@@ -10,8 +10,8 @@ pub use answers::{AccessKind, Outcome, Refusal, Subject, Verdict};
 
 /// Words of cells that [`check_file`] is lent.
 pub const LENT_CELLS: usize = 1_024;
-/// Words of log that [`check_file`] is lent.
-pub const LENT_LOG: usize = 3_072;
+/// Words of log that [`check_file`] is lent: five for each cell.
+pub const LENT_LOG: usize = 5_120;
 /// Words of records that [`check_file`] and [`bare_launch`] need at least: three for each of 1,025 barrier intervals.
 pub const LENT_RECORDS: usize = 3_075;
 /// Words of steps that [`bare_launch`] is lent: one for each thread that a group may have.
@@ -32,6 +32,10 @@ pub fn check_file(
 
 /// Runs a kernel table over the lent cells, which hold the launch's words before and the run's words after. `steps` holds after the run
 /// what each thread stepped, and 0 behind the last thread; [`write_report`] wants the first words alone, one for each thread.
+///
+/// `log` has five words for each cell, neither more nor fewer. After the run it holds who has read each cell since the last barrier that all
+/// threads came to, then who has written each, then who has added to each, bit t for thread t; then what the first store to each wrote, then
+/// for each 1 where unequal stores were made to it. Both are 0 where the cell has no writer; a first value of 0 may have been stored.
 ///
 /// `records` holds after the run three words for each barrier interval: the row due at its start, the rows run in it, and what bank
 /// conflicts cost in it. There is one at the launch and one more for each barrier that all threads came to, up to 1,025, of which the last

@@ -25,8 +25,13 @@ const P1_OUTCOME: Outcome = Outcome {
 };
 /// Thread 1 is stopped in the last row, which thread 0 has run by then.
 const P1_STEPS: [u32; 2] = [7, 6];
+/// Readers, writers, adders, first values and marks. Cell 0 alone was stored to.
+const P1_LOG: [[u32; 3]; 5] = [[1, 3, 2], [1, 0, 0], [0; 3], [2, 0, 0], [0; 3]];
 /// One interval. The cells that are loaded are neighbours, and the stopped row is not run.
 const P1_RECORDS: [u32; 3] = [0, 6, 0];
+
+/// Words of log for each cell.
+const LOG_WORDS: usize = 5;
 
 /// What no thread's steps come to, and no word of a record.
 const JUNK: u32 = 0xfeed_face;
@@ -106,8 +111,8 @@ fn the_file_of_p1_gives_its_report_and_keeps_what_is_behind() {
     let mut lent = Lent::new(LENT_CELLS, LENT_LOG, REPORT_ROOM);
     let mut expected = lent.clone();
     expected.cells[..3].copy_from_slice(&[2, 1, 1]);
-    // Packed: three words of readers, then three of writers, then three of adders.
-    expected.log[..9].copy_from_slice(&[1, 3, 2, 1, 0, 0, 0, 0, 0]);
+    // Packed: behind the last mark the log is kept.
+    expected.log[..15].copy_from_slice(&P1_LOG.concat());
     expected.records[..3].copy_from_slice(&P1_RECORDS);
     expected.output[..P1_REPORT.len()].copy_from_slice(P1_REPORT.as_bytes());
     assert_eq!(lent.check(P1_FILE), Ok(P1_REPORT.len()));
@@ -117,25 +122,32 @@ fn the_file_of_p1_gives_its_report_and_keeps_what_is_behind() {
 #[test]
 fn check_file_refuses_wrong_buffers_and_leaves_them() {
     for (cells, log, records, output, number) in [
-        (1_023, 3_072, 3_075, 17_408, 20),
-        (1_025, 3_072, 3_075, 17_408, 20),
-        (1_023, 3_072, 3_074, 17_408, 20),
+        (1_023, 5_120, 3_075, 17_408, 20),
+        (1_025, 5_120, 3_075, 17_408, 20),
+        (1_023, 5_120, 3_074, 17_408, 20),
+        (1_023, 5_119, 3_075, 17_408, 20),
         (0, 0, 0, 0, 20),
-        (1_024, 3_071, 3_075, 17_408, 21),
-        (1_024, 3_073, 3_075, 17_408, 21),
-        (1_024, 3_071, 3_074, 17_408, 21),
-        (1_024, 3_075, 3_072, 17_408, 21),
+        (1_024, 5_119, 3_075, 17_408, 21),
+        (1_024, 5_121, 3_075, 17_408, 21),
+        (1_024, 5_119, 3_074, 17_408, 21),
+        // So many words a cell: three were once enough.
+        (1_024, 3_072, 3_075, 17_408, 21),
+        (1_024, 4_096, 3_075, 17_408, 21),
+        (1_024, 6_144, 3_075, 17_408, 21),
+        // As this launch's three cells would have it.
+        (1_024, 15, 3_075, 17_408, 21),
+        (1_024, 3_075, 5_120, 17_408, 21),
         (1_024, 0, 0, 0, 21),
-        (1_024, 3_072, 3_074, 17_408, 30),
-        (1_024, 3_072, 3_072, 17_408, 30),
-        (1_024, 3_072, 1_025, 17_408, 30),
-        (1_024, 3_072, 3, 17_408, 30),
-        (1_024, 3_072, 0, 17_408, 30),
-        (1_024, 3_072, 3_074, 17_407, 30),
-        (1_024, 3_072, 0, 0, 30),
-        (1_024, 3_072, 3_075, 17_407, 24),
-        (1_024, 3_072, 3_076, 17_407, 24),
-        (1_024, 3_072, 3_075, 0, 24),
+        (1_024, 5_120, 3_074, 17_408, 30),
+        (1_024, 5_120, 3_072, 17_408, 30),
+        (1_024, 5_120, 1_025, 17_408, 30),
+        (1_024, 5_120, 3, 17_408, 30),
+        (1_024, 5_120, 0, 17_408, 30),
+        (1_024, 5_120, 3_074, 17_407, 30),
+        (1_024, 5_120, 0, 0, 30),
+        (1_024, 5_120, 3_075, 17_407, 24),
+        (1_024, 5_120, 3_076, 17_407, 24),
+        (1_024, 5_120, 3_075, 0, 24),
     ] {
         let mut lent = Lent::new(cells, log, output).with_records(records);
         let before = lent.clone();
@@ -158,11 +170,11 @@ fn a_refused_file_leaves_the_buffers() {
 
 #[test]
 fn the_bare_launch_of_p1() {
-    let mut lent = Lent::new(3, 9, 0);
+    let mut lent = Lent::new(3, 15, 0);
     lent.cells.fill(1);
     assert_eq!(lent.launch(&P1_TABLE, [2, 3, 100]), Ok(P1_OUTCOME));
     assert_eq!(lent.cells, [2, 1, 1]);
-    assert_eq!(lent.log, [1, 3, 2, 1, 0, 0, 0, 0, 0]);
+    assert_eq!(lent.log, P1_LOG.concat());
     assert_eq!(lent.records, recorded(&[P1_RECORDS], LENT_RECORDS));
     assert_eq!(lent.steps, counted(&P1_STEPS));
 }
@@ -170,7 +182,7 @@ fn the_bare_launch_of_p1() {
 /// The words of steps that a launch leaves, lent as junk. All cells are 0 before.
 fn steps_of(table: &[u8], numbers: [u32; 3]) -> [u32; LENT_STEPS] {
     let cells = numbers[1] as usize;
-    let mut lent = Lent::new(cells, 3 * cells, 0);
+    let mut lent = Lent::new(cells, LOG_WORDS * cells, 0);
     lent.cells.fill(0);
     let answer = lent.launch(table, numbers);
     assert!(answer.is_ok(), "{answer:?}");
@@ -213,7 +225,7 @@ fn a_launch_without_rows_clears_all_steps() {
 fn conflicts_of(table: &[u8], numbers: [u32; 3], due: &[[u32; 3]]) -> u32 {
     let cells = numbers[1] as usize;
     let found = [LENT_RECORDS, 3_076, 3_077, 3_078, 4_000, 6_150].map(|words| {
-        let mut lent = Lent::new(cells, 3 * cells, 0).with_records(words);
+        let mut lent = Lent::new(cells, LOG_WORDS * cells, 0).with_records(words);
         lent.cells.fill(0);
         let outcome = lent.launch(table, numbers).expect("a sound launch");
         assert_eq!(lent.records, recorded(due, words), "{words} words");
@@ -374,7 +386,7 @@ fn every_refusal_of_a_bare_launch_leaves_the_buffers() {
     ] {
         // The input is told before what is lent.
         for records in [LENT_RECORDS, 0] {
-            let mut lent = Lent::new(3, 9, 0).with_records(records);
+            let mut lent = Lent::new(3, 15, 0).with_records(records);
             let before = lent.clone();
             let answer = lent.launch(table, numbers);
             assert_eq!(answer.map_err(|refusal| refusal.number), Err(number));
@@ -386,21 +398,27 @@ fn every_refusal_of_a_bare_launch_leaves_the_buffers() {
 #[test]
 fn bare_launch_refuses_wrong_buffers_and_leaves_them() {
     for (cells, log, records, number) in [
-        (2, 9, 3_075, 20),
-        (4, 9, 3_075, 20),
-        (2, 9, 3_074, 20),
+        (2, 15, 3_075, 20),
+        (4, 15, 3_075, 20),
+        (4, 20, 3_075, 20),
+        (2, 15, 3_074, 20),
         (0, 0, 0, 20),
-        (3, 6, 3_075, 21),
-        (3, 8, 3_075, 21),
-        (3, 10, 3_075, 21),
-        (3, 8, 3_074, 21),
+        // Three, four and six words a cell.
+        (3, 9, 3_075, 21),
+        (3, 12, 3_075, 21),
+        (3, 18, 3_075, 21),
+        (3, 14, 3_075, 21),
+        (3, 16, 3_075, 21),
+        // As a file has it.
+        (3, 5_120, 3_075, 21),
+        (3, 14, 3_074, 21),
         (3, 0, 0, 21),
-        (3, 9, 3_074, 30),
-        (3, 9, 3_072, 30),
-        (3, 9, 1_025, 30),
+        (3, 15, 3_074, 30),
+        (3, 15, 3_072, 30),
+        (3, 15, 1_025, 30),
         // Room for the launch's own record.
-        (3, 9, 3, 30),
-        (3, 9, 0, 30),
+        (3, 15, 3, 30),
+        (3, 15, 0, 30),
     ] {
         let mut lent = Lent::new(cells, log, 0).with_records(records);
         let before = lent.clone();
@@ -412,7 +430,7 @@ fn bare_launch_refuses_wrong_buffers_and_leaves_them() {
 /// The outcome's words of a launch with two threads and one cell, and the two threads' steps.
 fn words(table: &[u8], limit: u32) -> (raw::OutcomeWords, [u32; 2]) {
     let (mut records, mut steps) = ([JUNK; LENT_RECORDS], [JUNK; LENT_STEPS]);
-    let (cells, log) = (&mut [5], &mut [7; 3]);
+    let (cells, log) = (&mut [5], &mut [7; LOG_WORDS]);
     let answer = raw::bare_launch(table, 2, 1, limit, cells, log, &mut records, &mut steps);
     assert!(answer.ran);
     assert_eq!(answer.refusal, [0, 0]);
@@ -437,12 +455,189 @@ fn words_without_meaning_are_zero() {
 fn threads_add_into_one_cell() {
     let (tid, set) = ([2, 0, 0, 0], [1, 1, 9, 0]);
     let table = [tid, set, [18, 2, 1, 0]].concat();
-    let mut lent = Lent::new(1, 3, 0);
+    let mut lent = Lent::new(1, LOG_WORDS, 0);
     lent.cells.fill(u32::MAX);
     let answer = lent.launch(&table, [2, 1, 9]);
     assert!(answer.is_ok_and(|outcome| outcome.verdict == Verdict::Passed));
-    assert_eq!((lent.cells, lent.log), (vec![17], vec![0, 0, 3]));
+    assert_eq!((lent.cells, lent.log), (vec![17], vec![0, 0, 3, 0, 0]));
     assert_eq!(lent.steps, counted(&[3, 3]));
+}
+
+type Row = [u8; 4];
+const BARRIER: Row = [37, 0, 0, 0];
+/// Accesses to cell 0, whose number is in R15: R15 is never set. The add is of 0.
+const LOAD_0: Row = [16, 1, 15, 0];
+const ADD_0: Row = [18, 15, 15, 0];
+
+/// Stores of these values to a cell, by R2 and R3.
+fn puts(cell: u8, values: &[u8]) -> Vec<Row> {
+    let put = |value: &u8| [[1, 2, cell, 0], [1, 3, *value, 0], [17, 2, 3, 0]];
+    values.iter().flat_map(put).collect()
+}
+
+/// Rows for one thread alone.
+fn only(thread: u8, rows: &[Row]) -> Vec<Row> {
+    let mine = [
+        [2, 0, 0, 0],
+        [1, 9, thread, 0],
+        [12, 9, 0, 9],
+        [32, 0, 9, 0],
+    ];
+    [&mine, rows, &[[34, 0, 0, 0]]].concat()
+}
+
+/// All threads load cell 0, set cell 1 to 7 and add 7 to cell 3; thread 1 alone stores 5 and 6 to cell 2.
+fn four_ways() -> Vec<Row> {
+    let add = [[1, 2, 3, 0], [18, 2, 3, 0]];
+    let own = only(1, &puts(2, &[5, 6]));
+    [&[LOAD_0], &puts(1, &[7])[..], &add, &own].concat()
+}
+
+/// What that leaves with such a mask of all threads: readers, writers, adders, first values, marks.
+fn four_logged(all: u32) -> [[u32; 4]; LOG_WORDS] {
+    [
+        [all, 0, 0, 0],
+        [0, all, 2, 0],
+        [0, 0, 0, all],
+        [0, 7, 5, 0],
+        [0, 0, 1, 0],
+    ]
+}
+
+#[test]
+fn a_flag_is_set_by_many_threads_and_each_kind_of_word_is_in_its_place() {
+    let table = four_ways().concat();
+    for threads in [2, 3, 31, 32] {
+        let mut lent = Lent::new(4, 20, 0);
+        lent.cells.fill(0);
+        let answer = lent.launch(&table, [threads, 4, 100]);
+        assert!(answer.is_ok_and(|outcome| outcome.verdict == Verdict::Passed));
+        assert_eq!(lent.cells, [0, 7, 6, 7 * threads]);
+        assert_eq!(lent.log, four_logged(u32::MAX >> (32 - threads)).concat());
+    }
+}
+
+#[test]
+fn a_file_has_the_same_log_and_keeps_what_is_behind() {
+    let rows = four_ways();
+    let lines: String = (rows.iter())
+        .map(|[op, d, a, b]| format!("row={op},{d},{a},{b}\n"))
+        .collect();
+    let head = format!(
+        "kernel=1\nthreads=32\ncells=4\nlimit=100\nrows={}\n",
+        rows.len()
+    );
+    let file = format!("{head}{lines}{}end=kernel\n", "cell=0\n".repeat(4));
+    let mut lent = Lent::new(LENT_CELLS, LENT_LOG, REPORT_ROOM);
+    let mut expected = lent.log.clone();
+    expected[..20].copy_from_slice(&four_logged(u32::MAX).concat());
+    let written = lent.check(&file).expect("a sound file");
+    assert!(lent.output[..written].starts_with(b"verdict=passed\n"));
+    assert!(lent.log == expected);
+}
+
+#[test]
+fn a_barrier_clears_first_values_and_marks() {
+    let rows = [four_ways(), vec![BARRIER]].concat();
+    // Behind it another value is the first, and 0 is one too.
+    for value in [8, 0] {
+        let table = [&rows[..], &puts(2, &[value])].concat().concat();
+        let mut lent = Lent::new(4, 20, 0);
+        lent.cells.fill(0);
+        let answer = lent.launch(&table, [3, 4, 100]);
+        assert!(answer.is_ok_and(|outcome| outcome.verdict == Verdict::Passed));
+        let [writers, firsts] = [[0, 0, 7, 0], [0, 0, value.into(), 0]];
+        assert_eq!(lent.log, [[0; 4], writers, [0; 4], firsts, [0; 4]].concat());
+    }
+}
+
+/// What threads do to cell 0 one after the other: the outcome's words of verdict, thread, other and kind, the cell, and its log.
+fn in_turn(turns: &[(u8, &[Row])]) -> ([u32; 4], u32, [u32; LOG_WORDS]) {
+    let table = (turns.iter()).flat_map(|(thread, rows)| only(*thread, rows));
+    let table = table.collect::<Vec<Row>>().concat();
+    let (mut records, mut steps) = ([JUNK; LENT_RECORDS], [JUNK; LENT_STEPS]);
+    let (mut cells, mut log) = ([77], [JUNK; LOG_WORDS]);
+    let answer = raw::bare_launch(
+        &table,
+        4,
+        1,
+        100,
+        &mut cells,
+        &mut log,
+        &mut records,
+        &mut steps,
+    );
+    let [verdict, _, thread, other, kind, at, ..] = answer.outcome;
+    assert_eq!((answer.ran, at), (true, 0));
+    ([verdict, thread, other, kind], cells[0], log)
+}
+
+const PASSED: [u32; 4] = [1, 0, 0, 0];
+/// A race's kinds, as the outcome has them.
+const RW: u32 = 1;
+const WW: u32 = 3;
+const AW: u32 = 7;
+
+#[test]
+fn a_thread_may_store_unequal_values_by_itself() {
+    for (values, mark) in [
+        (&[5, 5][..], 0),
+        (&[5, 6], 1),
+        (&[5, 6, 5], 1),
+        (&[0, 5], 1),
+    ] {
+        let stores = puts(0, values);
+        let last = values[values.len() - 1];
+        let log = [0, 4, 0, values[0].into(), mark];
+        assert_eq!(in_turn(&[(2, &stores)]), (PASSED, last.into(), log));
+        // Behind unequal stores no other may store, not even the first or the last of them.
+        for value in [values[0], last] {
+            let (answer, cell, left) = in_turn(&[(2, &stores), (1, &puts(0, &[value]))]);
+            if mark == 1 {
+                assert_eq!((answer, cell, left), ([2, 1, 2, WW], last.into(), log));
+            } else {
+                assert_eq!((answer, left), (PASSED, [0, 6, 0, 5, 0]));
+            }
+        }
+    }
+}
+
+#[test]
+fn a_race_beside_equal_stores_shows_what_conflicts() {
+    let put = puts(0, &[5]);
+    let with = |more: &[Row]| [&put[..], more].concat();
+    let (read, added, both) = (with(&[LOAD_0]), with(&[ADD_0]), with(&[ADD_0, LOAD_0]));
+    for (turns, race, log) in [
+        // An unequal value: the lowest of those that stored.
+        (
+            &[(3, &put), (1, &put), (0, &puts(0, &[6]))][..],
+            [0, 1, WW],
+            [0, 10, 0, 5, 0],
+        ),
+        // An equal one: the store is no conflict, so what was done besides is.
+        (&[(0, &read), (1, &put)], [1, 0, RW], [1, 1, 0, 5, 0]),
+        (&[(0, &added), (1, &put)], [1, 0, AW], [0, 1, 1, 5, 0]),
+        (&[(0, &both), (1, &put)], [1, 0, AW], [1, 1, 1, 5, 0]),
+        // An unequal one again: the store is told before what was done besides.
+        (
+            &[(0, &both), (1, &puts(0, &[4]))],
+            [1, 0, WW],
+            [1, 1, 1, 5, 0],
+        ),
+    ] {
+        let turns: Vec<(u8, &[Row])> = turns.iter().map(|(t, rows)| (*t, &rows[..])).collect();
+        let [thread, other, kind] = race;
+        assert_eq!(in_turn(&turns), ([2, thread, other, kind], 5, log));
+    }
+}
+
+#[test]
+fn a_load_or_an_add_beside_equal_stores_races() {
+    let put = puts(0, &[5]);
+    for (access, kind) in [(LOAD_0, 2), (ADD_0, 6)] {
+        let answer = in_turn(&[(3, &put), (1, &put), (2, &[access])]);
+        assert_eq!(answer, ([2, 2, 1, kind], 5, [0, 10, 0, 5, 0]));
+    }
 }
 
 #[test]
@@ -455,7 +650,7 @@ fn a_launch_that_passed_has_no_row() {
 #[test]
 fn the_answer_that_does_not_apply_is_zero() {
     let (mut records, mut steps) = ([JUNK; LENT_RECORDS], [JUNK; LENT_STEPS]);
-    let (cells, log) = (&mut [5], &mut [7; 3]);
+    let (cells, log) = (&mut [5], &mut [7; LOG_WORDS]);
     let answer = raw::bare_launch(&[], 33, 1, 0, cells, log, &mut records, &mut steps);
     assert!(!answer.ran);
     assert_eq!(answer.outcome, [0; 9]);

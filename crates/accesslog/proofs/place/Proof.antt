@@ -1,5 +1,4 @@
 -- `accesslog::place` meets its contract. Assumes nothing.
-use mathlib.Core.List.{[]}
 use native.Mathlib.Omega.{arith}
 use Rattle.accesslog.proofs.LogTests.{offset-few, place-by}
 use borrow.Author.Needs.{needs}
@@ -9,17 +8,17 @@ use Rattle.accesslog.proofs.place.Tie as tie
 mul-result : tie.Need-mul-result
 mul-result c =
     let args = c .args in
-    let few = offset-few (args .op) (args .cells) (args .i) [] (c .pre .0) (c .pre .1) (c .pre .2) in
+    let few = offset-few (args .op) (args .cells) (args .i) (c .pre .0) (c .pre .1) (c .pre .2) in
     omega arith
 
 add-result : tie.Need-add-result
 add-result c =
     let args = c .args in
-    let few = offset-few (args .op) (args .cells) (args .i) [] (c .pre .0) (c .pre .1) (c .pre .2) in
+    let few = offset-few (args .op) (args .cells) (args .i) (c .pre .0) (c .pre .1) (c .pre .2) in
     omega (arith, c .pre .3)
 
 returns : tie.Need-returns
-returns c = place-by _ _ _ [] (c .pre .0) (c .pre .1)
+returns c = place-by _ _ _ (c .pre .0) (c .pre .1)
 
 pub place-spec : {M : Type 1} → statement M
 place-spec = tie.close

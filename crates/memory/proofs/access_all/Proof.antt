@@ -1,5 +1,4 @@
 -- `memory::access_all` does the turns of all threads, one after the other. Assumes nothing.
-use borrow.Author.Needs.{needs}
 use mathlib.Core.Path.{_≡_, refl, sym, ap, _∙_, subst}
 use Prim.Native.Nat.{ℕ, _+_, _-_, _^_, _≤_, _<_}
 use native.Mathlib.Omega.{arith}
@@ -10,9 +9,9 @@ use Rattle.spec.specs.LockStep.{accessTurn}
 use Rattle.layout.specs.Memory.{KeptBut, shapeBy}
 use Rattle.layout.specs.Logging.{SameAbove}
 use Rattle.layout.proofs.Reach.{same-more}
-use Rattle.layout.proofs.Turning.{Turning, Turns, turn-start, turn-whole, go-in, go-stop}
+use Rattle.layout.proofs.Turning.{Turning, Turns, turn-start, turn-whole, turn-in, turn-stop}
 use Rattle.masks.proofs.Bits.{next-bit, left-odd, left-less}
-use Rattle.access.proofs.Accesses.{asks-still, turn-still, keeps-on}
+use Rattle.access.proofs.Accesses.{asks-still, test-still, turn-still, halts, passes, refused-at, keeps-on}
 use Rattle.memory.proofs.access_all.Statement.{statement}
 use Rattle.memory.proofs.access_all.Tie as tie
 
@@ -48,74 +47,84 @@ cell-number-requires c κs =
     let pre = c .before .before .before .before .before .pre in
     (omega (arith, c .before .loop-test .taken, pre .1 .memory .few), pre .0 .target, pre .0 .source)
 
-access-one-requires : tie.Need-access-one-requires Inv-loop μ-loop
-access-one-requires c κs =
+goes-on-requires : tie.Need-goes-on-requires Inv-loop μ-loop
+goes-on-requires c κs =
     let turn = c .before .before .before .before .before .before .loop in
     let pre = c .before .before .before .before .before .before .before .before .before .pre in
-    let some-left = c .before .before .before .before .before .loop-test .taken in (
-      omega (arith, some-left, pre .1 .memory .few),
-      asks-still _ _ _ _ _ _ _ (pre .0) (turn .inv .1) (turn .inv .2),
-      turn .inv .4 (omega (arith, some-left, pre .1 .memory .few)),
-      c .before .before .before .cell-number .ensures,
-    )
+    let some-left = c .before .before .before .before .before .loop-test .taken in
+    (omega (arith, some-left, pre .1 .memory .few), test-still _ _ _ _ _ _ _ (pre .0) (turn .inv .1) (turn .inv .2))
 
 same-length : tie.Need-same-length Inv-loop μ-loop
-same-length c =
-    let access-one = c .before .before .before .before .before .before .before .access-one in
-    access-one .kept .1 .0 ∙ c .before .before .before .before .before .before .before .before .before .before .before .before .before .before .loop .inv .1
+same-length c = c .before .before .before .before .before .before .before .before .loop .inv .1
 
 same-length-2 : tie.Need-same-length-2 Inv-loop μ-loop
-same-length-2 c =
-    let access-one = c .before .before .before .before .before .before .before .access-one in
-    access-one .kept .1 .1 .0 ∙ c .before .before .before .before .before .before .before .before .before .before .before .before .before .before .loop .inv .2
+same-length-2 c = c .before .before .before .before .before .before .before .before .loop .inv .2
 
 returns : tie.Need-returns Inv-loop μ-loop
 returns c =
-    let access-one = c .before .before .before .before .before .before .before .access-one in
-    let some-left = c .before .before .before .before .before .before .before .before .before .before .before .before .before .loop-test .taken in
-    let turn = c .before .before .before .before .before .before .before .before .before .before .before .before .before .before .loop in
-    let start = c .before .before .before .before .before .before .before .before .before .before .before .before .before .before .before .before .before in
+    let number = c .before .before .before .before .before .cell-number in
+    let some-left = c .before .before .before .before .before .before .before .loop-test .taken in
+    let turn = c .before .before .before .before .before .before .before .before .loop in
+    let start = c .before .before .before .before .before .before .before .before .before .before .before in
     let args = start .args in
-    let memory = args .cells .now in (
-      λ y x o ed ea s e q M.
-          go-stop (accessTurn (shapeBy (args .n) memory) y x) (args .n) s (turn .t) (2 ^ (args .n - turn .t) - 1) (turn .regs) (turn .cells) (turn .log)
-          (turn .inv .3 y x o ed ea s e q M) (access-one .result) _ (access-one .last .0) (access-one .last .1 .0)
-          (access-one .last .1 .1 .0) some-left (left-odd (args .n) (turn .t) some-left)
-          (turn-still (args .n) (turn .t) y x memory _ _ _ _ _ _ _ (turn .inv .1) (access-one .ensures .0 (args .n) y x o some-left ed ea)) (c .before .v .given .1),
-      keeps-on (args .d) (args .n) (turn .t) (args .regs .now) (turn .regs) (access-one .last .0) some-left (turn .inv .5) (access-one .ensures .1),
-      same-more (turn .reach) _ (length memory) (length (turn .cells)) (args .log .now) (turn .log) (access-one .last .1 .1 .0) (turn .inv .6) (turn .inv .1)
-          (access-one .ensures .2),
+    let memory = args .cells .now in
+    let bit = turn .inv .4 (omega (arith, some-left, start .pre .1 .memory .few)) in (
+      λ e. absurd (omega (arith, some-left, e)),
+      λ e. record {
+        inside = some-left;
+        refused = refused-at (args .op) (args .d) (args .a) (turn .t) (turn .regs) (turn .cells) (turn .log) (number .result) (turn .bit) bit (number .ensures)
+            (halts _ _ (c .before .goes-on .ensures) (c .if1 .taken));
+        stops = λ v D y x o ed ea s q l M.
+            turn-stop (accessTurn (shapeBy (args .n) memory) y x) (args .n) s (turn .t) (2 ^ (args .n - turn .t) - 1) (turn .regs) (turn .cells) (turn .log)
+            (turn .inv .3 y x o ed ea s q l M) v (turn .regs) (turn .cells) (turn .log) some-left (left-odd (args .n) (turn .t) some-left)
+            (turn-still (args .n) (turn .t) y x memory _ _ _ _ _ _ _ (turn .inv .1) (D (args .n) y x o some-left ed ea));
+      },
+      turn .inv .1,
+      turn .inv .2,
+      turn .inv .5,
+      same-more (turn .reach) (number .result) (length memory) (length memory) (args .log .now) (turn .log) (turn .log) (turn .inv .6) refl (λ j f. refl),
+    )
+
+make-requires : tie.Need-make-requires Inv-loop μ-loop
+make-requires c κs =
+    let turn = c .before .before .before .before .before .before .before .before .before .before .before .loop in
+    let pre = c .before .before .before .before .before .before .before .before .before .before .before .before .before .before .pre in
+    let some-left = c .before .before .before .before .before .before .before .before .before .before .loop-test .taken in (
+      omega (arith, some-left, pre .1 .memory .few),
+      asks-still _ _ _ _ _ _ _ (pre .0) (turn .inv .1) (turn .inv .2),
+      turn .inv .4 (omega (arith, some-left, pre .1 .memory .few)),
+      c .before .before .before .before .before .before .before .before .cell-number .ensures,
+      passes _ _ (c .before .before .before .before .goes-on .ensures) (c .before .before .before .if1 .left),
     )
 
 next-thread : tie.Need-add-t Inv-loop μ-loop
 next-thread c =
-    let at-test = c .before .before .before .before .before .before .before .before .before .before .before .before in
+    let at-test = c .before .before .before .before .before .before .before .before .before .before .before .before .before .before .before in
     omega (arith, at-test .loop-test .taken, at-test .before .before .before .before .pre .1 .memory .few)
 
 loop-less : tie.Need-loop-less Inv-loop μ-loop
-loop-less c = omega (arith, c .before .before .before .before .before .before .before .before .before .before .before .before .loop-test .taken)
+loop-less c = omega (arith, c .before .before .before .before .before .before .before .before .before .before .before .before .before .before .before .loop-test .taken)
 
 loop-again : tie.Need-loop-again Inv-loop μ-loop
 loop-again c =
-    let access-one = c .before .before .before .before .before .before .access-one in
-    let some-left = c .before .before .before .before .before .before .before .before .before .before .before .before .loop-test .taken in
-    let turn = c .before .before .before .before .before .before .before .before .before .before .before .before .before .loop in
-    let args = c .before .before .before .before .before .before .before .before .before .before .before .before .before .before .before .before .args in
+    let make = c .before .before .before .before .make in
+    let some-left = c .before .before .before .before .before .before .before .before .before .before .before .before .before .before .before .loop-test .taken in
+    let turn = c .before .before .before .before .before .before .before .before .before .before .before .before .before .before .before .before .loop in
+    let args = c .before .before .before .before .before .before .before .before .before .before .before .before .before .before .before .before .before .before .before .args in
     let memory = args .cells .now in (
       omega (arith, some-left),
-      access-one .kept .1 .0 ∙ turn .inv .1,
-      access-one .kept .1 .1 .0 ∙ turn .inv .2,
+      make .kept .1 .0 ∙ turn .inv .1,
+      make .kept .1 .1 .0 ∙ turn .inv .2,
       λ y x o ed ea s e q M.
-          subst (λ m. Turning (accessTurn (shapeBy (args .n) memory) y x) (args .n) s (turn .t + 1) m (access-one .last .0) (access-one .last .1 .0)
-          (access-one .last .1 .1 .0)) (left-less (args .n) (turn .t) some-left)
-          (go-in (accessTurn (shapeBy (args .n) memory) y x) (args .n) s (turn .t) (2 ^ (args .n - turn .t) - 1) (turn .regs) (turn .cells) (turn .log)
-          (turn .inv .3 y x o ed ea s e q M) (access-one .result) (access-one .last .0) (access-one .last .1 .0) (access-one .last .1 .1 .0) _ _ _
-          some-left (left-odd (args .n) (turn .t) some-left)
-          (turn-still (args .n) (turn .t) y x memory _ _ _ _ _ _ _ (turn .inv .1) (access-one .ensures .0 (args .n) y x o some-left ed ea)) (c .enum-told .given .1) refl refl refl),
+          subst (λ m. Turning (accessTurn (shapeBy (args .n) memory) y x) (args .n) s (turn .t + 1) m (make .last .0) (make .last .1 .0)
+          (make .last .1 .1 .0)) (left-less (args .n) (turn .t) some-left)
+          (turn-in (accessTurn (shapeBy (args .n) memory) y x) (args .n) s (turn .t) (2 ^ (args .n - turn .t) - 1) (turn .regs) (turn .cells) (turn .log)
+          (turn .inv .3 y x o ed ea s e q M) (make .last .0) (make .last .1 .0) (make .last .1 .1 .0) some-left (left-odd (args .n) (turn .t) some-left)
+          (turn-still (args .n) (turn .t) y x memory _ _ _ _ _ _ _ (turn .inv .1) (make .ensures .0 (args .n) y x o some-left ed ea))),
       next-bit (turn .t) (turn .bit) (turn .inv .4),
-      keeps-on (args .d) (args .n) (turn .t) (args .regs .now) (turn .regs) (access-one .last .0) some-left (turn .inv .5) (access-one .ensures .1),
-      same-more (turn .reach) _ (length memory) (length (turn .cells)) (args .log .now) (turn .log) (access-one .last .1 .1 .0) (turn .inv .6) (turn .inv .1)
-          (access-one .ensures .2),
+      keeps-on (args .d) (args .n) (turn .t) (args .regs .now) (turn .regs) (make .last .0) some-left (turn .inv .5) (make .ensures .1),
+      same-more (turn .reach) _ (length memory) (length (turn .cells)) (args .log .now) (turn .log) (make .last .1 .1 .0) (turn .inv .6) (turn .inv .1)
+          (make .ensures .2),
     )
 
 same-length-3 : tie.Need-same-length-3 Inv-loop μ-loop
@@ -131,9 +140,12 @@ returns-2 c =
     let args = start .args in
     let memory = args .cells .now in
     let none-left : 2 ^ (args .n - turn .t) - 1 ≡ 0 = ap (λ (k : ℕ). 2 ^ k - 1) (let z : args .n - turn .t ≡ 0 = omega (arith, c .loop-test .left) in z) in (
-      λ y x o ed ea s e q M.
+      λ all y x o ed ea s e q M.
           turn-whole (accessTurn (shapeBy (args .n) memory) y x) (args .n) s (turn .t) (2 ^ (args .n - turn .t) - 1) (turn .regs) (turn .cells) (turn .log)
           (turn .inv .3 y x o ed ea s e q M) none-left,
+      λ some. absurd (some refl),
+      turn .inv .1,
+      turn .inv .2,
       turn .inv .5,
       turn .inv .6,
     )
@@ -146,11 +158,11 @@ access-all-spec =
     μ-loop
     loop-holds
     cell-number-requires
-    access-one-requires
-    (λ c. search needs) (λ c. search needs)
+    goes-on-requires
     same-length
     same-length-2
     returns
+    make-requires
     next-thread
     loop-less
     loop-again

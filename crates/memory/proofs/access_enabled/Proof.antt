@@ -1,5 +1,4 @@
 -- `memory::access_enabled` does the turns of the enabled threads, one after the other. Assumes nothing.
-use borrow.Author.Needs.{needs}
 use mathlib.Core.Path.{_≡_, refl, sym, ap, _∙_, subst, subst₂}
 use mathlib.Core.Logic.{⊎-elim}
 use Prim.Native.Nat.{ℕ, _+_, _-_, _^_, _≤_, _<_}
@@ -11,9 +10,9 @@ use Rattle.spec.specs.LockStep.{accessTurn}
 use Rattle.layout.specs.Memory.{KeptBut, shapeBy}
 use Rattle.layout.specs.Logging.{SameAbove}
 use Rattle.layout.proofs.Reach.{same-more}
-use Rattle.layout.proofs.Turning.{Turns, turn-start, turn-whole, go-in, go-out, go-stop}
+use Rattle.layout.proofs.Turning.{Turns, turn-start, turn-whole, go-in, go-out, turn-stop}
 use Rattle.masks.proofs.Bits.{next-bit, left-some, left-half}
-use Rattle.access.proofs.Accesses.{asks-still, turn-still, keeps-on}
+use Rattle.access.proofs.Accesses.{asks-still, test-still, turn-still, halts, passes, refused-at, keeps-on}
 use Rattle.memory.proofs.access_enabled.Statement.{statement}
 use Rattle.memory.proofs.access_enabled.Tie as tie
 
@@ -52,48 +51,59 @@ cell-number-requires c κs =
     let some-left = left-some (start .args .n) (turn .t) (turn .m) (turn .inv .1) (c .before .before .loop-test .taken) in
     (omega (arith, some-left, pre .1 .memory .few), pre .0 .target, pre .0 .source)
 
-access-one-requires : tie.Need-access-one-requires Inv-loop μ-loop
-access-one-requires c κs =
+goes-on-requires : tie.Need-goes-on-requires Inv-loop μ-loop
+goes-on-requires c κs =
     let turn = c .before .before .before .before .before .before .before .loop in
     let start = c .before .before .before .before .before .before .before .before .before .before in
     let pre = start .pre .1 in
-    let some-left = left-some (start .args .n) (turn .t) (turn .m) (turn .inv .1) (c .before .before .before .before .before .before .loop-test .taken) in (
-      omega (arith, some-left, pre .1 .memory .few),
-      asks-still _ _ _ _ _ _ _ (pre .0) (turn .inv .2) (turn .inv .3),
-      turn .inv .5 (omega (arith, some-left, pre .1 .memory .few)),
-      c .before .before .before .cell-number .ensures,
-    )
+    let some-left = left-some (start .args .n) (turn .t) (turn .m) (turn .inv .1) (c .before .before .before .before .before .before .loop-test .taken) in
+    (omega (arith, some-left, pre .1 .memory .few), test-still _ _ _ _ _ _ _ (pre .0) (turn .inv .2) (turn .inv .3))
 
 same-length : tie.Need-same-length Inv-loop μ-loop
-same-length c =
-    let access-one = c .before .before .before .before .before .before .before .access-one in
-    let turn = c .before .before .before .before .before .before .before .before .before .before .before .before .before .before .before .loop in
-    access-one .kept .1 .0 ∙ turn .inv .2
+same-length c = c .before .before .before .before .before .before .before .before .before .loop .inv .2
 
 same-length-2 : tie.Need-same-length-2 Inv-loop μ-loop
-same-length-2 c =
-    let access-one = c .before .before .before .before .before .before .before .access-one in
-    let turn = c .before .before .before .before .before .before .before .before .before .before .before .before .before .before .before .loop in
-    access-one .kept .1 .1 .0 ∙ turn .inv .3
+same-length-2 c = c .before .before .before .before .before .before .before .before .before .loop .inv .3
 
 returns : tie.Need-returns Inv-loop μ-loop
 returns c =
-    let access-one = c .before .before .before .before .before .before .before .access-one in
-    let enabled = c .before .before .before .before .before .before .before .before .before .before .before .before .before .if1 .taken in
-    let at-test = c .before .before .before .before .before .before .before .before .before .before .before .before .before .before in
+    let number = c .before .before .before .before .before .cell-number in
+    let enabled = c .before .before .before .before .before .before .before .if1 .taken in
+    let at-test = c .before .before .before .before .before .before .before .before in
     let turn = at-test .before .loop in
     let start = at-test .before .before .before .before in
     let args = start .args in
     let memory = args .cells .now in
-    let some-left = left-some (args .n) (turn .t) (turn .m) (turn .inv .1) (at-test .loop-test .taken) in (
-      λ y x o ed ea s e q M.
-          go-stop (accessTurn (shapeBy (args .n) memory) y x) (args .n) s (turn .t) (turn .m) (turn .regs) (turn .cells) (turn .log)
-          (turn .inv .4 y x o ed ea s e q M) (access-one .result) _ (access-one .last .0) (access-one .last .1 .0)
-          (access-one .last .1 .1 .0) some-left enabled
-          (turn-still (args .n) (turn .t) y x memory _ _ _ _ _ _ _ (turn .inv .2) (access-one .ensures .0 (args .n) y x o some-left ed ea)) (c .before .v .given .1),
-      keeps-on (args .d) (args .n) (turn .t) (args .regs .now) (turn .regs) (access-one .last .0) some-left (turn .inv .6) (access-one .ensures .1),
-      same-more (turn .reach) _ (length memory) (length (turn .cells)) (args .log .now) (turn .log) (access-one .last .1 .1 .0) (turn .inv .7) (turn .inv .2)
-          (access-one .ensures .2),
+    let some-left = left-some (args .n) (turn .t) (turn .m) (turn .inv .1) (at-test .loop-test .taken) in
+    let bit = turn .inv .5 (omega (arith, some-left, start .pre .1 .1 .memory .few)) in (
+      λ e. absurd (omega (arith, some-left, e)),
+      λ e. record {
+        inside = some-left;
+        refused = refused-at (args .op) (args .d) (args .a) (turn .t) (turn .regs) (turn .cells) (turn .log) (number .result) (turn .bit) bit (number .ensures)
+            (halts _ _ (c .before .goes-on .ensures) (c .if2 .taken));
+        stops = λ v D y x o ed ea s q l M.
+            turn-stop (accessTurn (shapeBy (args .n) memory) y x) (args .n) s (turn .t) (turn .m) (turn .regs) (turn .cells) (turn .log)
+            (turn .inv .4 y x o ed ea s q l M) v (turn .regs) (turn .cells) (turn .log) some-left enabled
+            (turn-still (args .n) (turn .t) y x memory _ _ _ _ _ _ _ (turn .inv .2) (D (args .n) y x o some-left ed ea));
+      },
+      turn .inv .2,
+      turn .inv .3,
+      turn .inv .6,
+      same-more (turn .reach) (number .result) (length memory) (length memory) (args .log .now) (turn .log) (turn .log) (turn .inv .7) refl (λ j f. refl),
+    )
+
+make-requires : tie.Need-make-requires Inv-loop μ-loop
+make-requires c κs =
+    let at-test = c .before .before .before .before .before .before .before .before .before .before .before in
+    let turn = at-test .before .loop in
+    let start = at-test .before .before .before .before in
+    let pre = start .pre .1 in
+    let some-left = left-some (start .args .n) (turn .t) (turn .m) (turn .inv .1) (at-test .loop-test .taken) in (
+      omega (arith, some-left, pre .1 .memory .few),
+      asks-still _ _ _ _ _ _ _ (pre .0) (turn .inv .2) (turn .inv .3),
+      turn .inv .5 (omega (arith, some-left, pre .1 .memory .few)),
+      c .before .before .before .before .before .before .before .before .cell-number .ensures,
+      passes _ _ (c .before .before .before .before .goes-on .ensures) (c .before .before .before .if2 .left),
     )
 
 next-thread : tie.Need-add-t Inv-loop μ-loop
@@ -114,22 +124,22 @@ loop-again c =
     let some-left = left-some (args .n) (turn .t) (turn .m) (turn .inv .1) (c .before .loop-test .taken) in
     let fewer = left-half (args .n) (turn .t) (turn .m) some-left (turn .inv .1) in
     ⊎-elim
-    (λ w. (
+    (λ w. let make = w .11 in (
       omega (arith, some-left),
       fewer,
-      ap length (w .14) ∙ w .6 .kept .1 .0 ∙ turn .inv .2,
-      ap length (w .15) ∙ w .6 .kept .1 .1 .0 ∙ turn .inv .3,
+      ap length (w .17) ∙ make .kept .1 .0 ∙ turn .inv .2,
+      ap length (w .18) ∙ make .kept .1 .1 .0 ∙ turn .inv .3,
       λ y x o ed ea s e q M.
           go-in (accessTurn (shapeBy (args .n) memory) y x) (args .n) s (turn .t) (turn .m) (turn .regs) (turn .cells) (turn .log)
-          (turn .inv .4 y x o ed ea s e q M) (w .6 .result) (w .6 .last .0) (w .6 .last .1 .0) (w .6 .last .1 .1 .0) _ _ _ some-left (w .0 .taken)
-          (turn-still (args .n) (turn .t) y x memory _ _ _ _ _ _ _ (turn .inv .2) (w .6 .ensures .0 (args .n) y x o some-left ed ea))
-          (w .12 .given .1) (w .13) (w .14) (w .15),
+          (turn .inv .4 y x o ed ea s e q M) (make .last .0) (make .last .1 .0) (make .last .1 .1 .0) _ _ _ some-left (w .0 .taken)
+          (turn-still (args .n) (turn .t) y x memory _ _ _ _ _ _ _ (turn .inv .2) (make .ensures .0 (args .n) y x o some-left ed ea))
+          (w .16) (w .17) (w .18),
       next-bit (turn .t) (turn .bit) (turn .inv .5),
       keeps-on (args .d) (args .n) (turn .t) (args .regs .now) (turn .regs) (c .if1 .regs) some-left (turn .inv .6)
-          (subst (KeptBut (args .d) (turn .t + 1) (turn .regs)) (sym (w .13)) (w .6 .ensures .1)),
-      subst₂ (λ h l. SameAbove h (length memory) (args .log .now) l) (sym (w .16)) (sym (w .15))
-          (same-more (turn .reach) _ (length memory) (length (turn .cells)) (args .log .now) (turn .log) (w .6 .last .1 .1 .0) (turn .inv .7) (turn .inv .2)
-          (w .6 .ensures .2)),
+          (subst (KeptBut (args .d) (turn .t + 1) (turn .regs)) (sym (w .16)) (make .ensures .1)),
+      subst₂ (λ h l. SameAbove h (length memory) (args .log .now) l) (sym (w .19)) (sym (w .18))
+          (same-more (turn .reach) _ (length memory) (length (turn .cells)) (args .log .now) (turn .log) (make .last .1 .1 .0) (turn .inv .7) (turn .inv .2)
+          (make .ensures .2)),
     ))
     (λ w. (
       omega (arith, some-left),
@@ -156,9 +166,12 @@ returns-2 c =
     let turn = c .before .loop in
     let args = c .before .before .before .before .args in
     let memory = args .cells .now in (
-      λ y x o ed ea s e q M.
+      λ all y x o ed ea s e q M.
           turn-whole (accessTurn (shapeBy (args .n) memory) y x) (args .n) s (turn .t) (turn .m) (turn .regs) (turn .cells) (turn .log)
           (turn .inv .4 y x o ed ea s e q M) (c .loop-test .left),
+      λ some. absurd (some refl),
+      turn .inv .2,
+      turn .inv .3,
       turn .inv .6,
       turn .inv .7,
     )
@@ -171,11 +184,11 @@ access-enabled-spec =
     μ-loop
     loop-holds
     cell-number-requires
-    access-one-requires
-    (λ c. search needs) (λ c. search needs)
+    goes-on-requires
     same-length
     same-length-2
     returns
+    make-requires
     next-thread
     loop-less
     loop-again

@@ -89,7 +89,7 @@ pub fn run_logged(
     limit: u32,
 ) -> (Found, Vec<u32>, Vec<u32>) {
     let mut after = cells.to_vec();
-    let mut log = vec![7; 3 * cells.len()];
+    let mut log = vec![7; 5 * cells.len()];
     let mut steps = [JUNK; 32];
     let (table, count) = (rows.concat(), cells.len() as u32);
     let mut list = [JUNK; INTERVAL_WORDS];
@@ -102,11 +102,11 @@ pub fn run_logged(
 
 /// The refusal of a bare table, which must leave the buffers alone.
 pub fn refused(rows: &[Row]) -> Refusal {
-    let (mut cells, mut log) = ([5; 2], [6; 6]);
+    let (mut cells, mut log) = ([5; 2], [6; 10]);
     let (table, mut steps) = (rows.concat(), [JUNK; 32]);
     let mut list = [JUNK; INTERVAL_WORDS];
     let refused = bare_launch(&table, 2, 2, 9, &mut cells, &mut log, &mut list, &mut steps);
-    assert_eq!((cells, log, steps), ([5; 2], [6; 6], [JUNK; 32]));
+    assert_eq!((cells, log, steps), ([5; 2], [6; 10], [JUNK; 32]));
     assert_eq!(list, [JUNK; INTERVAL_WORDS]);
     refused.unwrap_err()
 }

@@ -1,5 +1,6 @@
 //! A slow lock-step run: thread by thread, the costs cell by cell, the records
-//! as item 5 tells them.
+//! as item 5 tells them, and of each cell all values stored, as item 6 does. It
+//! can also make one of the mistakes that are likely with equal stores.
 #![allow(dead_code)]
 
 use std::collections::BTreeSet;
@@ -11,6 +12,8 @@ pub struct Access {
     pub row: usize,
     /// Each thread that acted, with its cell.
     pub used: Vec<(usize, usize)>,
+    /// What each of them stored, loaded or added.
+    pub words: Vec<u32>,
     /// All that were enabled have acted.
     pub finished: bool,
     /// Intervals before this one.
@@ -24,34 +27,150 @@ impl Access {
     }
 }
 
-/// What a launch came to, as far as item 5 goes, and how it ended.
+/// What a launch came to, as far as items 5 and 6 go, and how it ended.
 #[derive(Debug, PartialEq)]
 pub struct Told {
     pub verdict: &'static str,
+    /// Thread, other, kind and cell.
+    pub race: Option<(usize, usize, String, usize)>,
     pub rows: u32,
     pub barriers: u32,
     pub records: Vec<[u32; 3]>,
+    pub cells: Vec<u32>,
+    pub log: Vec<u32>,
 }
 
+/// Item 6 as it is, or with one mistake.
+#[derive(Clone, Copy, Debug, PartialEq, Eq)]
+pub enum Rule {
+    Right,
+    /// As before item 6.
+    EqualRefused,
+    /// The last value is kept in place of the first.
+    LastKept,
+    /// A store is compared with the last one only.
+    LastCompared,
+    /// A store is compared with what the cell holds.
+    CellCompared,
+    /// One thread's unequal stores leave no mark.
+    Unmarked,
+    /// Every second store leaves a mark.
+    EqualMarked,
+    /// A first value of 0 is taken for none.
+    ZeroIsNone,
+    /// A barrier leaves the marks.
+    MarkStays,
+    /// A barrier leaves the first values.
+    ValueStays,
+    /// A load beside another's equal stores is let through.
+    LoadLetThrough,
+    /// An add beside another's equal stores is let through.
+    AddLetThrough,
+    /// Readers and adders that stored the same value are let through.
+    BesidesLetThrough,
+    /// Another that stored is always shown as one.
+    ShownAsStore,
+    /// A refused store becomes the first value.
+    RefusedIsFirst,
+    /// A refused store leaves a mark.
+    RefusedMarks,
+    /// Only so many low bits are compared.
+    LowBits(u32),
+    /// A store by another takes the place of the writers before.
+    OneWriter,
+    /// The value counts for the thread that stored first, not for others.
+    FirstThreadOnly,
+}
+
+/// The values stored to a cell, in their order.
+#[derive(Clone, Default)]
+struct Stores {
+    values: Vec<u32>,
+    /// Of earlier intervals: the first value and whether there was a mark.
+    earlier: Option<u32>,
+    was_marked: bool,
+}
+
+impl Stores {
+    fn first(&self, rule: Rule) -> u32 {
+        let mut all = self.values.iter().copied();
+        match rule {
+            Rule::LastKept => all.next_back(),
+            Rule::ZeroIsNone => all.find(|&value| value != 0),
+            Rule::ValueStays => self.earlier.or(all.next()),
+            _ => all.next(),
+        }
+        .unwrap_or(0)
+    }
+
+    fn marked(&self, rule: Rule) -> bool {
+        let first = self.first(rule);
+        let unequal = |compared: u32| self.values.iter().any(|&value| value != compared);
+        match rule {
+            Rule::Unmarked | Rule::LastCompared => false,
+            Rule::EqualMarked => self.values.len() > 1,
+            Rule::MarkStays => self.was_marked || unequal(first),
+            Rule::ZeroIsNone => self
+                .values
+                .iter()
+                .any(|&value| value != first && first != 0),
+            Rule::LowBits(bits) => self
+                .values
+                .iter()
+                .any(|&value| (value ^ first) << (32 - bits) != 0),
+            Rule::LastKept => unequal(self.values.first().copied().unwrap_or(0)),
+            _ => unequal(first),
+        }
+    }
+
+    /// Whether a store of this value conflicts with those of others.
+    fn meet(&self, rule: Rule, value: u32, cell: u32) -> bool {
+        let first = self.first(rule);
+        let differs = match rule {
+            Rule::EqualRefused => true,
+            Rule::CellCompared => return cell != value,
+            Rule::LastCompared => self.values.last() != Some(&value),
+            Rule::ZeroIsNone => first != 0 && first != value,
+            Rule::LowBits(bits) => (first ^ value) << (32 - bits) != 0,
+            _ => first != value,
+        };
+        differs || self.marked(rule)
+    }
+
+    fn forget(&mut self) {
+        self.was_marked |= self.marked(Rule::Right);
+        self.earlier = self.earlier.or(self.values.first().copied());
+        self.values.clear();
+    }
+}
+
+type Acted = (Vec<(usize, usize)>, Vec<u32>, Option<&'static str>);
+
 struct Threads {
+    rule: Rule,
     registers: Vec<[u32; 16]>,
     enabled: BTreeSet<usize>,
     cells: Vec<u32>,
     readers: Vec<BTreeSet<usize>>,
     writers: Vec<BTreeSet<usize>>,
     adders: Vec<BTreeSet<usize>>,
+    stores: Vec<Stores>,
+    race: Option<(usize, usize, String, usize)>,
 }
 
 impl Threads {
-    fn new(threads: usize, cells: &[u32]) -> Self {
+    fn new(rule: Rule, threads: usize, cells: &[u32]) -> Self {
         let nobody = vec![BTreeSet::new(); cells.len()];
         Self {
+            rule,
             registers: vec![[0; 16]; threads],
             enabled: (0..threads).collect(),
             cells: cells.to_vec(),
             readers: nobody.clone(),
             writers: nobody.clone(),
             adders: nobody,
+            stores: vec![Stores::default(); cells.len()],
+            race: None,
         }
     }
 
@@ -60,10 +179,11 @@ impl Threads {
         self.enabled.iter().copied().filter(is_true).collect()
     }
 
-    /// An access row: who acted and where, and how it stops if it does.
-    fn access(&mut self, row: [u8; 4]) -> (Vec<(usize, usize)>, Option<&'static str>) {
+    /// An access row: who acted and where, by which words, and how it stops if it
+    /// does.
+    fn access(&mut self, row: [u8; 4]) -> Acted {
         let [code, d, a, _] = row.map(usize::from);
-        let mut used = vec![];
+        let (mut used, mut words) = (vec![], vec![]);
         for t in self.enabled.clone() {
             let word = self.registers[t][a];
             let at = if code == usize::from(op::LOAD) {
@@ -72,31 +192,95 @@ impl Threads {
                 self.registers[t][d]
             } as usize;
             if at >= self.cells.len() {
-                return (used, Some("outside"));
+                return (used, words, Some("outside"));
             }
-            let met = |them: &BTreeSet<usize>| them.iter().any(|&other| other != t);
-            let (read, wrote, added) = (
-                met(&self.readers[at]),
-                met(&self.writers[at]),
-                met(&self.adders[at]),
-            );
-            let (races, mine) = match row[0] {
-                op::LOAD => (wrote || added, &mut self.readers),
-                op::STORE => (read || wrote || added, &mut self.writers),
-                _ => (read || wrote, &mut self.adders),
-            };
-            if races {
-                return (used, Some("race"));
+            if let Some((other, kind)) = self.conflict(row[0], t, at, word) {
+                self.race = Some((t, other, kind, at));
+                self.refuse(row[0], at, word);
+                return (used, words, Some("race"));
             }
-            mine[at].insert(t);
             match row[0] {
-                op::LOAD => self.registers[t][d] = self.cells[at],
-                op::STORE => self.cells[at] = word,
-                _ => self.cells[at] = self.cells[at].wrapping_add(word),
+                op::LOAD => {
+                    self.readers[at].insert(t);
+                    self.registers[t][d] = self.cells[at];
+                }
+                op::STORE => {
+                    if self.rule == Rule::OneWriter {
+                        self.writers[at].clear();
+                    }
+                    self.writers[at].insert(t);
+                    self.stores[at].values.push(word);
+                    self.cells[at] = word;
+                }
+                _ => {
+                    self.adders[at].insert(t);
+                    self.cells[at] = self.cells[at].wrapping_add(word);
+                }
             }
             used.push((t, at));
+            words.push(if row[0] == op::LOAD {
+                self.cells[at]
+            } else {
+                word
+            });
         }
-        (used, None)
+        (used, words, None)
+    }
+
+    /// The lowest thread with which an access conflicts, and the kind.
+    fn conflict(&self, code: u8, t: usize, at: usize, word: u32) -> Option<(usize, String)> {
+        let others = |them: &BTreeSet<usize>| -> BTreeSet<usize> {
+            them.iter().copied().filter(|&other| other != t).collect()
+        };
+        let (read, added) = (others(&self.readers[at]), others(&self.adders[at]));
+        let (wrote, stores) = (others(&self.writers[at]), &self.stores[at]);
+        let mut met = wrote.clone();
+        let let_through = match code {
+            op::STORE => {
+                let first = self.writers[at].first() == Some(&t);
+                let apart = self.rule == Rule::FirstThreadOnly && !first;
+                !apart && !stores.meet(self.rule, word, self.cells[at])
+            }
+            op::LOAD => self.rule == Rule::LoadLetThrough && !stores.marked(self.rule),
+            _ => self.rule == Rule::AddLetThrough && !stores.marked(self.rule),
+        };
+        if let_through {
+            met.clear();
+        }
+        if let_through && self.rule == Rule::BesidesLetThrough && !wrote.is_empty() {
+            return None;
+        }
+        let (shown, mine): (Vec<(char, &BTreeSet<usize>)>, char) = match code {
+            op::LOAD => (vec![('w', &met), ('a', &added)], 'r'),
+            op::STORE => (vec![('w', &met), ('a', &added), ('r', &read)], 'w'),
+            _ => (vec![('w', &met), ('r', &read)], 'a'),
+        };
+        let other = *shown.iter().filter_map(|(_, them)| them.first()).min()?;
+        let (mut letter, _) = *shown.iter().find(|(_, them)| them.contains(&other))?;
+        if self.rule == Rule::ShownAsStore && wrote.contains(&other) {
+            letter = 'w';
+        }
+        Some((other, format!("{letter}{mine}")))
+    }
+
+    /// A store that is refused sets nothing, unless by mistake.
+    fn refuse(&mut self, code: u8, at: usize, word: u32) {
+        let stores = &mut self.stores[at].values;
+        match self.rule {
+            Rule::RefusedIsFirst if code == op::STORE => *stores = vec![word],
+            Rule::RefusedMarks if code == op::STORE => stores.push(word),
+            _ => {}
+        }
+    }
+
+    /// All reader masks, writer masks, adder masks, first values and marks.
+    fn log(&self) -> Vec<u32> {
+        let mask = |them: &BTreeSet<usize>| them.iter().fold(0, |mask, &t| mask | 1 << t);
+        let masks = [&self.readers, &self.writers, &self.adders];
+        let firsts = self.stores.iter().map(|stores| stores.first(self.rule));
+        let marks = (self.stores.iter()).map(|stores| u32::from(stores.marked(self.rule)));
+        let masks = masks.into_iter().flatten().map(mask);
+        masks.chain(firsts).chain(marks).collect()
     }
 
     fn plain(&mut self, [code, d, a, b]: [u8; 4]) {
@@ -127,6 +311,7 @@ impl Threads {
         for log in [&mut self.readers, &mut self.writers, &mut self.adders] {
             log.iter_mut().for_each(BTreeSet::clear);
         }
+        self.stores.iter_mut().for_each(Stores::forget);
     }
 }
 
@@ -158,9 +343,21 @@ pub fn slow_run(
     threads: usize,
     limit: u32,
     cells: &[u32],
+    see: impl FnMut(Access),
+) -> Told {
+    run_by(Rule::Right, rows, threads, limit, cells, see)
+}
+
+/// As [`slow_run`], with a mistake.
+pub fn run_by(
+    rule: Rule,
+    rows: &[[u8; 4]],
+    threads: usize,
+    limit: u32,
+    cells: &[u32],
     mut see: impl FnMut(Access),
 ) -> Told {
-    let mut group = Threads::new(threads, cells);
+    let mut group = Threads::new(rule, threads, cells);
     let mut records = vec![[0, 0, 0]];
     // Saved masks, those of an IF with what it enabled, of a WHILE with its row.
     let mut open: Vec<(BTreeSet<usize>, BTreeSet<usize>, usize)> = vec![];
@@ -175,10 +372,11 @@ pub fn slow_run(
         let (mut next, mut paid, mut released) = (row + 1, 0, false);
         match rows[row] {
             access @ [op::LOAD | op::STORE | op::ATOMIC_ADD, ..] => {
-                let (used, stop) = group.access(access);
+                let (used, words, stop) = group.access(access);
                 let seen = Access {
                     row,
                     used,
+                    words,
                     finished: stop.is_none(),
                     interval: barriers as usize,
                 };
@@ -240,5 +438,8 @@ pub fn slow_run(
         rows: run,
         barriers,
         records,
+        log: group.log(),
+        race: group.race,
+        cells: group.cells,
     }
 }

@@ -1,0 +1,67 @@
+-- `access::make` meets its contract. Assumes nothing.
+use mathlib.Core.Path.{refl, sym, ap₂, _∙_, subst}
+use Prim.Native.Nat.{ℕ, _+_, _*_}
+use native.Mathlib.Omega.{arith}
+use lib.ListN.{length, getD}
+use lib.Pow.{pow-pos}
+use Rattle.layout.specs.Memory.{CellNumber, goesOn}
+use Rattle.layout.specs.Logging.{SameBut}
+use Rattle.layout.proofs.Reach.{entered-but}
+use Rattle.access.proofs.Accesses.{goes-alone, transfer-keeps, made-did}
+use borrow.Author.Needs.{needs}
+use Rattle.access.proofs.make.Statement.{statement}
+use Rattle.access.proofs.make.Tie as tie
+
+enter-requires : tie.Need-enter-requires
+enter-requires c κs =
+    let cell = c .before .before .index2 in
+    let start = c .before .before .before .before .before .before in
+    let args = start .args in
+    let pre = start .pre .1 in
+    let alone = goes-alone _ _ _ _ _ _ (start .pre .4) in (
+      record { known = pre .known; small = pre .small; sized = pre .sized; inside = omega (arith, alone .0, cell .ensures); few = pre .cells-few },
+      omega (arith, start .pre .2, pow-pos (args .t)),
+    )
+
+transfer-requires : tie.Need-transfer-requires
+transfer-requires c κs =
+    let thread = c .before .before .before .before .before .before .before .before .index in
+    let cell = c .before .before .before .before .before .before .before .index2 in
+    let start = c .before .before .before .before .before .before .before .before .before .before .before in
+    let alone = goes-alone _ _ _ _ _ _ (start .pre .4) in
+    (omega (arith, start .pre .0, thread .ensures), omega (arith, alone .0, cell .ensures), start .pre .1 .target, start .pre .1 .source)
+
+returns : tie.Need-returns
+returns c =
+    let at-enter = c .before .before .before .before .before .before .before in
+    let cell = at-enter .before .before .before .index2 in
+    let thread = at-enter .before .before .before .before .index in
+    let start = at-enter .before .before .before .before .before .before .before in
+    let args = start .args in
+    let pre = start .pre in
+    let number = subst (CellNumber (args .op) (args .d) (args .a) (args .t) (args .regs .now)) (sym (cell .ensures)) (pre .3) in
+    let value = getD (args .regs .now) (args .a * 32 + thread .result) 0 in
+    let alone = goes-alone (args .op) value (args .bit) (cell .result) (args .cells .now) (args .log .now)
+    (ap₂ (λ (j x : ℕ). goesOn (args .op) (getD (args .regs .now) (args .a * 32 + j) 0) (args .bit) x (args .cells .now) (args .log .now))
+    (thread .ensures) (cell .ensures) ∙ pre .4) in (
+      λ n m x o h ed ea s M.
+          made-did n (args .t) s (args .regs .now) (args .cells .now) (args .log .now) M h (args .op) (args .d) (args .a) (thread .result) (cell .result) m x o
+          (pre .1 .known) (pre .1 .small) number ed ea (pre .1 .target) (pre .1 .source) (thread .ensures)
+          (alone .0) (args .bit) _ value (pre .2) refl refl (omega (arith, alone .1)) (omega arith) _ _ _ (alone .1)
+          (c .before .before .transfer .ensures) (at-enter .enter .ensures),
+      transfer-keeps (args .op) (args .d) (args .t) (thread .result) _ (cell .result) (args .regs .now) (args .cells .now) _ _ (thread .ensures)
+          (c .before .before .transfer .ensures),
+      subst (λ k. SameBut k (length (args .cells .now)) (args .log .now) (at-enter .enter .last .0)) (cell .ensures)
+          (entered-but (args .op) value (length (args .cells .now)) (cell .result) (args .bit) (args .log .now) _ (alone .0) (at-enter .enter .ensures)),
+    )
+
+pub make-spec : {M : Type 1} → statement M
+make-spec =
+    tie.close
+    (tie.spec
+    (λ c κs. search needs) (λ c κs. search needs) (λ c. search needs) (λ c. search needs) (λ c. search needs)
+    (λ c. search needs)
+    enter-requires
+    transfer-requires
+    (λ c. search needs) (λ c. search needs)
+    returns)
