@@ -26,7 +26,7 @@ use Rattle.masks.proofs.Bits.{or-less}
 use Rattle.masks.proofs.Words.{any-none, any-some, lowest-is}
 use Rattle.layout.specs.declared.Access.{Access}
 use Rattle.layout.specs.declared.Access.the-variants.{Done, Stop}
-use Rattle.layout.specs.Memory.{Regs, LogIs, Memory, Did, OneTurn, KeptBut, AccessAsks, shapeBy, cellBy, Transferred, CellRegister, CellNumber, TestAsks, goesOn, Refused}
+use Rattle.layout.specs.Memory.{Regs, LogIs, Memory, Did, OneTurn, KeptBut, AccessAsks, shapeBy, cellBy, Transferred, CellRegister, CellNumber, TestAsks, goesOn}
 use Rattle.layout.proofs.Buffers.{regs-set}
 use Rattle.layout.specs.Logging.{testedWord, kindWord, enteredWords}
 use Rattle.layout.proofs.LogBuffer.{conflict-size}
@@ -76,25 +76,11 @@ pub passes : (w b : Bool) → w ≡ b → not w ≡ false → b ≡ true
 passes true b e q = sym e
 passes false b e q = absurd (false≢true (sym q))
 
--- A thread has one number, so what the code's number is refused for, every one is.
-pub refused-at : (op d a t : ℕ) (regs cells log : List ℕ) (x bit : ℕ) → bit ≡ 2 ^ t → CellNumber op d a t regs x
-    → goesOn op (getD regs (a * 32 + t) 0) bit x cells log ≡ false → Refused op d a t regs cells log
-refused-at op d a t regs cells log x bit eb N e y Y = ap₂ (λ (b z : ℕ). goesOn op (getD regs (a * 32 + t) 0) b z cells log) (sym eb) same ∙ e
-  where
-    by : Dec (op ≡ 16) → Y .register ≡ N .register
-    by (yes q) = Y .in-register .of-load q ∙ sym (N .in-register .of-load q)
-    by (no q) = Y .in-register .of-other q ∙ sym (N .in-register .of-other q)
-
-    same : y ≡ x
-    same = Y .word ∙ ap (λ (r : ℕ). getD regs (r * 32 + t) 0) (by (ℕ-discrete op 16)) ∙ sym (N .word)
-
--- A refused access of a cell that is there meets somebody: j, y and bit are the code's numbers of thread, cell and bit.
-pub refused-foe : (op d a t : ℕ) (regs cells log : List ℕ) (j x y met bit : ℕ) → Refused op d a t regs cells log → j ≡ t → CellNumber op d a t regs x → y ≡ x
-    → y < length cells → bit ≡ 2 ^ t → met ≡ bitOr (testedWord op (getD regs (a * 32 + j) 0) (length cells) y log) bit → met ≡ bit → ⊥
-refused-foe op d a t regs cells log j x y met bit F ej N ey l eb e =
-    goes-not op (getD regs (a * 32 + j) 0) bit y cells log met
-    (ap₂ (λ (u z : ℕ). goesOn op (getD regs (a * 32 + u) 0) bit z cells log) ej ey
-    ∙ ap (λ (b : ℕ). goesOn op (getD regs (a * 32 + t) 0) b x cells log) eb ∙ F x N) l e
+-- A refused access of a cell that is there meets somebody: j and y are the code's numbers of thread and cell.
+pub refused-foe : (op a t : ℕ) (regs cells log : List ℕ) (j x y met bit : ℕ) → goesOn op (getD regs (a * 32 + t) 0) bit x cells log ≡ false → j ≡ t → y ≡ x
+    → y < length cells → met ≡ bitOr (testedWord op (getD regs (a * 32 + j) 0) (length cells) y log) bit → met ≡ bit → ⊥
+refused-foe op a t regs cells log j x y met bit F ej ey l e =
+    goes-not op (getD regs (a * 32 + j) 0) bit y cells log met (ap₂ (λ (u z : ℕ). goesOn op (getD regs (a * 32 + u) 0) bit z cells log) ej ey ∙ F) l e
 
 -- An access stores to no register but its own lane of register d; what follows one another keeps what all keep.
 pub transfer-keeps : (op d t j from i : ℕ) (regs cells regs′ cells′ : List ℕ) → j ≡ t → Transferred op (d * 32 + j) from i regs cells regs′ cells′

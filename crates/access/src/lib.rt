@@ -1,11 +1,11 @@
 // One thread's LOAD (16), STORE (17) or ATOMIC ADD (18): one path for all three.
 ghost use mathlib.Core.Path.{_≡_};
-ghost use mathlib.Core.Bool.{true};
+ghost use mathlib.Core.Bool.{true, false};
 ghost use Prim.Native.Nat.{_+_, _*_, _^_, _<_};
 ghost use lib.ListN.{length, getD};
 ghost use Rattle.layout.specs.Logging.{SameBut};
 ghost use Rattle.layout.specs.declared.Access.the-variants as access;
-ghost use Rattle.layout.specs.Memory.{AccessAsks, AccessOne, KeptBut, Transferred, CellRegister, CellNumber, TestAsks, goesOn, Refused};
+ghost use Rattle.layout.specs.Memory.{AccessAsks, AccessOne, KeptBut, Transferred, CellRegister, CellNumber, TestAsks, goesOn};
 
 fn index(x: u32) -> usize
     ensures { λ r. ⌜ r ≡ x ⌝ }
@@ -101,28 +101,29 @@ pub fn make(
     transfer(regs, cells, j, i, op, d, a);
 }
 
-// Why thread t's access does not go on.
+// Why thread t's access, of the cell numbered x, does not go on.
 pub fn verdict(
     regs: &[u32; 512],
     cells: &[u32],
     log: &[u32],
+    x: u32,
     t: u32,
+    bit: u32,
     op: u8,
     d: usize,
     a: usize,
 ) -> spec::Verdict
-    requires { ⌜ (t < 32) × AccessAsks op d a (now cells) (now log) × Refused op d a t (now regs) (now cells) (now log) ⌝ }
+    requires { ⌜ (t < 32) × AccessAsks op d a (now cells) (now log) × (bit ≡ 2 ^ t) × CellNumber op d a t (now regs) x
+        × (goesOn op (getD (now regs) (a * 32 + t) 0) bit x (now cells) (now log) ≡ false) ⌝ }
     ensures { λ r. ⌜ AccessOne op t d a (now (regs .entry)) (now (cells .entry)) (now (log .entry)) (access.Stop r)
         (now (regs .entry)) (now (cells .entry)) (now (log .entry)) ⌝ }
 {
-    let x = cell_number(regs, t, op, d, a);
     let j = index(t);
     let i = index(x);
     let n = cells.len();
     if n <= i {
         return spec::Verdict::Outside(t, x);
     }
-    let bit: u32 = 1 << t;
     let v = regs[a * 32 + j];
     let met = accesslog::met(log, n, i, bit, v, op);
     let other = masks::lowest(met - bit);

@@ -171,10 +171,6 @@ AccessAll op n mask d a regs cells log r regs′ cells′ log′ =
 unfoldable pub goesOn : (op v bit x : ℕ) → (cells log : List ℕ) → Bool
 goesOn op v bit x cells log = cond (leb (length cells) x) false (eqb (bitOr (testedWord op v (length cells) x log) bit) bit)
 
--- Thread t's does not.
-abbrev pub Refused : (op d a t : ℕ) → (regs cells log : List ℕ) → Type 0
-Refused op d a t regs cells log = (x : ℕ) → CellNumber op d a t regs x → goesOn op (getD regs (a * 32 + t) 0) (2 ^ t) x cells log ≡ false
-
 -- What asking that takes.
 pub record TestAsks (op a : ℕ) (cells log : List ℕ) : Type 0 where
   pub known : 16 ≤ op
@@ -183,16 +179,19 @@ pub record TestAsks (op a : ℕ) (cells log : List ℕ) : Type 0 where
   pub sized : length log ≡ logPerCell * length cells
   pub cells-few : length cells ≤ 1024
 
--- A row's accesses up to the thread at which they halt: where that one's access stops, the row stops with the same verdict.
-pub record Halted (op n mask d a : ℕ) (regs cells log : List ℕ) (t : ℕ) (regs′ cells′ log′ : List ℕ) : Type 0 where
-  pub inside : t < n
-  pub refused : Refused op d a t regs′ cells′ log′
-  pub stops : (v : Verdict) → AccessOne op t d a regs′ cells′ log′ (Stop v) regs′ cells′ log′ → AccessAll op n mask d a regs cells log (Stop v) regs′ cells′ log′
+-- A row's accesses up to the thread at which they halt, whose access does not go on: where that one stops, the row stops with the same verdict.
+pub record Halted (op n mask d a : ℕ) (regs cells log : List ℕ) (r : Halt) (regs′ cells′ log′ : List ℕ) : Type 0 where
+  pub inside : r .thread < n
+  pub bit-is : r .bit ≡ 2 ^ r .thread
+  pub number : CellNumber op d a (r .thread) regs′ (r .cell)
+  pub refused : goesOn op (getD regs′ (a * 32 + r .thread) 0) (r .bit) (r .cell) cells′ log′ ≡ false
+  pub stops : (v : Verdict) → AccessOne op (r .thread) d a regs′ cells′ log′ (Stop v) regs′ cells′ log′
+      → AccessAll op n mask d a regs cells log (Stop v) regs′ cells′ log′
 
 abbrev pub AccessLoop : (op n mask d a : ℕ) → (regs cells log : List ℕ) → Halt → (regs′ cells′ log′ : List ℕ) → Type 0
 AccessLoop op n mask d a regs cells log r regs′ cells′ log′ =
     (r .thread ≡ n → AccessAll op n mask d a regs cells log Done regs′ cells′ log′)
-    × ((r .thread ≡ n → ⊥) → Halted op n mask d a regs cells log (r .thread) regs′ cells′ log′)
+    × ((r .thread ≡ n → ⊥) → Halted op n mask d a regs cells log r regs′ cells′ log′)
     × (length cells′ ≡ length cells) × (length log′ ≡ length log)
     × KeptBut d n regs regs′ × SameAbove (r .reach) (length cells) log log′
 

@@ -9,9 +9,12 @@ pub enum Access {
     Stop(spec::Verdict),
 }
 
-// The thread at which a row's accesses halt, or the number of threads where none does; and a number that no cell which they accessed is above.
+// The thread at which a row's accesses halt, or the number of threads where none does, its bit and the number of its cell; and a number that no
+// cell which they accessed is above. Four words: with two, the registers would lie between two vectors' places in the run's frame.
 pub struct Halt {
     pub thread: u32,
+    pub bit: u32,
+    pub cell: u32,
     pub reach: u32,
 }
 

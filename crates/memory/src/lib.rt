@@ -25,6 +25,8 @@ fn access_all(
         if !access::goes_on(regs, cells, log, x, t, bit, op, a) {
             return layout::Halt {
                 thread: t,
+                bit: bit,
+                cell: x,
                 reach: reach,
             };
         }
@@ -34,6 +36,8 @@ fn access_all(
     }
     layout::Halt {
         thread: n,
+        bit: bit,
+        cell: 0,
         reach: reach,
     }
 }
@@ -64,6 +68,8 @@ fn access_enabled(
             if !access::goes_on(regs, cells, log, x, t, bit, op, a) {
                 return layout::Halt {
                     thread: t,
+                    bit: bit,
+                    cell: x,
                     reach: reach,
                 };
             }
@@ -75,6 +81,8 @@ fn access_enabled(
     }
     layout::Halt {
         thread: n,
+        bit: bit,
+        cell: 0,
         reach: reach,
     }
 }
@@ -170,7 +178,17 @@ pub fn access_row(
     }
     // What stopped it is looked for once, outside the loops.
     layout::Turns {
-        access: layout::Access::Stop(access::verdict(regs, cells, log, r.thread, op, d, a)),
+        access: layout::Access::Stop(access::verdict(
+            regs,
+            cells,
+            log,
+            r.cell,
+            r.thread,
+            r.bit,
+            op,
+            d,
+            a,
+        )),
         reach: r.reach,
     }
 }

@@ -2,7 +2,6 @@
 use mathlib.Core.Path.{refl, sym, subst}
 use native.Mathlib.Omega.{arith}
 use lib.ListN.{length}
-use Rattle.masks.proofs.Bits.{one-bit}
 use Rattle.layout.specs.Memory.{CellNumber}
 use Rattle.access.proofs.Accesses.{bit-met, refused-foe, outside-did, race-did}
 use borrow.Author.Needs.{needs}
@@ -11,22 +10,21 @@ use Rattle.access.proofs.verdict.Tie as tie
 
 returns : tie.Need-returns
 returns c =
-    let number = c .before .before .before .cell-number in
     let cell = c .before .index2 in
     let thread = c .before .before .index in
-    let start = c .before .before .before .before .before .before in
+    let start = c .before .before .before .before .before in
     let args = start .args in
     let pre = start .pre .1 in
-    let its = subst (CellNumber (args .op) (args .d) (args .a) (args .t) (args .regs .now)) (sym (cell .ensures)) (number .ensures) in
+    let number = subst (CellNumber (args .op) (args .d) (args .a) (args .t) (args .regs .now)) (sym (cell .ensures)) (start .pre .3) in
     λ n m x o h ed ea s M.
     outside-did n (args .t) s (args .regs .now) (args .cells .now) (args .log .now) M h (args .op) (args .d) (args .a) (thread .result) (cell .result) m x o
-    (pre .known) (pre .small) its ed ea (pre .target) (pre .source) (thread .ensures) _ (sym (cell .ensures)) (c .if1 .taken)
+    (pre .known) (pre .small) number ed ea (pre .target) (pre .source) (thread .ensures) _ (sym (cell .ensures)) (c .if1 .taken)
 
 sub-lowest : tie.Need-sub-lowest
 sub-lowest c =
     let cell = c .before .before .before .index2 in
-    let args = c .before .before .before .before .before .before .before .before .args in
-    bit-met (args .op) _ (length (args .cells .now)) (cell .result) (args .log .now) _ _ (c .met .ensures)
+    let args = c .before .before .before .before .before .before .before .args in
+    bit-met (args .op) _ (length (args .cells .now)) (cell .result) (args .log .now) _ (args .bit) (c .met .ensures)
 
 race-kind-requires : tie.Need-race-kind-requires
 race-kind-requires c κs =
@@ -34,14 +32,12 @@ race-kind-requires c κs =
     let within = c .before .before .before .if1 .left in
     let cell = c .before .before .before .before .index2 in
     let thread = c .before .before .before .before .before .index in
-    let number = c .before .before .before .before .before .before .cell-number in
-    let start = c .before .before .before .before .before .before .before .before .before in
+    let start = c .before .before .before .before .before .before .before .before in
     let args = start .args in
     let pre = start .pre .1 in
-    let foe = refused-foe (args .op) (args .d) (args .a) (args .t) (args .regs .now) (args .cells .now) (args .log .now) (thread .result) (number .result)
-    (cell .result) (met .result) _ (start .pre .2) (thread .ensures) (number .ensures) (cell .ensures) (omega (arith, within))
-    (one-bit (args .t) (start .pre .0)) (met .ensures) in
-    let more = bit-met (args .op) _ (length (args .cells .now)) (cell .result) (args .log .now) _ _ (met .ensures) in (
+    let foe = refused-foe (args .op) (args .a) (args .t) (args .regs .now) (args .cells .now) (args .log .now) (thread .result) (args .x) (cell .result)
+    (met .result) (args .bit) (start .pre .4) (thread .ensures) (cell .ensures) (omega (arith, within)) (met .ensures) in
+    let more = bit-met (args .op) _ (length (args .cells .now)) (cell .result) (args .log .now) _ (args .bit) (met .ensures) in (
       c .lowest .ensures .1 (omega (arith, more, foe)),
       record { known = pre .known; small = pre .small; sized = pre .sized; inside = omega (arith, within); few = pre .cells-few },
     )
@@ -53,28 +49,25 @@ returns-2 c =
     let within = c .before .before .before .before .if1 .left in
     let cell = c .before .before .before .before .before .index2 in
     let thread = c .before .before .before .before .before .before .index in
-    let number = c .before .before .before .before .before .before .before .cell-number in
-    let start = c .before .before .before .before .before .before .before .before .before .before in
+    let start = c .before .before .before .before .before .before .before .before .before in
     let args = start .args in
     let pre = start .pre .1 in
-    let bit = one-bit (args .t) (start .pre .0) in
-    let foe = refused-foe (args .op) (args .d) (args .a) (args .t) (args .regs .now) (args .cells .now) (args .log .now) (thread .result) (number .result)
-    (cell .result) (met .result) _ (start .pre .2) (thread .ensures) (number .ensures) (cell .ensures) (omega (arith, within)) bit (met .ensures) in
-    let its = subst (CellNumber (args .op) (args .d) (args .a) (args .t) (args .regs .now)) (sym (cell .ensures)) (number .ensures) in
+    let foe = refused-foe (args .op) (args .a) (args .t) (args .regs .now) (args .cells .now) (args .log .now) (thread .result) (args .x) (cell .result)
+    (met .result) (args .bit) (start .pre .4) (thread .ensures) (cell .ensures) (omega (arith, within)) (met .ensures) in
+    let number = subst (CellNumber (args .op) (args .d) (args .a) (args .t) (args .regs .now)) (sym (cell .ensures)) (start .pre .3) in
     λ n m x o h ed ea s M.
     race-did n (args .t) s (args .regs .now) (args .cells .now) (args .log .now) M h (args .op) (args .d) (args .a) (thread .result) (cell .result) m x o
-    (pre .known) (pre .small) its ed ea (pre .target) (pre .source) (thread .ensures)
-    (omega (arith, within)) _ (met .result) _ bit refl (met .ensures) (omega arith) (omega arith) _ _ _ (sym (cell .ensures)) foe
+    (pre .known) (pre .small) number ed ea (pre .target) (pre .source) (thread .ensures)
+    (omega (arith, within)) (args .bit) (met .result) _ (start .pre .2) refl (met .ensures) (omega arith) (omega arith) _ _ _ (sym (cell .ensures)) foe
     (lowest .ensures .0) (c .race-kind .ensures)
 
 pub verdict-spec : {M : Type 1} → statement M
 verdict-spec =
     tie.close
     (tie.spec
-    (λ c κs. search needs) (λ c κs. search needs) (λ c κs. search needs)
+    (λ c κs. search needs) (λ c κs. search needs)
     returns
-    (λ c. search needs) (λ c. search needs) (λ c. search needs) (λ c. search needs) (λ c. search needs)
-    (λ c κs. search needs)
+    (λ c. search needs) (λ c. search needs) (λ c. search needs) (λ c. search needs) (λ c κs. search needs)
     sub-lowest
     (λ c κs. search needs)
     race-kind-requires

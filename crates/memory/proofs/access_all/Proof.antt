@@ -11,7 +11,7 @@ use Rattle.layout.specs.Logging.{SameAbove}
 use Rattle.layout.proofs.Reach.{same-more}
 use Rattle.layout.proofs.Turning.{Turning, Turns, turn-start, turn-whole, turn-in, turn-stop}
 use Rattle.masks.proofs.Bits.{next-bit, left-odd, left-less}
-use Rattle.access.proofs.Accesses.{asks-still, test-still, turn-still, halts, passes, refused-at, keeps-on}
+use Rattle.access.proofs.Accesses.{asks-still, test-still, turn-still, halts, passes, keeps-on}
 use Rattle.memory.proofs.access_all.Statement.{statement}
 use Rattle.memory.proofs.access_all.Tie as tie
 
@@ -72,8 +72,9 @@ returns c =
       λ e. absurd (omega (arith, some-left, e)),
       λ e. record {
         inside = some-left;
-        refused = refused-at (args .op) (args .d) (args .a) (turn .t) (turn .regs) (turn .cells) (turn .log) (number .result) (turn .bit) bit (number .ensures)
-            (halts _ _ (c .before .goes-on .ensures) (c .if1 .taken));
+        bit-is = bit;
+        number = number .ensures;
+        refused = halts _ _ (c .before .goes-on .ensures) (c .if1 .taken);
         stops = λ v D y x o ed ea s q l M.
             turn-stop (accessTurn (shapeBy (args .n) memory) y x) (args .n) s (turn .t) (2 ^ (args .n - turn .t) - 1) (turn .regs) (turn .cells) (turn .log)
             (turn .inv .3 y x o ed ea s q l M) v (turn .regs) (turn .cells) (turn .log) some-left (left-odd (args .n) (turn .t) some-left)

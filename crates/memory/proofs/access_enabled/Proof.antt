@@ -12,7 +12,7 @@ use Rattle.layout.specs.Logging.{SameAbove}
 use Rattle.layout.proofs.Reach.{same-more}
 use Rattle.layout.proofs.Turning.{Turns, turn-start, turn-whole, go-in, go-out, turn-stop}
 use Rattle.masks.proofs.Bits.{next-bit, left-some, left-half}
-use Rattle.access.proofs.Accesses.{asks-still, test-still, turn-still, halts, passes, refused-at, keeps-on}
+use Rattle.access.proofs.Accesses.{asks-still, test-still, turn-still, halts, passes, keeps-on}
 use Rattle.memory.proofs.access_enabled.Statement.{statement}
 use Rattle.memory.proofs.access_enabled.Tie as tie
 
@@ -79,8 +79,9 @@ returns c =
       λ e. absurd (omega (arith, some-left, e)),
       λ e. record {
         inside = some-left;
-        refused = refused-at (args .op) (args .d) (args .a) (turn .t) (turn .regs) (turn .cells) (turn .log) (number .result) (turn .bit) bit (number .ensures)
-            (halts _ _ (c .before .goes-on .ensures) (c .if2 .taken));
+        bit-is = bit;
+        number = number .ensures;
+        refused = halts _ _ (c .before .goes-on .ensures) (c .if2 .taken);
         stops = λ v D y x o ed ea s q l M.
             turn-stop (accessTurn (shapeBy (args .n) memory) y x) (args .n) s (turn .t) (turn .m) (turn .regs) (turn .cells) (turn .log)
             (turn .inv .4 y x o ed ea s q l M) v (turn .regs) (turn .cells) (turn .log) some-left enabled

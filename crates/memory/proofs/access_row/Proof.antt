@@ -16,7 +16,7 @@ verdict-requires c κs =
     let start = c .before .before .before .before .before .before .before .before .before .before .before .before .before .before .before in
     let pre = start .pre .1 in
     let halted = made .1 (c .before .before .before .if1 .left) in
-    (omega (arith, halted .inside, pre .1 .memory .few), asks-still _ _ _ _ _ _ _ (pre .0) (made .2) (made .3), halted .refused)
+    (omega (arith, halted .inside, pre .1 .memory .few), asks-still _ _ _ _ _ _ _ (pre .0) (made .2) (made .3), halted .bit-is, halted .number, halted .refused)
 
 returns-2 : tie.Need-returns-2
 returns-2 c =
