@@ -3,7 +3,7 @@ use mathlib.Core.Path.{_≡_, refl, sym, _∙_, ap, ap₂, subst, subst₂}
 use mathlib.Core.Logic.{_⊎_, inl, inr}
 use mathlib.Core.List.{List, []}
 use mathlib.Core.Bool.{Bool, true, false, cond, not, false≢true}
-use Prim.Native.Nat.{ℕ, _+_, _-_, _*_, _^_, _<_, _≤_}
+use Prim.Native.Nat.{ℕ, _+_, _-_, _*_, _%_, _^_, _<_, _≤_}
 use native.Mathlib.Omega.{arith}
 use native.Mathlib.Decide.{ℕ-discrete, decLt}
 use borrow.Author.Tests.{eq-eqb, ne-eqb, eqb-true, le-leb, lt-leb}
@@ -26,12 +26,13 @@ use Rattle.masks.proofs.Bits.{or-less}
 use Rattle.masks.proofs.Words.{any-none, any-some, lowest-is}
 use Rattle.layout.specs.declared.Access.{Access}
 use Rattle.layout.specs.declared.Access.the-variants.{Done, Stop}
-use Rattle.layout.specs.Memory.{Regs, LogIs, Memory, Did, OneTurn, KeptBut, AccessAsks, shapeBy, cellBy, Transferred, CellRegister, CellNumber, TestAsks, goesOn}
+use Rattle.layout.specs.declared.Halt.{Halt}
+use Rattle.layout.specs.Memory.{Regs, LogIs, Memory, Did, OneTurn, KeptBut, AccessAsks, shapeBy, cellBy, Transferred, CellRegister, CellNumber, TestAsks, goesOn, Halted}
 use Rattle.layout.proofs.Buffers.{regs-set}
 use Rattle.layout.specs.Logging.{testedWord, kindWord, enteredWords}
 use Rattle.layout.proofs.LogBuffer.{conflict-size}
 use Rattle.layout.proofs.Reach.{or-left, or-right}
-use Rattle.layout.proofs.Turning.{kept-none}
+use Rattle.layout.proofs.Turning.{Turns, kept-none, turn-stop}
 use Rattle.accesslog.proofs.LogTests.{which, mem-load, mem-store, mem-add, conflict-means, entered-means, kind-means}
 
 -- What a STORE and an ATOMIC ADD leave in the cell.
@@ -116,6 +117,24 @@ pub turn-still : (n t : ℕ) (y : Mem) (x : Row) (cells₀ regs cells log regs�
     → OneTurn (accessTurn (shapeBy n cells₀) y x) n t regs cells log r regs′ cells′ log′
 turn-still n t y x cells₀ regs cells log regs′ cells′ log′ r e d =
     subst (λ k. OneTurn (accessTurn (record { threads = n; cells = k }) y x) n t regs cells log r regs′ cells′ log′) e d
+
+-- What a loop over a row's threads has shown where it halts at thread r .thread, m being what is left of the mask.
+pub halted-at : (op n mask d a : ℕ) (regs₀ cells₀ log₀ : List ℕ) (r : Halt) (m : ℕ) (regs cells log : List ℕ) → r .thread < n → m % 2 ≡ 1
+    → length cells ≡ length cells₀ → r .bit ≡ 2 ^ r .thread → CellNumber op d a (r .thread) regs (r .cell)
+    → goesOn op (getD regs (a * 32 + r .thread) 0) (r .bit) (r .cell) cells log ≡ false
+    → ((y : Mem) (x : Row) → opOf op ≡ MEM y → x .d ≡ d → x .a ≡ a
+    → Turns (accessTurn (shapeBy n cells₀) y x) n mask regs₀ cells₀ log₀ (r .thread) m regs cells log)
+    → Halted op n mask d a regs₀ cells₀ log₀ r regs cells log
+halted-at op n mask d a regs₀ cells₀ log₀ r m regs cells log h odd e b N g T =
+    record {
+      inside = h;
+      bit-is = b;
+      number = N;
+      refused = g;
+      stops = λ v D y x o ed ea s q l M.
+          turn-stop (accessTurn (shapeBy n cells₀) y x) n s (r .thread) m regs cells log (T y x o ed ea s q l M) v regs cells log h odd
+          (turn-still n (r .thread) y x cells₀ _ _ _ _ _ _ _ e (D n y x o h ed ea));
+    }
 
 pub keeps-on : (d n t : ℕ) (xs ys zs : List ℕ) → t < n → KeptBut d n xs ys → KeptBut d (t + 1) ys zs → KeptBut d n xs zs
 keeps-on d n t xs ys zs h K J i off = J i (λ j l e. off j (omega arith) e) ∙ K i off

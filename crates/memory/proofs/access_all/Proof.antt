@@ -9,9 +9,9 @@ use Rattle.spec.specs.LockStep.{accessTurn}
 use Rattle.layout.specs.Memory.{KeptBut, shapeBy}
 use Rattle.layout.specs.Logging.{SameAbove}
 use Rattle.layout.proofs.Reach.{same-more}
-use Rattle.layout.proofs.Turning.{Turning, Turns, turn-start, turn-whole, turn-in, turn-stop}
+use Rattle.layout.proofs.Turning.{Turning, Turns, turn-start, turn-whole, turn-in}
 use Rattle.masks.proofs.Bits.{next-bit, left-odd, left-less}
-use Rattle.access.proofs.Accesses.{asks-still, test-still, turn-still, halts, passes, keeps-on}
+use Rattle.access.proofs.Accesses.{asks-still, test-still, turn-still, halts, passes, halted-at, keeps-on}
 use Rattle.memory.proofs.access_all.Statement.{statement}
 use Rattle.memory.proofs.access_all.Tie as tie
 
@@ -70,16 +70,9 @@ returns c =
     let memory = args .cells .now in
     let bit = turn .inv .4 (omega (arith, some-left, start .pre .1 .memory .few)) in (
       λ e. absurd (omega (arith, some-left, e)),
-      λ e. record {
-        inside = some-left;
-        bit-is = bit;
-        number = number .ensures;
-        refused = halts _ _ (c .before .goes-on .ensures) (c .if1 .taken);
-        stops = λ v D y x o ed ea s q l M.
-            turn-stop (accessTurn (shapeBy (args .n) memory) y x) (args .n) s (turn .t) (2 ^ (args .n - turn .t) - 1) (turn .regs) (turn .cells) (turn .log)
-            (turn .inv .3 y x o ed ea s q l M) v (turn .regs) (turn .cells) (turn .log) some-left (left-odd (args .n) (turn .t) some-left)
-            (turn-still (args .n) (turn .t) y x memory _ _ _ _ _ _ _ (turn .inv .1) (D (args .n) y x o some-left ed ea));
-      },
+      λ e. halted-at (args .op) (args .n) _ (args .d) (args .a) (args .regs .now) memory (args .log .now) _ (2 ^ (args .n - turn .t) - 1) (turn .regs) (turn .cells) (turn .log)
+          some-left (left-odd (args .n) (turn .t) some-left) (turn .inv .1) bit (number .ensures)
+          (halts _ _ (c .before .goes-on .ensures) (c .if1 .taken)) (turn .inv .3),
       turn .inv .1,
       turn .inv .2,
       turn .inv .5,

@@ -10,9 +10,9 @@ use Rattle.spec.specs.LockStep.{accessTurn}
 use Rattle.layout.specs.Memory.{KeptBut, shapeBy}
 use Rattle.layout.specs.Logging.{SameAbove}
 use Rattle.layout.proofs.Reach.{same-more}
-use Rattle.layout.proofs.Turning.{Turns, turn-start, turn-whole, go-in, go-out, turn-stop}
+use Rattle.layout.proofs.Turning.{Turns, turn-start, turn-whole, go-in, go-out}
 use Rattle.masks.proofs.Bits.{next-bit, left-some, left-half}
-use Rattle.access.proofs.Accesses.{asks-still, test-still, turn-still, halts, passes, keeps-on}
+use Rattle.access.proofs.Accesses.{asks-still, test-still, turn-still, halts, passes, halted-at, keeps-on}
 use Rattle.memory.proofs.access_enabled.Statement.{statement}
 use Rattle.memory.proofs.access_enabled.Tie as tie
 
@@ -77,16 +77,9 @@ returns c =
     let some-left = left-some (args .n) (turn .t) (turn .m) (turn .inv .1) (at-test .loop-test .taken) in
     let bit = turn .inv .5 (omega (arith, some-left, start .pre .1 .1 .memory .few)) in (
       λ e. absurd (omega (arith, some-left, e)),
-      λ e. record {
-        inside = some-left;
-        bit-is = bit;
-        number = number .ensures;
-        refused = halts _ _ (c .before .goes-on .ensures) (c .if2 .taken);
-        stops = λ v D y x o ed ea s q l M.
-            turn-stop (accessTurn (shapeBy (args .n) memory) y x) (args .n) s (turn .t) (turn .m) (turn .regs) (turn .cells) (turn .log)
-            (turn .inv .4 y x o ed ea s q l M) v (turn .regs) (turn .cells) (turn .log) some-left enabled
-            (turn-still (args .n) (turn .t) y x memory _ _ _ _ _ _ _ (turn .inv .2) (D (args .n) y x o some-left ed ea));
-      },
+      λ e. halted-at (args .op) (args .n) _ (args .d) (args .a) (args .regs .now) memory (args .log .now) _ (turn .m) (turn .regs) (turn .cells) (turn .log)
+          some-left enabled (turn .inv .2) bit (number .ensures)
+          (halts _ _ (c .before .goes-on .ensures) (c .if2 .taken)) (turn .inv .4),
       turn .inv .2,
       turn .inv .3,
       turn .inv .6,
