@@ -37,7 +37,7 @@ pub record Access : Type 0 where
   pub cell : ℕ
   pub kind : Kind
 
--- The value that an access brings; a load brings none.
+-- The value that an access brings. A load brings none: its 0 is never looked at.
 unfoldable pub valueOf : Kind → ℕ
 valueOf load = 0
 valueOf (store v) = v
