@@ -1,32 +1,17 @@
 //! What item 5 asks of the launches: bank conflicts of all kinds, by all kinds of
 //! rows, in intervals and at stops of all kinds, and lists that are full.
 
+mod common;
 mod slow;
 
-use std::collections::{BTreeMap, BTreeSet};
+use std::collections::BTreeSet;
 
 use checker::{bare_launch, log_words, op, INTERVAL_RECORDS, INTERVAL_WORDS, MAX_LIMIT};
+use common::Counts;
 use generator::Plan;
 use slow::{cost, slow_run, Access, Told};
 
 const SEEDS: u64 = 6_000;
-
-#[derive(Default)]
-struct Counts(BTreeMap<String, usize>);
-
-impl Counts {
-    fn see(&mut self, name: impl Into<String>, seen: bool) {
-        *self.0.entry(name.into()).or_default() += usize::from(seen);
-    }
-
-    /// Fails for each that was looked for in a launch and found in fewer than
-    /// `least`.
-    fn expect(&self, least: usize) {
-        println!("{:#?}", self.0);
-        let rare: Vec<_> = self.0.iter().filter(|(_, &n)| n < least).collect();
-        assert!(rare.is_empty(), "fewer than {least} times: {rare:?}");
-    }
-}
 
 /// Sound launches that take a moment only, with their accesses.
 fn launches() -> impl Iterator<Item = (Plan, Told, Vec<Access>)> {

@@ -1,32 +1,16 @@
 //! The edges that few launches would have by chance: each occurs often enough
 //! among the first few thousand seeds.
 
-use std::collections::BTreeMap;
+mod common;
 
 use checker::{
     bare_launch, log_words, op, AccessKind, Outcome, Refusal, Verdict, INTERVAL_WORDS, MAX_FILE,
     MAX_LIMIT, MAX_ROWS,
 };
+use common::{around, Counts};
 use generator::{BareLaunch, Plan};
 
 const SEEDS: u64 = 4_000;
-
-#[derive(Default)]
-struct Counts(BTreeMap<String, usize>);
-
-impl Counts {
-    fn see(&mut self, name: impl Into<String>, seen: bool) {
-        *self.0.entry(name.into()).or_default() += usize::from(seen);
-    }
-
-    /// Fails for each edge that was looked for and seen fewer than `least`
-    /// times.
-    fn expect(&self, least: usize) {
-        println!("{:#?}", self.0);
-        let rare: Vec<_> = self.0.iter().filter(|(_, &n)| n < least).collect();
-        assert!(rare.is_empty(), "fewer than {least} times: {rare:?}");
-    }
-}
 
 /// Whether some line of a file has this key and a value of this kind.
 fn has(file: &[u8], key: &str, value: impl Fn(&[u8]) -> bool) -> bool {
@@ -915,26 +899,6 @@ fn intervals(plan: &Plan, ran: &Ran) -> Vec<Interval> {
         from = end;
     }
     found
-}
-
-/// The constructs around a row, outermost first: I, E for the arm behind an
-/// ELSE, W.
-fn around(rows: &[[u8; 4]], row: usize) -> String {
-    let mut open = String::new();
-    for row in &rows[..row] {
-        match row[0] {
-            op::IF => open.push('I'),
-            op::WHILE => open.push('W'),
-            op::ELSE | op::ENDIF | op::ENDWHILE => {
-                open.pop();
-            }
-            _ => {}
-        }
-        if row[0] == op::ELSE {
-            open.push('E');
-        }
-    }
-    open
 }
 
 /// Launches that come to a counted barrier within a moment, and their

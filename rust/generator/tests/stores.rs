@@ -2,33 +2,19 @@
 //! likely shows in many of the first launches, and each way in which stores
 //! meet is among them.
 
+mod common;
 mod slow;
 
 use std::collections::{BTreeMap, BTreeSet};
 
 use checker::op;
+use common::{around, Counts};
 use generator::Plan;
 use slow::{run_by, Access, Rule, Told};
 
 const SEEDS: u64 = 8_000;
 /// Longer runs are left out.
 const ROWS: u32 = 400;
-
-#[derive(Default)]
-struct Counts(BTreeMap<String, usize>);
-
-impl Counts {
-    fn see(&mut self, name: impl Into<String>, seen: bool) {
-        *self.0.entry(name.into()).or_default() += usize::from(seen);
-    }
-
-    /// Fails for each that was looked for and seen fewer than `least` times.
-    fn expect(&self, least: usize) {
-        println!("{:#?}", self.0);
-        let rare: Vec<_> = self.0.iter().filter(|(_, &n)| n < least).collect();
-        assert!(rare.is_empty(), "fewer than {least} times: {rare:?}");
-    }
-}
 
 const MISTAKES: [Rule; 23] = [
     Rule::EqualRefused,
@@ -174,25 +160,6 @@ fn threads(stores: &[&Use]) -> BTreeSet<usize> {
 
 fn values(stores: &[&Use]) -> BTreeSet<u32> {
     stores.iter().map(|used| used.word).collect()
-}
-
-/// The constructs around a row: I, E for the arm behind an ELSE, W.
-fn around(rows: &[[u8; 4]], row: usize) -> String {
-    let mut open = String::new();
-    for row in &rows[..row] {
-        match row[0] {
-            op::IF => open.push('I'),
-            op::WHILE => open.push('W'),
-            op::ELSE | op::ENDIF | op::ENDWHILE => {
-                open.pop();
-            }
-            _ => {}
-        }
-        if row[0] == op::ELSE {
-            open.push('E');
-        }
-    }
-    open
 }
 
 /// Flags that several threads set to one value, in launches that pass.
