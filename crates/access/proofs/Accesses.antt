@@ -15,13 +15,13 @@ use lib.Seq.{set-getD, getD-set-other}
 use Rattle.spec.specs.declared.AccessKind.{AccessKind}
 use Rattle.spec.specs.declared.Verdict.the-variants.{Race, Outside}
 use Rattle.spec.specs.Access.{Kind, load, store, atomicAdd, cellAfter, registersAfter}
-use Rattle.spec.specs.Op.{Mem, MEM, opOf}
+use Rattle.spec.specs.Op.{OWN, Mem, MEM, opOf}
 use Rattle.spec.specs.Word.{add}
 use Rattle.spec.specs.Table.{Row, cellByte, kindOf}
 use Rattle.spec.specs.Shape.{Shape, bound, address}
 use Rattle.spec.specs.Mask.{Mask, maskWord, any, lowest}
 use Rattle.spec.specs.Log.{logged, conflictMask, raceKind}
-use Rattle.spec.specs.LockStep.{LockState, Step, continues, stops, reg, madeAccess, tryAccess, accessTurn}
+use Rattle.spec.specs.LockStep.{LockState, Step, continues, stops, reg, madeAccess, enterGroup, rivals, tryAccess, accessTurn}
 use Rattle.masks.proofs.Bits.{or-less}
 use Rattle.masks.proofs.Words.{any-none, any-some, lowest-is}
 use Rattle.layout.specs.declared.Access.{Access}
@@ -113,17 +113,17 @@ test-still op d a cells₀ log₀ cells log A c l =
     record { known = A .known; small = A .small; source = A .source; sized = omega (arith, A .sized); cells-few = omega (arith, A .cells-few) }
 
 pub turn-still : (n t : ℕ) (y : Mem) (x : Row) (cells₀ regs cells log regs′ cells′ log′ : List ℕ) (r : Access) → length cells ≡ length cells₀
-    → OneTurn (accessTurn (shapeBy n cells) y x) n t regs cells log r regs′ cells′ log′
-    → OneTurn (accessTurn (shapeBy n cells₀) y x) n t regs cells log r regs′ cells′ log′
+    → OneTurn (accessTurn (shapeBy n cells) OWN y x) n t regs cells log r regs′ cells′ log′
+    → OneTurn (accessTurn (shapeBy n cells₀) OWN y x) n t regs cells log r regs′ cells′ log′
 turn-still n t y x cells₀ regs cells log regs′ cells′ log′ r e d =
-    subst (λ k. OneTurn (accessTurn (record { threads = n; cells = k }) y x) n t regs cells log r regs′ cells′ log′) e d
+    subst (λ k. OneTurn (accessTurn (record { threads = n; cells = k; groups = 1; global = 0; group = 0 }) OWN y x) n t regs cells log r regs′ cells′ log′) e d
 
 -- What a loop over a row's threads has shown where it halts at thread r .thread, m being what is left of the mask.
 pub halted-at : (op n mask d a : ℕ) (regs₀ cells₀ log₀ : List ℕ) (r : Halt) (m : ℕ) (regs cells log : List ℕ) → r .thread < n → m % 2 ≡ 1
     → length cells ≡ length cells₀ → r .bit ≡ 2 ^ r .thread → CellNumber op d a (r .thread) regs (r .cell)
     → goesOn op (getD regs (a * 32 + r .thread) 0) (r .bit) (r .cell) cells log ≡ false
-    → ((y : Mem) (x : Row) → opOf op ≡ MEM y → x .d ≡ d → x .a ≡ a
-    → Turns (accessTurn (shapeBy n cells₀) y x) n mask regs₀ cells₀ log₀ (r .thread) m regs cells log)
+    → ((y : Mem) (x : Row) → opOf op ≡ MEM OWN y → x .d ≡ d → x .a ≡ a
+    → Turns (accessTurn (shapeBy n cells₀) OWN y x) n mask regs₀ cells₀ log₀ (r .thread) m regs cells log)
     → Halted op n mask d a regs₀ cells₀ log₀ r regs cells log
 halted-at op n mask d a regs₀ cells₀ log₀ r m regs cells log h odd e b N g T =
     record {
@@ -132,7 +132,7 @@ halted-at op n mask d a regs₀ cells₀ log₀ r m regs cells log h odd e b N g
       number = N;
       refused = g;
       stops = λ v D y x o ed ea s q l M.
-          turn-stop (accessTurn (shapeBy n cells₀) y x) n s (r .thread) m regs cells log (T y x o ed ea s q l M) v regs cells log h odd
+          turn-stop (accessTurn (shapeBy n cells₀) OWN y x) n s (r .thread) m regs cells log (T y x o ed ea s q l M) v regs cells log h odd
           (turn-still n (r .thread) y x cells₀ _ _ _ _ _ _ _ e (D n y x o h ed ea));
     }
 
@@ -151,16 +151,16 @@ module _ (n t : ℕ) (s : LockState) (regs cells log : List ℕ) (M : Memory n s
   log-here : LogIs n (length cells) (s .log) log
   log-here = subst (λ k. LogIs n k (s .log) log) (sym cells-size) (M .log-is)
 
-  module _ (op d a j i : ℕ) (m : Mem) (x : Row) (o : opOf op ≡ MEM m) (p : 16 ≤ op) (q : op ≤ 18) (N : CellNumber op d a t regs i) (ed : x .d ≡ d)
+  module _ (op d a j i : ℕ) (m : Mem) (x : Row) (o : opOf op ≡ MEM OWN m) (p : 16 ≤ op) (q : op ≤ 18) (N : CellNumber op d a t regs i) (ed : x .d ≡ d)
       (ea : x .a ≡ a) (ld : d < 16) (la : a < 16) (ej : j ≡ t) where
     abbrev shape : Shape
-    shape = record { threads = n; cells = length cells }
+    shape = shapeBy n cells
 
     abbrev kind : Kind
     kind = kindOf m (reg s t (x .a))
 
     abbrev turn : Step
-    turn = accessTurn shape m x s t
+    turn = accessTurn shape OWN m x s t
 
     number-is : reg s t (cellByte m x) ≡ i
     unfolding cellByte
@@ -177,9 +177,9 @@ module _ (n t : ℕ) (s : LockState) (regs cells log : List ℕ) (M : Memory n s
         by (inr (inl e)) = ap (λ y. reg s t (cellByte y x)) (mem-store op m e o) ∙ word (x .d) (ed ∙ sym (r .of-other (λ z. omega arith)))
         by (inr (inr e)) = ap (λ y. reg s t (cellByte y x)) (mem-add op m e o) ∙ word (x .d) (ed ∙ sym (r .of-other (λ z. omega arith)))
 
-    turn-at : turn ≡ cond (leb (length cells) i) (stops (Outside t i) s) (tryAccess s t d i kind)
-    unfolding accessTurn bound address
-    turn-at = ap₂ (λ c e. cond (leb (length cells) c) (stops (Outside t c) s) (tryAccess s t e c kind)) number-is ed
+    turn-at : turn ≡ cond (leb (length cells) i) (stops (Outside t i) s) (tryAccess shape OWN s t d i kind)
+    unfolding accessTurn bound
+    turn-at = ap₂ (λ c e. cond (leb (length cells) c) (stops (Outside t c) s) (tryAccess shape OWN s t e c kind)) number-is ed
 
     did : (y : Step) (w : Access) (regs′ cells′ log′ : List ℕ) → turn ≡ y → Did n s y w regs′ cells′ log′
         → Did n s turn w regs′ cells′ log′
@@ -212,8 +212,16 @@ module _ (n t : ℕ) (s : LockState) (regs cells log : List ℕ) (M : Memory n s
           ∙ conflict-means op (length cells) i log n (reg s t (x .a)) m (s .log) o p q l log-here (M .few) t bit h eb
 
       inside : turn ≡ cond (any others) (stops (Race t (lowest others) (raceKind (s .log) i (lowest others) kind) i) s) (continues (madeAccess s t d i kind))
-      unfolding tryAccess
-      inside = turn-at ∙ rw (lt-leb (length cells) i l)
+      inside = turn-at ∙ ap (λ b. cond b (stops (Outside t i) s) (tryAccess shape OWN s t d i kind)) (lt-leb (length cells) i l) ∙ tried
+        where
+          -- the one group's cells stand where their numbers say, and no other group can be met there
+          tried : tryAccess shape OWN s t d i kind
+              ≡ cond (any others) (stops (Race t (lowest others) (raceKind (s .log) i (lowest others) kind) i) s) (continues (madeAccess s t d i kind))
+          tried =
+              unfold tryAccess address rivals enterGroup any in
+              (ap (λ z. let met = conflictMask (s .log) z t kind in
+              cond (any met) (stops (Race t (lowest met) (raceKind (s .log) z (lowest met) kind) i) s) (continues (madeAccess s t d z kind)))
+              (let here : 0 * length cells + i ≡ i = omega arith in here))
 
       size : length others ≡ n
       size = conflict-size n (length (s .cells)) (s .log) log (M .log-is) i (omega (arith, cells-size)) t kind

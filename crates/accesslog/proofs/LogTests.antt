@@ -14,10 +14,10 @@ use lib.Seq.{set-getD, getD-set-other}
 use Rattle.spec.specs.declared.AccessKind.{AccessKind}
 use Rattle.spec.specs.declared.AccessKind.the-variants.{ReadWrite, WriteRead, WriteWrite, ReadAdd, AddRead, WriteAdd, AddWrite}
 use Rattle.spec.specs.Access.{Kind, load, store, atomicAdd, Mode, reads, writes, adds, mode, agree}
-use Rattle.spec.specs.Op.{Mem, MEM, LOAD, STORE, ATOMICADD, opOf, opTable}
+use Rattle.spec.specs.Op.{Mem, OWN, MEM, LOAD, STORE, ATOMICADD, opOf, opTable}
 use Rattle.spec.specs.Table.{kindOf}
 use Rattle.spec.specs.Mask.{maskWord, has}
-use Rattle.spec.specs.Log.{Log, masksOf, conflicting, conflictMask, raceKind, logged}
+use Rattle.spec.specs.Log.{Log, masksOf, conflicting, conflictMask, shownKind, raceKind, logged}
 use Rattle.masks.proofs.Bits.{or-assoc}
 use Rattle.layout.specs.Memory.{LogIs}
 use Rattle.layout.specs.Logging.{LogAsks, modeOf, rank, placeOf, wordOf, equalWord, conflictingWord, testedWord, maskEntered, markEntered, valueEntered, enteredWords}
@@ -34,17 +34,17 @@ which op p q = by (ℕ-discrete op 16) (ℕ-discrete op 17)
     by (no f) (yes e) = inr (inl e)
     by (no f) (no g) = inr (inr (omega arith))
 
-pub mem-load : (op : ℕ) (m : Mem) → op ≡ 16 → opOf op ≡ MEM m → m ≡ LOAD
+pub mem-load : (op : ℕ) (m : Mem) → op ≡ 16 → opOf op ≡ MEM OWN m → m ≡ LOAD
 unfolding opOf opTable
-mem-load op m e q = let z : MEM m ≡ MEM LOAD = sym q ∙ ap opOf e in cc
+mem-load op m e q = let z : MEM OWN m ≡ MEM OWN LOAD = sym q ∙ ap opOf e in cc
 
-pub mem-store : (op : ℕ) (m : Mem) → op ≡ 17 → opOf op ≡ MEM m → m ≡ STORE
+pub mem-store : (op : ℕ) (m : Mem) → op ≡ 17 → opOf op ≡ MEM OWN m → m ≡ STORE
 unfolding opOf opTable
-mem-store op m e q = let z : MEM m ≡ MEM STORE = sym q ∙ ap opOf e in cc
+mem-store op m e q = let z : MEM OWN m ≡ MEM OWN STORE = sym q ∙ ap opOf e in cc
 
-pub mem-add : (op : ℕ) (m : Mem) → op ≡ 18 → opOf op ≡ MEM m → m ≡ ATOMICADD
+pub mem-add : (op : ℕ) (m : Mem) → op ≡ 18 → opOf op ≡ MEM OWN m → m ≡ ATOMICADD
 unfolding opOf opTable
-mem-add op m e q = let z : MEM m ≡ MEM ATOMICADD = sym q ∙ ap opOf e in cc
+mem-add op m e q = let z : MEM OWN m ≡ MEM OWN ATOMICADD = sym q ∙ ap opOf e in cc
 
 -- The places of the three modes follow one another.
 module _ (op k i : ℕ) where
@@ -249,7 +249,7 @@ unfolding hasBit
 a-bit u word b q z = ap not (ne-eqb (bitAnd word (2 ^ u)) 0 (λ y. z (q ∙ y)))
 
 -- For a lock-step log they are what the definition has, v being the value that a store stores or an add adds.
-module _ (op k i : ℕ) (log : List ℕ) (n v : ℕ) (m : Mem) (G : Log) (o : opOf op ≡ MEM m) (p : 16 ≤ op) (q : op ≤ 18) (h : i < k) (L : LogIs n k G log) where
+module _ (op k i : ℕ) (log : List ℕ) (n v : ℕ) (m : Mem) (G : Log) (o : opOf op ≡ MEM OWN m) (p : 16 ≤ op) (q : op ≤ 18) (h : i < k) (L : LogIs n k G log) where
   -- The access's kind, and its mode.
   kind-load : op ≡ 16 → load ≡ kindOf m v
   unfolding kindOf
@@ -293,13 +293,13 @@ module _ (op k i : ℕ) (log : List ℕ) (n v : ℕ) (m : Mem) (G : Log) (o : op
       shown w a = cond (eqb op 16) (cond w WriteRead AddRead) (cond (eqb op 17) (cond w WriteWrite (cond a AddWrite ReadWrite)) (cond w WriteAdd ReadAdd))
 
       by : (op ≡ 16) ⊎ ((op ≡ 17) ⊎ (op ≡ 18)) → shown (wrote (kindOf m v)) added ≡ raceKind G i u (kindOf m v)
-      by (inl e) = subst (λ x. shown (wrote x) added ≡ raceKind G i u x) (kind-load e) (rw (eq-eqb op 16 e) (unfold raceKind in refl))
+      by (inl e) = subst (λ x. shown (wrote x) added ≡ raceKind G i u x) (kind-load e) (rw (eq-eqb op 16 e) (unfold raceKind shownKind mode in refl))
       by (inr (inl e)) =
           subst (λ x. shown (wrote x) added ≡ raceKind G i u x) (kind-store e)
-          (rw (ne-eqb op 16 (λ z. omega arith), eq-eqb op 17 e) (unfold raceKind conflicting agree mode in refl))
+          (rw (ne-eqb op 16 (λ z. omega arith), eq-eqb op 17 e) (unfold raceKind shownKind conflicting agree mode in refl))
       by (inr (inr e)) =
           subst (λ x. shown (wrote x) added ≡ raceKind G i u x) (kind-add e)
-          (rw (ne-eqb op 16 (λ z. omega arith), ne-eqb op 17 (λ z. omega arith)) (unfold raceKind in refl))
+          (rw (ne-eqb op 16 (λ z. omega arith), ne-eqb op 17 (λ z. omega arith)) (unfold raceKind shownKind mode in refl))
 
   module _ (few : n ≤ 32) (t bit : ℕ) (l : t < n) (b : bit ≡ 2 ^ t) where
     pub conflict-means : bitAnd (testedWord op v k i log) (4294967295 - bit) ≡ maskWord (conflictMask G i t (kindOf m v))

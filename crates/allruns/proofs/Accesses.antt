@@ -11,7 +11,7 @@ use lib.ListN.{length, getD, set}
 use lib.Seq.{getD-set-other, getD-set-same, set-comm, set-set, set-out}
 use Rattle.spec.specs.Access.{Access, Kind, load, store, atomicAdd, cellAfter, registersAfter, valueOf, Mode, reads, writes, adds, mode, agree, conflict}
 use Rattle.spec.specs.Lists.{anyOf}
-use Rattle.allruns.proofs.Bools.{or-left-false, or-right-false}
+use Rattle.allruns.proofs.Bools.{or-left-false, or-right-false, or-pairs}
 
 pub eqb-swap : (a b : ℕ) → eqb a b ≡ eqb b a
 eqb-swap a b = at (ℕ-discrete a b)
@@ -134,13 +134,14 @@ some-append p (x ∷ xs) ys = ap (λ b. p x || b) (some-append p xs ys) ∙ sym 
 pub some-or : {A : Type 0} (p q : A → Bool) (xs : List A) → anyOf (λ x. p x || q x) xs ≡ (anyOf p xs || anyOf q xs)
 unfolding anyOf
 some-or p q [] = refl
-some-or p q (x ∷ xs) = ap (λ b. p x || q x || b) (some-or p q xs) ∙ mid (p x) (q x) (anyOf p xs) (anyOf q xs)
-  where
-    mid : (a b c d : Bool) → (a || b || (c || d)) ≡ (a || c || (b || d))
-    mid true b c d = refl
-    mid false true true d = refl
-    mid false true false d = refl
-    mid false false c d = refl
+some-or p q (x ∷ xs) = ap (λ b. p x || q x || b) (some-or p q xs) ∙ or-pairs (p x) (q x) (anyOf p xs) (anyOf q xs)
+
+pub some-and : {A : Type 0} (c : Bool) (p : A → Bool) (xs : List A) → (c && anyOf p xs) ≡ anyOf (λ x. c && p x) xs
+unfolding anyOf
+some-and true p [] = refl
+some-and false p [] = refl
+some-and true p (x ∷ xs) = refl
+some-and false p (x ∷ xs) = some-and false p xs
 
 pub some-none : {A : Type 0} (xs : List A) → anyOf (λ x. false) xs ≡ false
 unfolding anyOf

@@ -60,7 +60,7 @@ kind-of T o h = by (rowAt T o .op) refl h
   where
     by : (p : Op) → rowAt T o .op ≡ p → (role p ≡ opening) ⊎ (role p ≡ dividing) → Kind T o
     by (CALC c) q h = none (unfold role in h)
-    by (MEM m) q h = none (unfold role in h)
+    by (MEM p m) q h = none (unfold role in h)
     by IF q h = an-if q
     by ELSE q h = an-else q
     by ENDIF q h = none′ (unfold role in h)

@@ -8,7 +8,6 @@ use native.Mathlib.Omega.{arith}
 use lib.Dec.{eqb}
 use borrow.Author.Tests.{eq-eqb}
 use lib.ListN.{length, getD, length-map}
-use Rattle.spec.specs.AllRuns.{isRelease}
 use Rattle.spec.specs.Lists.{equalList, every}
 use Rattle.spec.specs.LockStep.{elseRow, endifRow, endwhileRow, LockState, accessTurn, advance, barrierRow, computeTurn, continues}
 use Rattle.spec.specs.LockStep.{passBarrier, runRow, stops}
@@ -32,7 +31,7 @@ use Rattle.allruns.proofs.Rows.{openersOf, fresh, Sim, Advanced, RowDon
 use Rattle.allruns.proofs.Rows.{any-has, if-row, else-row, endif-row, while-row, endwhile-row, plain-row, keeps-touch, keeps-calc}
 use Rattle.allruns.proofs.Aside.{parked, Past}
 use Rattle.allruns.proofs.Progress as later
-use Rattle.allruns.proofs.StepCounts.{stepsAfter}
+use Rattle.allruns.proofs.StepCounts.{isOwnRelease, stepsAfter}
 use Rattle.allruns.proofs.Simulation.{Pos, Frame, loopsOf, exit, place, place-in, place-any, body, Match}
 
 full-has : (m : Mask) (t : ℕ) → full m ≡ true → t < length m → has m t ≡ true
@@ -124,7 +123,7 @@ module _ (T : Table) (w : WellFormed T) (L : Shape) (s : LockState) (fs : List F
           within = l;
         };
         counted = unfold stepsAfter in refl;
-        released = unfold isRelease in (omega arith);
+        released = unfold isOwnRelease in (omega arith);
         sees = sym (unfold passedAt passes in (ap (λ o. passedAt o s) q ∙ ap (λ b. cond (b && full (s .enabled)) (s .cells ∷ []) []) a));
       }
 
@@ -155,7 +154,7 @@ module _ (T : Table) (w : WellFormed T) (L : Shape) (s : LockState) (fs : List F
               parked T w (L .threads) (s .row) u l no-loop lu (getD (s .regs) a []) (getD (s .regs) u []) fs [] (s .enabled) (s .row)
               (sym later′) (subst (AllOpened T (suc (s .row)) 0) (sym later′) (all-opened T w (suc (s .row)) l)) (λ j i. absurd (omega arith)) (S .nested) hu
 
-  cross-row : any (s .enabled) ≡ true → full (s .enabled) ≡ true → Advanced T L s g (passBarrier s)
+  cross-row : any (s .enabled) ≡ true → full (s .enabled) ≡ true → Advanced T L s g (passBarrier L s)
   cross-row p f =
       record {
         moves = release ∷ [];
@@ -171,7 +170,7 @@ module _ (T : Table) (w : WellFormed T) (L : Shape) (s : LockState) (fs : List F
           within = unfold passBarrier in l;
         };
         counted = unfold passBarrier stepsAfter in refl;
-        released = unfold passBarrier isRelease in (omega arith);
+        released = unfold passBarrier isOwnRelease in (omega arith);
         sees = saw;
       }
     where
@@ -186,7 +185,7 @@ module _ (T : Table) (w : WellFormed T) (L : Shape) (s : LockState) (fs : List F
           (gathered-make T (g .threads) (s .row) (loopsOf T fs) (let h = any-some (s .enabled) p .1 in omega (arith, h, S .onSize, S .match .size)) is-barrier
           (λ i j. let e = stand i (omega (arith, S .match .size)) in (ap (λ x. x .row) e, ap (λ x. x .loops) e))))
 
-      match : Match T L (place T (passBarrier s .row) (passBarrier s .enabled) fs) (passBarrier s) (next T L g release)
+      match : Match T L (place T (passBarrier L s .row) (passBarrier L s .enabled) fs) (passBarrier L s) (next T L g release)
       match = unfold passBarrier next released in (record {
         good = S .match .good;
         size = length-map (g .threads) own.pastBarrier ∙ S .match .size;
@@ -196,7 +195,9 @@ module _ (T : Table) (w : WellFormed T) (L : Shape) (s : LockState) (fs : List F
             ∙ ap (λ p. body p (getD (s .regs) t [])) (sym (place-in T (suc (s .row)) (s .enabled) fs t (full-has (s .enabled) t f (omega (arith, S .onSize)))));
         cells = S .match .cells;
         celled = S .match .celled;
-        logs = log-cleared _ _ _ _ (S .match .logs);
+        numbered = S .match .numbered;
+        logs = log-cleared _ _ _ _ _ (S .match .logs);
+        groups = S .match .groups;
       })
         where
           pass : (t : ℕ)
@@ -210,7 +211,7 @@ module _ (T : Table) (w : WellFormed T) (L : Shape) (s : LockState) (fs : List F
       saw : shownTo (machine T L) tt g (release ∷ []) ≡ passedAt (rowAt T (s .row) .op) s
       saw = unfold own.shown in (ap (λ c. c ∷ []) (S .match .cells) ∙ sym (ap (λ o. passedAt o s) q ∙ counts))
 
-  pub barrier-row : RowDone T L s g (barrierRow s)
+  pub barrier-row : RowDone T L s g (barrierRow L s)
   unfolding barrierRow
   barrier-row = by (any (s .enabled)) refl (full (s .enabled)) refl
     where
@@ -218,14 +219,14 @@ module _ (T : Table) (w : WellFormed T) (L : Shape) (s : LockState) (fs : List F
       v = Diverged (lowest (s .enabled)) (lowest (map not (s .enabled)))
 
       by : (a : Bool) → any (s .enabled) ≡ a → (b : Bool) → full (s .enabled) ≡ b
-          → RowDone T L s g (cond a (cond b (continues (passBarrier s)) (stops v s)) (continues (advance (suc (s .row)) (s .enabled) (s .saved) s)))
+          → RowDone T L s g (cond a (cond b (continues (passBarrier L s)) (stops v s)) (continues (advance (suc (s .row)) (s .enabled) (s .saved) s)))
       by true p true f = cross-row p f
       by true p false f = record { stopping = tt; moves = []; run = tt; fails = inr (diverges p f) }
       by false p b f = skip-row p
 
 known : Op → Bool
 known (CALC c) = true
-known (MEM m) = true
+known (MEM p m) = true
 known IF = true
 known ELSE = true
 known ENDIF = true
@@ -283,13 +284,13 @@ module _ (T : Table) (w : WellFormed T) (L : Shape) (s : LockState) (fs : List F
       subst (λ r. One T L onw here t P h (computeTurn (rowAt T r) (λ t a b. value c (L .threads) t (rowAt T r .a) (rowAt T r .b) a b) z t)) (ap (λ p. p .row) e)
       (calc-one T L t P z h i m (rw e l) here onw c (ap (λ p. rowAt T (p .row) .op) e ∙ q) (sym (ap (λ p. record { row = suc (p .row); loops = p .loops }) e))))
       (after-plain (CALC c) q (unfold isWhile in refl) (unfold role in refl)) (unfold passedAt passes in (ap (λ o. passedAt o s) q))
-  done (MEM m) q =
-      plain-row T L s fs g S l (accessTurn L m (rowAt T (s .row))) (keeps-touch L m _)
+  done (MEM p m) q =
+      plain-row T L s fs g S l (accessTurn L p m (rowAt T (s .row))) (keeps-touch L p m _)
       (λ t P z h i e k.
-      subst (λ r. One T L onw here t P h (accessTurn L m (rowAt T r) z t)) (ap (λ p. p .row) e)
-      (touch-one T L t P z h i k (rw e l) here onw m (ap (λ p. rowAt T (p .row) .op) e ∙ q)
+      subst (λ r. One T L onw here t P h (accessTurn L p m (rowAt T r) z t)) (ap (λ p. p .row) e)
+      (touch-one T L t P z h i k (rw e l) here onw p m (ap (λ p. rowAt T (p .row) .op) e ∙ q)
       (sym (ap (λ p. record { row = suc (p .row); loops = p .loops }) e))))
-      (after-plain (MEM m) q (unfold isWhile in refl) (unfold role in refl)) (unfold passedAt passes in (ap (λ o. passedAt o s) q))
+      (after-plain (MEM p m) q (unfold isWhile in refl) (unfold role in refl)) (unfold passedAt passes in (ap (λ o. passedAt o s) q))
   done IF q = if-row T w L s fs g S l q
   done ELSE q =
       else-of T w L s fs g S l q

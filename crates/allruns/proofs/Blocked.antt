@@ -1,4 +1,4 @@
--- What ends badly or stands still for ever: runs that refute `RunsAlwaysEnd`. Assumes nothing.
+-- A thread that waits at a barrier for ever, since another is past it. Assumes nothing.
 use mathlib.Core.Path.{_≡_, refl, sym, _∙_, ap, ap₂, subst}
 use mathlib.Core.Logic.{_⊎_, inl, inr}
 use mathlib.Core.List.{List, [], _∷_}
@@ -10,21 +10,14 @@ use lib.Dec.{eqb, leb, ltb}
 use borrow.Author.Tests.{eqb-true, ltb-true, ltb-false, leb-true}
 use lib.ListN.{length, getD, set, length-set, List·getD-eq-default}
 use lib.Seq.{getD-set-other, getD-set-same}
-use Rattle.spec.specs.Lists.{anyOf, equalList}
-use Rattle.spec.specs.Runs.{Run, RunsAlwaysEnd, after}
-use Rattle.spec.specs.Shape.{Shape, bound}
+use Rattle.spec.specs.Lists.{equalList}
+use Rattle.spec.specs.Shape.{Shape}
 use Rattle.spec.specs.Table.{Table, WellFormed, noRow, rowAt}
-use Rattle.spec.specs.Threads.{Group, Move, Thread, accessesOf, atEnd, atOneBarrier, effectAt, endsBadly, isBarrier, isOutside, isWaiting, machine}
-use Rattle.spec.specs.Threads.{markBad, next, noThread, performed, possible, races, release, row, threadAfter, threadCount}
-use Rattle.allruns.proofs.Descent.{all-after, finish}
+use Rattle.spec.specs.Threads.{Group, Move, Thread, atEnd, atOneBarrier, effectAt, endsBadly, isBarrier, isOutside, isWaiting}
+use Rattle.spec.specs.Threads.{markBad, next, noThread, performed, possible, release, row, threadAfter, threadCount}
 use Rattle.allruns.proofs.Bools.{and-left, and-right, not-is, or-left-false}
-use Rattle.allruns.proofs.Diamond.{laws, every-at, act-waits}
+use Rattle.allruns.proofs.Diamond.{every-at, act-waits}
 use Rattle.allruns.proofs.Progress.{Later, later-not, later-trans, act-forward}
-
--- A run that ends badly is no run of a launch whose runs always come to an end.
-pub bad-not-all : (T : Table) (L : Shape) (s : Group) (ks : List Move) → Run (machine T L) s ks → after (machine T L) s ks .bad ≡ true
-    → RunsAlwaysEnd (machine T L) s → ⊥
-bad-not-all T L s ks r b a = laws T L .end-good _ (a .ends ks r (λ m c. laws T L .bad-last _ m b c)) b
 
 same-lists : (xs ys : List ℕ) → equalList xs ys ≡ true → xs ≡ ys
 unfolding equalList
@@ -53,8 +46,8 @@ pub record Blocked (T : Table) (s : Group) (a u : ℕ) : Type 0 where
   pub sized : length (getD (s .threads) u noThread .loops) ≡ length T
 
 module _ (T : Table) (w : WellFormed T) (L : Shape) (a u : ℕ) where
-  same-threads : (s g : Group) → s .threads ≡ g .threads → Blocked T s a u → Blocked T g a u
-  same-threads s g q h = subst (λ l. Blocked T (record { threads = l; cells = g .cells; made = g .made; bad = g .bad }) a u) q
+  pub same-threads : (s g : Group) → s .threads ≡ g .threads → Blocked T s a u → Blocked T g a u
+  same-threads s g q h = subst (λ l. Blocked T (record { threads = l; cells = g .cells; made = g .made; ever = g .ever; barred = g .barred; bad = g .bad }) a u) q
       (record { first = h .first; second = h .second; waiting = h .waiting; past = h .past; sized = h .sized })
 
   never-release : (s : Group) → Blocked T s a u → atOneBarrier T (s .threads) ≡ true → ⊥
@@ -113,7 +106,7 @@ module _ (T : Table) (w : WellFormed T) (L : Shape) (a u : ℕ) where
             sized = ap (λ z. length (z .loops)) kept ∙ h .sized;
           }
 
-  blocked-next : (s : Group) (m : Move) → possible T L s m ≡ true → Blocked T s a u → Blocked T (next T L s m) a u
+  pub blocked-next : (s : Group) (m : Move) → possible T L s m ≡ true → Blocked T s a u → Blocked T (next T L s m) a u
   unfolding possible threadCount next markBad
   blocked-next s release c h = absurd (never-release s h (and-right (not (s .bad)) _ c))
   blocked-next s (row t) c h = by (endsBadly s t (effectAt T L s t)) refl
@@ -126,17 +119,13 @@ module _ (T : Table) (w : WellFormed T) (L : Shape) (a u : ℕ) where
 
       unhurt : endsBadly s t (effectAt T L s t) ≡ false → isOutside (effectAt T L s t) ≡ false
       unhurt q =
-          unfold endsBadly in (or-left-false (isOutside (effectAt T L s t)) (anyOf (races (threadCount s) (s .made) t) (accessesOf (effectAt T L s t))) q)
+          unfold endsBadly in (or-left-false (isOutside (effectAt T L s t)) _ q)
 
       by : (z : Bool) → endsBadly s t (effectAt T L s t) ≡ z → Blocked T (cond z (markBad s) (performed s t (effectAt T L s t))) a u
       by true q = same-threads s (markBad s) refl h
       by false q = moved s t h l i (unhurt q)
 
-  blocked-run : (ms : List Move) (s : Group) → Run (machine T L) s ms → Blocked T s a u → Blocked T (after (machine T L) s ms) a u
-  blocked-run [] s r h = h
-  blocked-run (m ∷ ms) s r h = blocked-run ms (next T L s m) (r .1) (blocked-next s m (r .0) h)
-
-  blocked-end : (s : Group) → Blocked T s a u → atEnd T s ≡ true → ⊥
+  pub blocked-end : (s : Group) → Blocked T s a u → atEnd T s ≡ true → ⊥
   unfolding atEnd
   blocked-end s h e =
       let g : length T ≤ getD (s .threads) a noThread .row =
@@ -144,7 +133,7 @@ module _ (T : Table) (w : WellFormed T) (L : Shape) (a u : ℕ) where
       omega (arith, g, inside _ (h .waiting))
 
 -- Whether a move is possible.
-some-move : (T : Table) (L : Shape) (s : Group) → ((m : Move) × (possible T L s m ≡ true)) ⊎ ((m : Move) → possible T L s m ≡ true → ⊥)
+pub some-move : (T : Table) (L : Shape) (s : Group) → ((m : Move) × (possible T L s m ≡ true)) ⊎ ((m : Move) → possible T L s m ≡ true → ⊥)
 some-move T L s = by (possible T L s release) refl (search (length (s .threads)))
   where
     search : (k : ℕ) → ((t : ℕ) × (possible T L s (row t) ≡ true)) ⊎ ((t : ℕ) → t < k → possible T L s (row t) ≡ true → ⊥)
@@ -174,11 +163,3 @@ some-move T L s = by (possible T L s release) refl (search (length (s .threads))
           where
             below : possible T L s (row t) ≡ true → t < length (s .threads)
             below c = unfold possible threadCount in (ltb-true t _ (and-left _ _ (and-right (not (s .bad)) _ c)))
-
--- A run that comes to such a state is none of a launch whose runs always come to an end.
-pub blocked-not-all : (T : Table) → WellFormed T → (L : Shape) (s : Group) (ks : List Move) (a u : ℕ) → Run (machine T L) s ks
-    → Blocked T (after (machine T L) s ks) a u → RunsAlwaysEnd (machine T L) s → ⊥
-blocked-not-all T w L s ks a u r h all =
-    let k = all-after (machine T L) s ks r all in
-    let f = finish (machine T L) (some-move T L) (k .bound) (after (machine T L) s ks) (k .bounded) (k .ends) in
-    blocked-end T w L a u _ (blocked-run T w L a u (f .0) _ (f .1) h) (f .2)

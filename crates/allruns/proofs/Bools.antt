@@ -35,6 +35,13 @@ or-right-false false b q = q
 pub or-never : (a b c : Bool) → (a || (b && (c && false))) ≡ a
 or-never a b c = ap (λ x. a || (b && x)) (and-false c) ∙ ap (λ x. a || x) (and-false b) ∙ or-false a
 
+-- Of four, the inner two swapped.
+pub or-pairs : (a b c d : Bool) → (a || b || (c || d)) ≡ (a || c || (b || d))
+or-pairs true b c d = refl
+or-pairs false true true d = refl
+or-pairs false true false d = refl
+or-pairs false false c d = refl
+
 pub below-same : (n : ℕ) (p q : ℕ → Bool) → ((v : ℕ) → v < n → p v ≡ q v) → anyBelow n p ≡ anyBelow n q
 unfolding anyBelow
 below-same zero p q h = refl
@@ -84,3 +91,15 @@ below-more (suc n) p t w h = at (ℕ-discrete n t) (below-more n p t w)
         fin : (a b c : Bool) → (a || false || (b || c)) ≡ (a || b || c)
         fin true b c = refl
         fin false b c = refl
+
+pub below-or : (n : ℕ) (p q : ℕ → Bool) → anyBelow n (λ v. p v || q v) ≡ (anyBelow n p || anyBelow n q)
+unfolding anyBelow
+below-or zero p q = refl
+below-or (suc n) p q = ap (λ b. p n || q n || b) (below-or n p q) ∙ or-pairs (p n) (q n) (anyBelow n p) (anyBelow n q)
+
+pub below-and : (n : ℕ) (c : Bool) (p : ℕ → Bool) → anyBelow n (λ v. c && p v) ≡ (c && anyBelow n p)
+unfolding anyBelow
+below-and zero true p = refl
+below-and zero false p = refl
+below-and (suc n) true p = refl
+below-and (suc n) false p = below-and n false p

@@ -2,28 +2,27 @@
 use mathlib.Core.Path.{_≡_, refl, _∙_, ap, subst}
 use mathlib.Core.List.{List, [], _∷_}
 use mathlib.Core.Bool.{Bool, true, false, cond, _&&_}
-use Prim.Native.Nat.{ℕ, zero, suc, _+_}
+use Prim.Native.Nat.{ℕ, zero, suc, _+_, _≤_}
 use native.Mathlib.Omega.{arith}
 use borrow.Author.Tests.{lt-ltb, le-ltb}
 use lib.Dec.{leb, ltb}
 use lib.ListN.{length, length-append}
 use Rattle.spec.specs.declared.Verdict.{Verdict}
-use Rattle.spec.specs.declared.Verdict.the-variants.{Passed, Race, Outside, Diverged, Spent}
-use Rattle.spec.specs.Access.{Kind}
-use Rattle.spec.specs.Op.{Op, CALC, Mem, MEM, IF, ELSE, ENDIF, WHILE, ENDWHILE, BARRIER, UNKNOWN, value}
-use Rattle.spec.specs.Table.{Table, Row, rowAt, cellByte, kindOf, endOf}
-use Rattle.spec.specs.Shape.{Shape, shapeOf, bound, address}
-use Rattle.spec.specs.Mask.{Mask, any, full, lowest}
-use Rattle.spec.specs.Log.{conflictMask, raceKind}
-use Rattle.spec.specs.LockStep.{Saved, LockState, Step, continues, stops, andThen, inTurn, advance, reg, setReg, computeTurn, madeAccess, tryAccess}
+use Rattle.spec.specs.declared.Verdict.the-variants.{Passed, Race, GroupRace, Outside, Diverged, Spent}
+use Rattle.spec.specs.Op.{Op, CALC, Space, Mem, MEM, IF, ELSE, ENDIF, WHILE, ENDWHILE, BARRIER, UNKNOWN, value}
+use Rattle.spec.specs.Table.{Table, Row, rowAt, endOf}
+use Rattle.spec.specs.Shape.{Shape}
+use Rattle.spec.specs.Mask.{Mask, any, full}
+use Rattle.spec.specs.LockStep.{Saved, LockState, Step, continues, stops, andThen, inTurn, advance, setReg, computeTurn, madeAccess}
 use Rattle.spec.specs.LockStep.{accessTurn, forEnabled, countSteps, topMask, pop}
 use Rattle.spec.specs.LockStep.{ifRow, elseRow, endifRow, leaveOrStay, whileRow, endwhileRow, passBarrier, barrierRow, runRow, LockResult, resultOf}
-use Rattle.spec.specs.LockStep.{runFrom, initialState, lockstep, countedAt, countedAfter, countedFrom, countedBarriers}
+use Rattle.spec.specs.LockStep.{runFrom, countedAt, countedAfter, countedFrom}
+use Rattle.allruns.proofs.AccessTurns.{turn-cases}
 
 -- A row at which barriers grows, by the row alone: a BARRIER that all threads come to. And the cells there.
 unfoldable pub passes : Op → LockState → Bool
 passes (CALC c) s = false
-passes (MEM m) s = false
+passes (MEM p m) s = false
 passes IF s = false
 passes ELSE s = false
 passes ENDIF s = false
@@ -38,6 +37,7 @@ passedAt o s = cond (passes o s) (s .cells ∷ []) []
 pub isSpent : Verdict → ℕ
 isSpent Passed = 0
 isSpent (Race t u k c) = 0
+isSpent (GroupRace t h k c) = 0
 isSpent (Outside t c) = 0
 isSpent (Diverged t u) = 0
 isSpent Spent = 1
@@ -77,27 +77,11 @@ keeps-compute : (x : Row) (f : ℕ → ℕ → ℕ → ℕ) → KeepsCounts (com
 unfolding computeTurn setReg
 keeps-compute x f s t = (refl, refl)
 
-keeps-access : (L : Shape) (m : Mem) (x : Row) → KeepsCounts (accessTurn L m x)
-unfolding accessTurn tryAccess madeAccess isSpent
-keeps-access L m x s t = by (leb (bound L m) c) (any others)
-  where
-    c : ℕ
-    c = reg s t (cellByte m x)
-
-    k : Kind
-    k = kindOf m (reg s t (x .a))
-
-    others : Mask
-    others = conflictMask (s .log) (address L m c) t k
-
-    by : (out races : Bool)
-        → Leaves s (s .rows) (s .barriers)
-        (cond out (stops (Outside t c) s)
-        (cond races (stops (Race t (lowest others) (raceKind (s .log) (address L m c) (lowest others) k) (address L m c)) s)
-        (continues (madeAccess s t (x .d) (address L m c) k))))
-    by true races = (refl, refl, refl)
-    by false true = (refl, refl, refl)
-    by false false = (refl, refl)
+keeps-access : (L : Shape) (p : Space) (m : Mem) (x : Row) → KeepsCounts (accessTurn L p m x)
+unfolding madeAccess isSpent
+keeps-access L p m x s t =
+    turn-cases L p m x s t (Leaves s (s .rows) (s .barriers)) (λ l. (refl, refl, refl)) (λ o y l a. (refl, refl, refl)) (λ h y l a b. (refl, refl, refl))
+    (λ l a b. (refl, refl))
 
 leaves-while : (T : Table) (s : LockState) (v : List Saved) (m : Mask) → Leaves s (suc (s .rows)) (s .barriers) (continues (leaveOrStay T s v m))
 unfolding leaveOrStay advance
@@ -109,13 +93,13 @@ leaves-while T s v m = by (any m)
     by true = (refl, refl)
     by false = (refl, refl)
 
-leaves-barrier : (s : LockState) (a f : Bool) (v : Verdict) → isSpent v ≡ 0
+leaves-barrier : (L : Shape) (s : LockState) (a f : Bool) (v : Verdict) → isSpent v ≡ 0
     → Leaves s (suc (s .rows)) (s .barriers + length (cond (a && f) (s .cells ∷ []) []))
-    (cond a (cond f (continues (passBarrier s)) (stops v s)) (continues (advance (suc (s .row)) (s .enabled) (s .saved) s)))
+    (cond a (cond f (continues (passBarrier L s)) (stops v s)) (continues (advance (suc (s .row)) (s .enabled) (s .saved) s)))
 unfolding passBarrier advance
-leaves-barrier s true true v h = (refl, omega arith)
-leaves-barrier s true false v h = (h, refl, refl)
-leaves-barrier s false f v h = (refl, omega arith)
+leaves-barrier L s true true v h = (refl, omega arith)
+leaves-barrier L s true false v h = (h, refl, refl)
+leaves-barrier L s false f v h = (refl, omega arith)
 
 -- The barriers after a row.
 unfoldable pub grown : LockState → Op → ℕ
@@ -130,13 +114,13 @@ pub leaves-row : (T : Table) (L : Shape) (x : Row) (s : LockState) (o : Op) → 
 unfolding grown runRow passedAt passes advance countSteps barrierRow isSpent ifRow elseRow endifRow whileRow endwhileRow
 leaves-row T L x s (CALC c) =
     uncounted s (runRow T L x s (CALC c)) (leaves-enabled _ (keeps-compute x (λ t p q. value c (L .threads) t (x .a) (x .b) p q)) s)
-leaves-row T L x s (MEM m) = uncounted s (runRow T L x s (MEM m)) (leaves-enabled _ (keeps-access L m x) s)
+leaves-row T L x s (MEM p m) = uncounted s (runRow T L x s (MEM p m)) (leaves-enabled _ (keeps-access L p m x) s)
 leaves-row T L x s IF = uncounted s (runRow T L x s IF) (refl, refl)
 leaves-row T L x s ELSE = uncounted s (runRow T L x s ELSE) (refl, refl)
 leaves-row T L x s ENDIF = uncounted s (runRow T L x s ENDIF) (refl, refl)
 leaves-row T L x s WHILE = uncounted s (runRow T L x s WHILE) (leaves-while T (countSteps (s .enabled) s) _ _)
 leaves-row T L x s ENDWHILE = uncounted s (runRow T L x s ENDWHILE) (refl, refl)
-leaves-row T L x s BARRIER = leaves-barrier s (any (s .enabled)) (full (s .enabled)) _ refl
+leaves-row T L x s BARRIER = leaves-barrier L s (any (s .enabled)) (full (s .enabled)) _ refl
 leaves-row T L x s UNKNOWN = uncounted s (runRow T L x s UNKNOWN) (refl, refl)
 
 -- A row at which barriers grows is one that all threads pass: their number tells which.
@@ -155,6 +139,8 @@ counted-is T L x s z o e = counted-by s z o (subst (Leaves s (suc (s .rows)) (gr
 record Counted (left : ℕ) (s : LockState) (o : LockResult) (bs : List (List ℕ)) : Type 0 where
   pub atLimit : isSpent (o .verdict) ≡ 1 → o .state .rows ≡ s .rows + left
   pub barriers : length bs + s .barriers ≡ o .state .barriers
+  pub within : o .state .rows ≤ s .rows + left
+  pub more : s .rows ≤ o .state .rows
 
 counted-on : (T : Table) (L : Shape) (left : ℕ) (s : LockState) (o : Op) (x : Step) → Leaves s (suc (s .rows)) (grown s o) x
     → ((z : LockState) → Counted left z (runFrom T L left z) (countedFrom T L left z))
@@ -166,14 +152,22 @@ counted-on T L left s o (continues z) h f =
     let p = h .0 in
     let q = h .1 in
     let w = f z .barriers in
-    record { atLimit = λ e. let v = f z .atLimit e in omega (arith, v, p); barriers = omega (arith, l, m, q, w) }
+    let a = f z .within in
+    let b = f z .more in
+    record {
+      atLimit = λ e. let v = f z .atLimit e in omega (arith, v, p);
+      barriers = omega (arith, l, m, q, w);
+      within = omega (arith, a, p);
+      more = omega (arith, b, p);
+    }
 counted-on T L left s o (stops v z) h f =
     let q = h .2 in
-    record { atLimit = λ e. let p = h .0 in absurd (omega (arith, e, p)); barriers = omega (arith, q) }
+    let r = h .1 in
+    record { atLimit = λ e. let p = h .0 in absurd (omega (arith, e, p)); barriers = omega (arith, q); within = omega (arith, r); more = omega (arith, r) }
 
 counted-run : (T : Table) (L : Shape) (left : ℕ) (s : LockState) → Counted left s (runFrom T L left s) (countedFrom T L left s)
 unfolding runFrom countedFrom isSpent
-counted-run T L zero s = record { atLimit = λ e. omega arith; barriers = omega arith }
+counted-run T L zero s = record { atLimit = λ e. omega arith; barriers = omega arith; within = omega arith; more = omega arith }
 counted-run T L (suc left) s =
     by (leb (length T) (s .row))
     (counted-on T L left s (rowAt T (s .row) .op) (runRow T L (rowAt T (s .row)) s (rowAt T (s .row) .op))
@@ -188,14 +182,19 @@ counted-run T L (suc left) s =
     by : (b : Bool) → Counted (suc left) s out bars
         → Counted (suc left) s (elim b as (λ c. LockResult) [ true ↦ record { verdict = Passed; state = s } | false ↦ out ])
         (elim b as (λ c. List (List ℕ)) [ true ↦ [] | false ↦ bars ])
-    by true h = record { atLimit = λ e. absurd (omega (arith, e)); barriers = omega arith }
+    by true h = record { atLimit = λ e. absurd (omega (arith, e)); barriers = omega arith; within = omega arith; more = omega arith }
     by false h = h
 
-pub spent-at-limit : (T : Table) (n : ℕ) (cells : List ℕ) (limit : ℕ) → lockstep T n cells limit .verdict ≡ Spent
-    → lockstep T n cells limit .state .rows ≡ limit
-unfolding lockstep initialState isSpent
-spent-at-limit T n cells limit e = let p = counted-run T (shapeOf n cells) limit (initialState n cells) .atLimit (ap isSpent e) in omega (arith, p)
+pub spent-at-limit : (T : Table) (L : Shape) (left : ℕ) (s : LockState) → runFrom T L left s .verdict ≡ Spent → runFrom T L left s .state .rows ≡ s .rows + left
+unfolding isSpent
+spent-at-limit T L left s e = counted-run T L left s .atLimit (ap isSpent e)
 
-pub counted-length : (T : Table) (n : ℕ) (cells : List ℕ) (limit : ℕ) → length (countedBarriers T n cells limit) ≡ lockstep T n cells limit .state .barriers
-unfolding lockstep countedBarriers initialState
-counted-length T n cells limit = let p = counted-run T (shapeOf n cells) limit (initialState n cells) .barriers in omega (arith, p)
+pub counted-length : (T : Table) (L : Shape) (left : ℕ) (s : LockState) → length (countedFrom T L left s) + s .barriers ≡ runFrom T L left s .state .barriers
+counted-length T L left s = counted-run T L left s .barriers
+
+-- A run runs no more rows than it has.
+pub rows-within : (T : Table) (L : Shape) (left : ℕ) (s : LockState) → runFrom T L left s .state .rows ≤ s .rows + left
+rows-within T L left s = counted-run T L left s .within
+
+pub rows-more : (T : Table) (L : Shape) (left : ℕ) (s : LockState) → s .rows ≤ runFrom T L left s .state .rows
+rows-more T L left s = counted-run T L left s .more

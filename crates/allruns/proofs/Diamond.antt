@@ -44,7 +44,7 @@ races-more n R t u xs y ne lt = below-same n _ _ (λ v h. at v (ℕ-discrete v t
     at v (no q) = rw (ne-eqb v t q) (there (not (eqb v u)) (anyOf (conflict y) (R v)))
 
 -- Two acts conflict: an access of the one with an access of the other.
-pub clashes : Effect → Effect → Bool
+unfoldable pub clashes : Effect → Effect → Bool
 clashes x y = anyOf (λ b. anyOf (conflict b) (accessesOf x)) (accessesOf y)
 
 pub clashes-swap : (x y : Effect) → clashes x y ≡ clashes y x
@@ -52,14 +52,24 @@ unfolding clashes
 clashes-swap x y =
     some-swap conflict (accessesOf y) (accessesOf x) ∙ some-same _ _ (accessesOf x) (λ a. some-same _ _ (accessesOf y) (λ b. conflict-swap b a))
 
+-- What is bad of thread u's effect y after thread t's effect x. What other groups forbid stays.
 hurts-after : (s : Group) (t u : ℕ) (x y : Effect) → ¬ (t ≡ u) → t < threadCount s → endsBadly (performed s t x) u y ≡ (endsBadly s u y || clashes x y)
 unfolding endsBadly performed clashes threadCount
 hurts-after s t u x y ne lt =
-    ap (λ n. isOutside y || anyOf (races n (recorded (s .made) t (accessesOf x)) u) (accessesOf y)) (length-set (s .threads) t _)
-    ∙ ap (λ b. isOutside y || b) (some-same _ _ (accessesOf y) (λ a. races-more (length (s .threads)) (s .made) t u (accessesOf x) a ne lt)
-    ∙ some-or _ _ (accessesOf y))
-    ∙ sym (or-assoc (isOutside y) (anyOf (races (length (s .threads)) (s .made) u) (accessesOf y))
+    ap (λ n. isOutside y || anyOf (λ a. races n (recorded (s .made) t (accessesOf x)) u a || s .barred a) (accessesOf y)) (length-set (s .threads) t _)
+    ∙ ap (λ b. isOutside y || b) (some-same _ _ (accessesOf y) more ∙ some-or _ _ (accessesOf y))
+    ∙ sym (or-assoc (isOutside y) (anyOf (λ a. races (length (s .threads)) (s .made) u a || s .barred a) (accessesOf y))
     (anyOf (λ b. anyOf (conflict b) (accessesOf x)) (accessesOf y)))
+  where
+    mid : (a b c : Bool) → (a || b || c) ≡ (a || c || b)
+    mid true b c = refl
+    mid false b c = or-comm b c
+
+    more : (a : Access) → (races (length (s .threads)) (recorded (s .made) t (accessesOf x)) u a || s .barred a)
+        ≡ (races (length (s .threads)) (s .made) u a || s .barred a || anyOf (conflict a) (accessesOf x))
+    more a =
+        ap (λ b. b || s .barred a) (races-more (length (s .threads)) (s .made) t u (accessesOf x) a ne lt)
+        ∙ mid (races (length (s .threads)) (s .made) u a) (anyOf (conflict a) (accessesOf x)) (s .barred a)
 
 or-zero : (a : Bool) → (a || false || false) ≡ false → a ≡ false
 or-zero true q = q
@@ -112,6 +122,8 @@ done-swap s t u x y ne q =
       threads = threads i;
       cells = cells-after (s .cells) x y q i;
       made = noted-swap (s .made) t u (accessesOf x) (accessesOf y) ne i;
+      ever = noted-swap (s .ever) t u (accessesOf x) (accessesOf y) ne i;
+      barred = s .barred;
       bad = s .bad;
     }
   where
@@ -155,7 +167,7 @@ unfolding possible threadCount performed
 can-after T L s t u x ne c =
     ap₂ (λ n a. not (s .bad) && (ltb u n && not (isWaiting a))) (length-set (s .threads) t _) (act-same T L s t u x ne) ∙ c
 
-can-count : (T : Table) (L : Shape) (s : Group) (t : ℕ) → possible T L s (row t) ≡ true → t < threadCount s
+pub can-count : (T : Table) (L : Shape) (s : Group) (t : ℕ) → possible T L s (row t) ≡ true → t < threadCount s
 unfolding possible
 can-count T L s t c = ltb-true t (threadCount s) (and-left _ _ (and-right (not (s .bad)) _ c))
 
@@ -216,7 +228,7 @@ module _ (T : Table) (L : Shape) (s : Group) (t u : ℕ) (ne : ¬ (t ≡ u)) (ct
 barrier-waits : (T : Table) (L : Shape) (t : ℕ) (th : Thread) (o : Op) → isBarrier o ≡ true → effectOf T L t th (rowAt T (th .row)) o ≡ waits
 unfolding isBarrier effectOf
 barrier-waits T L t th (CALC c) q = absurd (false≢true q)
-barrier-waits T L t th (MEM m) q = absurd (false≢true q)
+barrier-waits T L t th (MEM p m) q = absurd (false≢true q)
 barrier-waits T L t th IF q = absurd (false≢true q)
 barrier-waits T L t th ELSE q = absurd (false≢true q)
 barrier-waits T L t th ENDIF q = absurd (false≢true q)
@@ -250,7 +262,7 @@ gathered-at T (x ∷ xs) (suc i) q l =
     ∙ and-left _ _ q
 
 -- A release and a thread's row are never possible at one state.
-never-both : (T : Table) (L : Shape) (s : Group) (t : ℕ) → possible T L s release ≡ true → possible T L s (row t) ≡ true → ⊥
+pub never-both : (T : Table) (L : Shape) (s : Group) (t : ℕ) → possible T L s release ≡ true → possible T L s (row t) ≡ true → ⊥
 unfolding possible effectAt threadCount isWaiting
 never-both T L s t r c = true≢false (sym busy ∙ ap (λ a. not (isWaiting a)) still)
   where
@@ -264,7 +276,7 @@ number : Move → ℕ
 number (row t) = suc t
 number release = 0
 
-same-move : (a b : Move) → Dec (a ≡ b)
+pub same-move : (a b : Move) → Dec (a ≡ b)
 same-move release release = yes refl
 same-move release (row u) = no (λ p. let q : 0 ≡ suc u = unfold number in (ap number p) in omega arith)
 same-move (row t) release = no (λ p. let q : suc t ≡ 0 = unfold number in (ap number p) in omega arith)
@@ -274,23 +286,23 @@ same-move (row t) (row u) = at (ℕ-discrete t u)
     at (yes e) = yes (ap row e)
     at (no e) = no (λ p. e (cc))
 
-close : (T : Table) (L : Shape) (s : Group) (a b : Move) → possible T L s a ≡ true → possible T L s b ≡ true → ¬ (a ≡ b) → Close (machine T L) s a b
+pub close : (T : Table) (L : Shape) (s : Group) (a b : Move) → possible T L s a ≡ true → possible T L s b ≡ true → ¬ (a ≡ b) → Close (machine T L) s a b
 close T L s (row t) (row u) p q ne = rows-close T L s t u (λ e. ne (ap row e)) p q
 close T L s (row t) release p q ne = absurd (never-both T L s t q p)
 close T L s release (row u) p q ne = absurd (never-both T L s u p q)
 close T L s release release p q ne = absurd (ne refl)
 
-bad-stops : (T : Table) (L : Shape) (s : Group) (m : Move) → s .bad ≡ true → possible T L s m ≡ true → ⊥
+pub bad-stops : (T : Table) (L : Shape) (s : Group) (m : Move) → s .bad ≡ true → possible T L s m ≡ true → ⊥
 unfolding possible
 bad-stops T L s (row t) b c = true≢false (sym (and-left _ _ c) ∙ ap not b)
 bad-stops T L s release b c = true≢false (sym (and-left _ _ c) ∙ ap not b)
 
-past-waits : (T : Table) (L : Shape) (t : ℕ) (th : Thread) → length T ≤ th .row → effect T L t th ≡ waits
+pub past-waits : (T : Table) (L : Shape) (t : ℕ) (th : Thread) → length T ≤ th .row → effect T L t th ≡ waits
 unfolding effect
 past-waits T L t th l =
     ap (λ b. cond b (effectOf T L t th (rowAt T (th .row)) (rowAt T (th .row) .op)) waits) (le-ltb (th .row) (length T) l)
 
-end-not-gathered : (T : Table) (ths : List Thread) → every (λ th. leb (length T) (th .row)) ths ≡ true → atOneBarrier T ths ≡ true → ⊥
+pub end-not-gathered : (T : Table) (ths : List Thread) → every (λ th. leb (length T) (th .row)) ths ≡ true → atOneBarrier T ths ≡ true → ⊥
 unfolding atOneBarrier every isBarrier rowAt noRow
 end-not-gathered T [] q g = false≢true g
 end-not-gathered T (x ∷ xs) q g =
@@ -301,7 +313,7 @@ end-is-good : (T : Table) (L : Shape) (s : Group) → atEnd T s ≡ true → s .
 unfolding atEnd
 end-is-good T L s e b = true≢false (sym (and-left _ _ e) ∙ ap not b)
 
-end-stops : (T : Table) (L : Shape) (s : Group) (m : Move) → atEnd T s ≡ true → possible T L s m ≡ true → ⊥
+pub end-stops : (T : Table) (L : Shape) (s : Group) (m : Move) → atEnd T s ≡ true → possible T L s m ≡ true → ⊥
 unfolding possible atEnd effectAt isWaiting threadCount
 end-stops T L s (row t) e c = true≢false (sym busy ∙ ap (λ a. not (isWaiting a)) still)
   where

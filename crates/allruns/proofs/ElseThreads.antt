@@ -11,15 +11,14 @@ use borrow.Author.Tests.{eqb-true}
 use Rattle.spec.specs.declared.Verdict.the-variants.{Diverged}
 use Rattle.spec.specs.Mask.{Mask, members, any, full, minus, holding, lowest}
 use Rattle.spec.specs.Op.{Op, CALC, MEM, IF, ELSE, ENDIF, WHILE, ENDWHILE, BARRIER, UNKNOWN}
-use Rattle.spec.specs.Shape.{Shape, shapeOf}
+use Rattle.spec.specs.Shape.{Shape}
 use Rattle.spec.specs.Table.{Table, Row, WellFormed, Fits, rowAt, endOf, openBefore, innermost, startOf}
 use Rattle.spec.specs.LockStep.{LockState, Saved, Step, continues, stops, andThen, inTurn, forEnabled}
 use Rattle.spec.specs.LockStep.{advance, countSteps, topMask, pop, ifRow, elseRow, endifRow, savedAtWhile, leaveOrStay, whileRow, endwhileRow}
-use Rattle.spec.specs.LockStep.{passBarrier, barrierRow, runRow, initialState}
+use Rattle.spec.specs.LockStep.{passBarrier, barrierRow, runRow}
 use Rattle.allruns.proofs.Nesting.{isWhile}
 use Rattle.allruns.proofs.Simulation.{Frame}
 use Rattle.allruns.proofs.Rows.{Sim, savedOf, openersOf, framed-fresh, RowDone, Keeps, keeps-all, keeps-calc, keeps-touch}
-use Rattle.allruns.proofs.LockRun.{start-sim}
 use Rattle.allruns.proofs.BarrierRow.{row-done}
 use Rattle.spec.specs.Threads.{Group}
 
@@ -36,13 +35,13 @@ masked f one s = by (inTurn f (members (s .enabled)) s) (keeps-all f one (member
     by (continues z) k = unfold andThen advance in (k .onSame, k .savedSame)
     by (stops v z) k = unfold andThen in tt
 
-pub masked-barrier : (s : LockState) → Masked s (barrierRow s)
+pub masked-barrier : (L : Shape) (s : LockState) → Masked s (barrierRow L s)
 unfolding barrierRow passBarrier advance
-masked-barrier s = by (any (s .enabled)) (full (s .enabled))
+masked-barrier L s = by (any (s .enabled)) (full (s .enabled))
   where
     by : (a f : Bool)
         → Masked s
-        (cond a (cond f (continues (passBarrier s)) (stops (Diverged (lowest (s .enabled)) (lowest (map not (s .enabled)))) s))
+        (cond a (cond f (continues (passBarrier L s)) (stops (Diverged (lowest (s .enabled)) (lowest (map not (s .enabled)))) s))
         (continues (advance (suc (s .row)) (s .enabled) (s .saved) s)))
     by true true = (refl, refl)
     by true false = tt
@@ -184,13 +183,13 @@ module _ (T : Table) (L : Shape) where
     stepped : (o : Op) → x .op ≡ o → (z : LockState) → RowRun w z → runRow T L x w o ≡ continues z → OpenIfs first z (z .enabled) (z .saved)
     unfolding runRow
     stepped (CALC a) q z r e = same-masks z r (subst (Masked w) e (masked _ (keeps-calc x _) w))
-    stepped (MEM m) q z r e = same-masks z r (subst (Masked w) e (masked _ (keeps-touch L m x) w))
+    stepped (MEM p m) q z r e = same-masks z r (subst (Masked w) e (masked _ (keeps-touch L p m x) w))
     stepped IF q z r e = from (ifRow x w) z (left e) r (opened q)
     stepped ELSE q z r e = from (elseRow w) z (left e) r (divided q)
     stepped ENDIF q z r e = from (endifRow w) z (left e) r (λ k. unfold endifRow advance countSteps in (restored (endifRow w) k (w .enabled) (w .saved) h refl refl))
     stepped WHILE q z r e = unfold whileRow in (looped q _ (at-while (w .saved) h) _ _ z r (left e))
     stepped ENDWHILE q z r e = from (endwhileRow w) z (left e) r (λ k. unfold endwhileRow advance countSteps in (same-masks (endwhileRow w) k (refl, refl)))
-    stepped BARRIER q z r e = same-masks z r (subst (Masked w) e (masked-barrier w))
+    stepped BARRIER q z r e = same-masks z r (subst (Masked w) e (masked-barrier L w))
     stepped UNKNOWN q z r e = same-masks z r (subst (Masked w) e (unfold advance in (refl, refl)))
 
   -- In every state that the run comes to, every open IF is as above.
@@ -221,21 +220,16 @@ module _ (T : Table) (L : Shape) where
         by [] s o = absurd (unknown-not-if (ap (innermost T) o ∙ fits))
         by (f ∷ hs) s o = (_, savedOf hs, s, ap (innermost T) o ∙ fits, ap (λ os. getD os 0 0) o)
 
--- A launch's run comes to an ELSE with the saved mask of its IF on top, and with the threads enabled that this IF enabled when it was last come to.
-module _ (T : Table) (wf : WellFormed T) (n : ℕ) (cells : List ℕ) where
+-- A group's run comes to an ELSE with the saved mask of its IF on top, and with the threads enabled that this IF enabled when it was last come to.
+module _ (T : Table) (wf : WellFormed T) (L : Shape) (first : LockState) (g : Group) (S : Sim T L first [] g) where
   abbrev pub ElseOf : LockState → Type 0
-  ElseOf w =
-      (f : Saved) × (below : List Saved) × (w .saved ≡ f ∷ below) × (f .opener ≡ startOf T (w .row))
-      × OpenIf T (shapeOf n cells) (initialState n cells) w f below (w .enabled)
+  ElseOf w = (f : Saved) × (below : List Saved) × (w .saved ≡ f ∷ below) × (f .opener ≡ startOf T (w .row)) × OpenIf T L first w f below (w .enabled)
 
-  pub else-threads : (w : LockState) → Comes T (shapeOf n cells) (λ z. Unit {0}) (initialState n cells) w → w .row < length T
-      → rowAt T (w .row) .op ≡ ELSE → ElseOf w
-  unfolding initialState
+  pub else-threads : (w : LockState) → Comes T L (λ z. Unit {0}) first w → w .row < length T → rowAt T (w .row) .op ≡ ELSE → ElseOf w
   else-threads w c l q =
-      let L = shapeOf n cells in
-      let at = stands T L wf (initialState n cells) w [] _ (start-sim T wf n cells) c in
+      let at = stands T L wf first w [] g S c in
       let top = at-else T L wf w (at .0) (at .1) (at .2) l q in
-      let ifs = subst (OpenIfs T L (initialState n cells) w (w .enabled)) (top .2) (open-ifs T L (initialState n cells) w refl c) in
+      let ifs = subst (OpenIfs T L first w (w .enabled)) (top .2) (open-ifs T L first w (S .saving) c) in
       (top .0, top .1, top .2, top .4, ifs .0 (top .3))
 
   -- So it enables those of the IF's mask m that the IF did not, whether or not Ra has changed since.

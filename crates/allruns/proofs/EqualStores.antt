@@ -3,34 +3,24 @@
 -- Assumes nothing.
 use mathlib.Core.Path.{_≡_, refl, sym, _∙_, ap, ap₂, subst}
 use mathlib.Core.Logic.{_↔_}
-use mathlib.Core.List.{List, [], _∷_, map}
+use mathlib.Core.List.{List, [], _∷_}
 use mathlib.Core.Bool.{Bool, true, false, cond, not, _&&_, _||_, false≢true, or-true, or-false, and-true, and-false}
 use Prim.Native.Nat.{ℕ, zero, suc, _<_}
 use native.Mathlib.Omega.{arith}
 use native.Mathlib.Decide.{ℕ-discrete}
 use lib.Dec.{eqb}
 use borrow.Author.Tests.{eqb-true, eq-eqb, ne-eqb}
-use lib.ListN.{length, getD, set, replicate, getD-replicate}
+use lib.ListN.{length, getD, set}
 use lib.Seq.{getD-set-other, getD-set-same}
 use Rattle.spec.specs.Access.{Access, Kind, load, store, atomicAdd, valueOf, writes, mode, agree, conflict}
 use Rattle.spec.specs.Lists.{anyOf}
-use Rattle.spec.specs.Log.{Log, masksOf, emptyLog, nobody, cleared, withThread, firstValue, unequal, logged}
+use Rattle.spec.specs.Log.{Log, masksOf, withThread, firstValue, unequal, logged}
 use Rattle.spec.specs.Mask.{Mask, any, has}
 use Rattle.spec.specs.Threads.{AccessRecord, races}
 use Rattle.spec.proofs.LogLaws.{same}
 use Rattle.allruns.proofs.Bools.{and-left, and-right, and-make, or-left-false, or-right-false, or-never, below-none, below-some}
 use Rattle.allruns.proofs.Accesses.{eqb-swap, conflict-agree, some-apart}
 use Rattle.allruns.proofs.LogMatches.{inMode, isOther, holds, LogMatches}
-
-any-replicate : (n : ℕ) → any (replicate n false) ≡ false
-unfolding any
-any-replicate zero = refl
-any-replicate (suc n) = any-replicate n
-
-any-nobody : (m : Mask) → any (nobody m) ≡ false
-unfolding any nobody
-any-nobody [] = refl
-any-nobody (b ∷ m) = any-nobody m
 
 any-set : (m : Mask) (t : ℕ) → t < length m → any (set m t true) ≡ true
 unfolding any
@@ -39,28 +29,9 @@ any-set (b ∷ m) zero l = refl
 any-set (b ∷ m) (suc t) l = ap (λ z. b || z) (any-set m t (omega arith)) ∙ or-true b
 
 -- The first store of an interval is unequal to none.
-unequal-first : (G : Log) (c v : ℕ) → getD (G .marks) c false ≡ false → any (getD (G .writers) c []) ≡ false → unequal G c v ≡ false
+pub unequal-first : (G : Log) (c v : ℕ) → getD (G .marks) c false ≡ false → any (getD (G .writers) c []) ≡ false → unequal G c v ≡ false
 unfolding unequal firstValue
 unequal-first G c v m w = ap₂ (λ a b. a || not (eqb v (cond b (getD (G .values) c 0) v))) m w ∙ ap not (eq-eqb v v refl)
-
-pub unequal-empty : (n k c v : ℕ) → c < k → unequal (emptyLog n k) c v ≡ false
-unfolding emptyLog
-unequal-empty n k c v i =
-    unequal-first (emptyLog n k) c v (getD-replicate k c false false i) (ap any (getD-replicate k c (replicate n false) [] i) ∙ any-replicate n)
-
-pub unequal-cleared : (G : Log) (c v : ℕ) → unequal (cleared G) c v ≡ false
-unfolding cleared
-unequal-cleared G c v = unequal-first (cleared G) c v (unmarked (G .marks) c) (unwritten (G .writers) c)
-  where
-    unmarked : (marks : List Bool) (c : ℕ) → getD (map (λ b. false) marks) c false ≡ false
-    unmarked [] c = refl
-    unmarked (b ∷ marks) zero = refl
-    unmarked (b ∷ marks) (suc c) = unmarked marks c
-
-    unwritten : (masks : List Mask) (c : ℕ) → any (getD (map nobody masks) c []) ≡ false
-    unwritten [] c = unfold any in refl
-    unwritten (m ∷ masks) zero = any-nobody m
-    unwritten (m ∷ masks) (suc c) = unwritten masks c
 
 -- The first value stays with the store of v: that v or w differs from it is that w differs from it or from v.
 first-kept : (mark written : Bool) (f v w : ℕ)
@@ -140,10 +111,10 @@ pub race-free : (n : ℕ) (R : AccessRecord) (t u : ℕ) (x : Access) → races 
 unfolding races
 race-free n R t u x q l e = sym (ap (λ b. not b && anyOf (conflict x) (R u)) (ne-eqb u t e)) ∙ below-none n _ .0 q u l
 
-module _ (n k : ℕ) (R : AccessRecord) (G : Log) (h : LogMatches n k R G) (c v : ℕ) (i : c < k) where
+module _ (n k : ℕ) (p : ℕ → Bool) (R : AccessRecord) (G : Log) (h : LogMatches n k p R G) (c v : ℕ) (i : c < k) (r : p c ≡ true) where
   -- First value and mark say that a store of v is equal to all before it exactly if every store to its cell, by anyone, wrote v.
   pub mark-says : (unequal G c v ≡ false) ↔ ((u : ℕ) → u < n → holds (isOther v) c (R u) ≡ false)
-  mark-says = (λ q. below-none n _ .0 (sym (h .differ c v i) ∙ q), λ a. h .differ c v i ∙ below-none n _ .1 a)
+  mark-says = (λ q. below-none n _ .0 (sym (h .differ c v i r) ∙ q), λ a. h .differ c v i r ∙ below-none n _ .1 a)
 
   -- Where thread w has a store of another value than v, thread u has one if it has a store at all: its stores don't conflict with those of w.
   differ-alike : (u w : ℕ) → u < n → w < n → holds (isOther v) c (R w) ≡ true → holds (isOther v) c (R u) ≡ holds (inMode writes) c (R u)
@@ -153,8 +124,8 @@ module _ (n k : ℕ) (R : AccessRecord) (G : Log) (h : LogMatches n k R G) (c v 
       by (yes e) = ap (λ t. holds (isOther v) c (R t)) e ∙ o ∙ sym (ap (λ t. holds (inMode writes) c (R t)) e ∙ other-stored v c (R w) o)
       by (no e) =
           unfold holds in
-          (let (a, p, r) = some-apart (λ a. eqb c (a .cell) && isOther v (a .kind)) (races n R w) (R w) o (h .free w m) in
-          all-other v c a (R u) p (race-free n R w u a r l e))
+          (let (a, q, f) = some-apart (λ a. eqb c (a .cell) && isOther v (a .kind)) (races n R w) (R w) o (h .free w m) in
+          all-other v c a (R u) q (race-free n R w u a f l e))
 
   -- So the lock-step test, that there are unequal stores and u is among the writers, says of each thread u what the machine's test of its stores, one by
   -- one, says: it has a store of another value than v.
@@ -163,4 +134,4 @@ module _ (n k : ℕ) (R : AccessRecord) (G : Log) (h : LogMatches n k R G) (c v 
     where
       by : (b : Bool) → unequal G c v ≡ b → holds (isOther v) c (R u) ≡ (b && has (getD (masksOf G writes) c []) u)
       by false q = mark-says .0 q u l
-      by true q = let (w, m, o) = below-some n (λ t. holds (isOther v) c (R t)) (sym (h .differ c v i) ∙ q) in differ-alike u w l m o ∙ h .says writes u c l i
+      by true q = let (w, m, o) = below-some n (λ t. holds (isOther v) c (R t)) (sym (h .differ c v i r) ∙ q) in differ-alike u w l m o ∙ h .says writes u c l i r

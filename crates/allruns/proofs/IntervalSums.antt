@@ -6,17 +6,20 @@ use mathlib.Core.Bool.{Bool, true, false, cond}
 use Prim.Native.Nat.{ℕ, zero, suc, _+_, _-_, _*_, _≤_, min}
 use native.Mathlib.Omega.{arith}
 use lib.Dec.{eqb, leb, ltb}
-use lib.ListN.{length, length-replicate}
+use lib.ListN.{length, length-append, length-replicate}
 use Rattle.spec.specs.declared.Verdict.the-variants.{Passed}
 use Rattle.spec.specs.Limits.{maxRecords, maxThreads}
 use Rattle.spec.specs.Mask.{Mask, any}
 use Rattle.spec.specs.Op.{Op, CALC, MEM, IF, ELSE, ENDIF, WHILE, ENDWHILE, BARRIER, UNKNOWN}
-use Rattle.spec.specs.Shape.{Shape, shapeOf}
+use Rattle.spec.specs.Shape.{Shape, Sizes, shapeOf}
+use Rattle.spec.specs.Answers.{isPassed}
+use Rattle.spec.specs.Lists.{joined, lastOf}
+use Rattle.spec.specs.LaunchRun.{GroupRun, groupResult, groupRuns, lastRun, lockstep, nextStart, rowsLeft, runsFrom}
 use Rattle.spec.specs.Table.{Table, Row, rowAt, endOf}
 use Rattle.spec.specs.Steps.{sum}
 use Rattle.spec.specs.LockStep.{LockState, LockResult, Saved, Step, continues, stops, advance, countSteps, topMask, pop, ifRow, elseRow, endifRow}
-use Rattle.spec.specs.LockStep.{savedAtWhile, leaveOrStay, whileRow, endwhileRow, runRow, resultOf, runFrom, initialState, lockstep}
-use Rattle.spec.specs.LockStep.{countedAt, countedAfter, countedFrom, countedBarriers}
+use Rattle.spec.specs.LockStep.{savedAtWhile, leaveOrStay, whileRow, endwhileRow, runRow, resultOf, runFrom, initialState}
+use Rattle.spec.specs.LockStep.{countedAt, countedAfter, countedFrom}
 use Rattle.spec.specs.Intervals.{Interval, Intervals, rowCost, allOf, started, withRow, behind, intervalsAfter, intervalsFrom, intervalRecords, conflictsOf}
 use Rattle.spec.proofs.Laws.{minus-size, holding-size}
 use Rattle.spec.proofs.IntervalLaws.{records-rows, records-conflicts, records-count, row-cost}
@@ -59,14 +62,14 @@ few-same s (stops v z) e h = tt
 few-row : (T : Table) (L : Shape) (x : Row) (s : LockState) (o : Op) → Few s → FewAfter (runRow T L x s o)
 unfolding runRow advance countSteps ifRow elseRow endifRow whileRow endwhileRow
 few-row T L x s (CALC c) h = few-same s (runRow T L x s (CALC c)) (masked _ (keeps-calc x _) s) h
-few-row T L x s (MEM m) h = few-same s (runRow T L x s (MEM m)) (masked _ (keeps-touch L m x) s) h
+few-row T L x s (MEM p m) h = few-same s (runRow T L x s (MEM p m)) (masked _ (keeps-touch L p m x) s) h
 few-row T L x s IF h = (omega (arith, h .0, holding-size (x .a) (s .enabled) (s .regs)), h)
 few-row T L x s ELSE h = let k = few-top (s .saved) (h .1) in (omega (arith, k .0, minus-size (topMask (s .saved)) (s .enabled)), k)
 few-row T L x s ENDIF h = few-top (s .saved) (h .1)
 few-row T L x s WHILE h =
     few-stay T (countSteps (s .enabled) s) _ _ (omega (arith, h .0, holding-size (x .a) (s .enabled) (s .regs))) (few-while (s .row) (s .enabled) (s .saved) (h .0) (h .1))
 few-row T L x s ENDWHILE h = h
-few-row T L x s BARRIER h = few-same s (runRow T L x s BARRIER) (masked-barrier s) h
+few-row T L x s BARRIER h = few-same s (runRow T L x s BARRIER) (masked-barrier L s) h
 few-row T L x s UNKNOWN h = h
 
 abbrev rowsIn : List Interval → ℕ
@@ -126,22 +129,88 @@ sums-run T L (suc left) s few =
     by true h = sums-none s _ refl
     by false h = h
 
--- The records of a launch, whose run ended so.
-pub record AddUp (o : LockResult) (records : List Interval) : Type 0 where
+-- All intervals of the runs of group g, from s, and of the groups behind it; the last of them ends so.
+record AllSums (s : LockState) (o : LockResult) (started : ℕ) (is : List Interval) : Type 0 where
+  pub rows : rowsIn is + s .rows ≡ o .state .rows
+  pub count : length is + s .barriers ≡ o .state .barriers + started
+  pub costs : conflictsOf is ≤ 31 * rowsIn is
+
+rows-joined : (is js : List Interval) → (rowsIn (is ++ js) ≡ rowsIn is + rowsIn js) × (conflictsOf (is ++ js) ≡ conflictsOf is + conflictsOf js)
+unfolding sum conflictsOf
+rows-joined [] js = (omega arith, omega arith)
+rows-joined (i ∷ is) js = let h = rows-joined is js in (omega (arith, h .0), omega (arith, h .1))
+
+-- The intervals of one run in front of those of the next groups' runs.
+sums-then : (s z : LockState) (o₁ o : LockResult) (bs : List (List ℕ)) (is : Intervals) (started : ℕ) (js : List Interval)
+    → Sums s o₁ bs is → length bs + s .barriers ≡ o₁ .state .barriers → z .rows ≡ o₁ .state .rows → z .barriers ≡ o₁ .state .barriers
+    → AllSums z o started js → AllSums s o (suc started) (allOf is ++ js)
+sums-then s z o₁ o bs is started js h c e f k =
+    let r = rows-joined (allOf is) js in
+    record {
+      rows = omega (arith, r .0, h .rows, k .rows, e);
+      count = omega (arith, length-append (allOf is) js, h .count, k .count, c, f);
+      costs = omega (arith, r .0, r .1, h .costs, k .costs);
+    }
+
+sums-alone : (s : LockState) (o : LockResult) (bs : List (List ℕ)) (is : Intervals) → Sums s o bs is → length bs + s .barriers ≡ o .state .barriers
+    → AllSums s o 1 (allOf is ++ [])
+unfolding sum conflictsOf
+sums-alone s o bs is h c = sums-then s (o .state) o o bs is 0 [] h c refl refl (record { rows = omega arith; count = omega arith; costs = omega arith })
+
+module _ (T : Table) (Z : Sizes) (limit : ℕ) (few : Z .threads ≤ maxThreads) where
+  abbrev intervalsOf : GroupRun → List Interval
+  intervalsOf u = allOf (intervalsFrom T (u .shape) (rowsLeft limit u) (u .start))
+
+  all-sums : (j g : ℕ) (s : LockState) (d : GroupRun) → Few s → let us = runsFrom T Z limit j g s in
+      AllSums s (groupResult T limit (lastOf d us)) (length us) (joined (map intervalsOf us))
+  unfolding runsFrom lastOf joined groupResult
+  all-sums zero g s d f =
+      let left = rowsLeft limit (record { shape = shapeOf Z g; start = s }) in
+      sums-alone s _ (countedFrom T (shapeOf Z g) left s) _ (sums-run T (shapeOf Z g) left s f) (counted-length T (shapeOf Z g) left s)
+  all-sums (suc j) g s d f = by (isPassed (o .verdict)) (all-sums j (suc g) (nextStart (shapeOf Z (suc g)) (o .state)))
+    where
+      u : GroupRun
+      u = record { shape = shapeOf Z g; start = s }
+
+      o : LockResult
+      o = groupResult T limit u
+
+      z : LockState
+      z = nextStart (shapeOf Z (suc g)) (o .state)
+
+      later : List GroupRun
+      later = runsFrom T Z limit j (suc g) z
+
+      run : Sums s o (countedFrom T (shapeOf Z g) (rowsLeft limit u) s) (intervalsFrom T (shapeOf Z g) (rowsLeft limit u) s)
+      run = unfold groupResult in (sums-run T (shapeOf Z g) (rowsLeft limit u) s f)
+
+      barriers : length (countedFrom T (shapeOf Z g) (rowsLeft limit u) s) + s .barriers ≡ o .state .barriers
+      barriers = unfold groupResult in (counted-length T (shapeOf Z g) (rowsLeft limit u) s)
+
+      few-next : Few z
+      few-next = unfold nextStart in (omega (arith, length-replicate (Z .threads) true), tt)
+
+      by : (b : Bool) → ((d : GroupRun) → Few z → AllSums z (groupResult T limit (lastOf d later)) (length later) (joined (map intervalsOf later)))
+          → AllSums s (groupResult T limit (lastOf u (cond b later []))) (suc (length (cond b later []))) (intervalsOf u ++ joined (map intervalsOf (cond b later [])))
+      by true ih = sums-then s z o _ _ _ _ _ run barriers (unfold nextStart in refl) (unfold nextStart in refl) (ih u few-next)
+      by false ih = unfold lastOf joined in (sums-alone s o _ _ run barriers)
+
+-- The records of a launch, of whose groups so many were started and whose run ended so.
+pub record AddUp (started : ℕ) (o : LockResult) (records : List Interval) : Type 0 where
   pub rows : sum (map (λ i. i .rows) records) ≡ o .state .rows
-  pub count : length records ≡ min (o .state .barriers + 1) maxRecords
+  pub count : length records ≡ min (o .state .barriers + started) maxRecords
   pub costs : conflictsOf records ≤ 31 * o .state .rows
 
-pub add-up : (T : Table) (n : ℕ) (cells : List ℕ) (limit : ℕ) → n ≤ maxThreads → AddUp (lockstep T n cells limit) (intervalRecords T n cells limit)
-unfolding lockstep countedBarriers intervalRecords initialState
-add-up T n cells limit l =
-    let L = shapeOf n cells in
-    let first = initialState n cells in
-    let h = sums-run T L limit first (omega (arith, length-replicate n true), tt) in
-    let is = allOf (intervalsFrom T L limit first) in
+pub add-up : (T : Table) (Z : Sizes) (cells : List ℕ) (limit : ℕ) → Z .threads ≤ maxThreads
+    → AddUp (length (groupRuns T Z cells limit)) (lockstep T Z cells limit) (intervalRecords T Z cells limit)
+unfolding lockstep lastRun groupRuns intervalRecords initialState
+add-up T Z cells limit l =
+    let h = all-sums T Z limit l (Z .groups - 1) 0 (initialState Z cells) (record { shape = shapeOf Z 0; start = initialState Z cells })
+    (omega (arith, length-replicate (Z .threads) true), tt) in
+    let is = joined (map (intervalsOf T Z limit l) (groupRuns T Z cells limit)) in
     let k = maxRecords - 1 in
     record {
       rows = omega (arith, records-rows k is, h .rows);
-      count = omega (arith, records-count k is, h .count, counted-length T n cells limit);
+      count = omega (arith, records-count k is, h .count);
       costs = omega (arith, records-conflicts k is, h .costs, h .rows);
     }

@@ -10,11 +10,13 @@ use lib.ListN.{length, getD, set, replicate, length-set, length-map, length-repl
 use Rattle.spec.specs.Access.{Kind}
 use Rattle.spec.specs.AllRuns.{RunOf, leaves}
 use Rattle.spec.specs.Limits.{registers}
-use Rattle.spec.specs.Op.{BARRIER, CALC, ELSE, ENDIF, ENDWHILE, IF, MEM, Mem, Op, UNKNOWN, WHILE}
+use Rattle.spec.specs.Op.{BARRIER, CALC, ELSE, ENDIF, ENDWHILE, IF, MEM, Op, Space, UNKNOWN, WHILE}
 use Rattle.spec.specs.Runs.{Run, after}
-use Rattle.spec.specs.Shape.{Shape, address, bound, shapeOf}
+use Rattle.spec.specs.LaunchThreads as launch
+use Rattle.spec.specs.LaunchThreads.{Groups, Part, initialGroups, initialPart, noPart, ofGroup, partOf, view, withGroup}
+use Rattle.spec.specs.Shape.{Shape, Sizes, address, bound, shapeOf}
 use Rattle.spec.specs.Table.{Table, rowAt}
-use Rattle.spec.specs.Threads.{Effect, Group, Move, Thread, accesses, cellsAfter, effect, effectAt, effectOf, endsBadly, initialGroup, isBarrier}
+use Rattle.spec.specs.Threads.{Effect, Group, Move, Thread, accesses, cellsAfter, effect, effectAt, effectOf, endsBadly, initialThreads, isBarrier}
 use Rattle.spec.specs.Threads.{machine, markBad, next, noThread, pastBarrier, performed, possible, reach, release, released, row, strays, threadAfter}
 use Rattle.spec.specs.Threads.{threadCount, waits}
 use Rattle.allruns.proofs.Lists.{getD-map-at}
@@ -51,7 +53,7 @@ pub record Keeps (T : Table) (L : Shape) (P : Thread → Type 0) (Q : List ℕ �
 barrier-op : (o : Op) → isBarrier o ≡ true → o ≡ BARRIER
 unfolding isBarrier
 barrier-op (CALC c) q = absurd (false≢true q)
-barrier-op (MEM m) q = absurd (false≢true q)
+barrier-op (MEM p m) q = absurd (false≢true q)
 barrier-op IF q = absurd (false≢true q)
 barrier-op ELSE q = absurd (false≢true q)
 barrier-op ENDIF q = absurd (false≢true q)
@@ -61,11 +63,11 @@ barrier-op BARRIER q = refl
 barrier-op UNKNOWN q = absurd (false≢true q)
 
 -- What LOAD and STORE come to.
-pub reach-cases : (F : Effect → Type 0) (L : Shape) (m : Mem) (c : ℕ) (k : Kind) (d : ℕ) → F (accesses (address L m c) k d) → F strays → F (reach L m c k d)
+pub reach-cases : (F : Effect → Type 0) (L : Shape) (p : Space) (c : ℕ) (k : Kind) (d : ℕ) → F (accesses (address L p c) k d) → F strays → F (reach L p c k d)
 unfolding reach
-reach-cases F L m c k d f g = by (ltb c (bound L m))
+reach-cases F L p c k d f g = by (ltb c (bound L p))
   where
-    by : (z : Bool) → F (cond z (accesses (address L m c) k d) strays)
+    by : (z : Bool) → F (cond z (accesses (address L p c) k d) strays)
     by true = f
     by false = g
 
@@ -119,9 +121,52 @@ module _ (T : Table) (L : Shape) (P : Thread → Type 0) (Q : List ℕ → Type 
   keeps-run [] s r h = h
   keeps-run (m ∷ ms) s r h = keeps-run ms (next T L s m) (r .1) (keeps-next s m (r .0) h)
 
-pub in-every-run : (T : Table) (n : ℕ) (cells : List ℕ) (P : Thread → Type 0) (Q : List ℕ → Type 0) → Keeps T (shapeOf n cells) P Q → Q cells
-    → (ms : List Move) → RunOf T n cells ms → Holds n P Q (leaves T n cells ms)
-unfolding shapeOf initialGroup
-in-every-run T n cells P Q k q ms r =
-    keeps-run T (shapeOf n cells) P Q k ms _ r
-    (record { count = length-replicate n _; each = λ t l. rw (getD-replicate n t _ noThread l) (k .first); shared = q })
+-- The same of all groups of a launch: P holds of each thread of each group, and Q of the cells.
+pub record HoldsIn (Z : Sizes) (P : Thread → Type 0) (Q : List ℕ → Type 0) (S : Groups) : Type 0 where
+  pub groups : length (S .parts) ≡ Z .groups
+  pub count : (g : ℕ) → g < Z .groups → length (getD (S .parts) g noPart .threads) ≡ Z .threads
+  pub each : (g t : ℕ) → g < Z .groups → t < Z .threads → P (getD (getD (S .parts) g noPart .threads) t noThread)
+  pub shared : Q (S .cells)
+
+module _ (T : Table) (Z : Sizes) (P : Thread → Type 0) (Q : List ℕ → Type 0) (k : (g : ℕ) → Keeps T (shapeOf Z g) P Q) where
+  -- What a part holds.
+  abbrev Part₁ : Part → Type 0
+  Part₁ x = (length (x .threads) ≡ Z .threads) × ((t : ℕ) → t < Z .threads → P (getD (x .threads) t noThread))
+
+  part-of : (S : Groups) (g : ℕ) → g < Z .groups → HoldsIn Z P Q S → Part₁ (getD (S .parts) g noPart)
+  part-of S g l h = (h .count g l, λ t m. h .each g t l m)
+
+  group-moved : (S : Groups) (g : ℕ) (v : Group) → HoldsIn Z P Q S → Holds (Z .threads) P Q v → HoldsIn Z P Q (withGroup S g v)
+  group-moved S g v h u =
+      record {
+        groups = length-set (S .parts) g (partOf v) ∙ h .groups;
+        count = λ e l. at e l .0;
+        each = λ e t l m. at e l .1 t m;
+        shared = u .shared;
+      }
+    where
+      at : (e : ℕ) → e < Z .groups → Part₁ (getD (set (S .parts) g (partOf v)) e noPart)
+      at e l = set-keeps Part₁ (S .parts) noPart g (partOf v) e (λ z. (u .count, u .each)) (part-of S e l h)
+
+  launch-next : (S : Groups) (m : launch.Move) → launch.possible T Z S m ≡ true → HoldsIn Z P Q S → HoldsIn Z P Q (launch.next T Z S m)
+  unfolding launch.possible launch.next
+  launch-next S (ofGroup g m) c h =
+      group-moved S g _ h
+      (keeps-next T (shapeOf Z g) P Q (k g) (view Z S g) m (and-right (ltb g (Z .groups)) _ c)
+      (let l = ltb-true g (Z .groups) (and-left _ _ c) in record { count = h .count g l; each = λ t i. h .each g t l i; shared = h .shared }))
+
+  launch-run : (ms : List launch.Move) (S : Groups) → Run (launch.machine T Z) S ms → HoldsIn Z P Q S → HoldsIn Z P Q (after (launch.machine T Z) S ms)
+  launch-run [] S r h = h
+  launch-run (m ∷ ms) S r h = launch-run ms (launch.next T Z S m) (r .1) (launch-next S m (r .0) h)
+
+pub in-every-run : (T : Table) (Z : Sizes) (cells : List ℕ) (P : Thread → Type 0) (Q : List ℕ → Type 0) → ((g : ℕ) → Keeps T (shapeOf Z g) P Q) → Q cells
+    → (ms : List launch.Move) → RunOf T Z cells ms → HoldsIn Z P Q (leaves T Z cells ms)
+unfolding initialGroups initialPart initialThreads
+in-every-run T Z cells P Q k q ms r =
+    launch-run T Z P Q k ms _ r
+    (record {
+      groups = length-replicate (Z .groups) _;
+      count = λ g l. rw (getD-replicate (Z .groups) g (initialPart T Z) noPart l) (length-replicate (Z .threads) _);
+      each = λ g t l m. rw (getD-replicate (Z .groups) g (initialPart T Z) noPart l) (rw (getD-replicate (Z .threads) t _ noThread m) (k 0 .first));
+      shared = q;
+    })

@@ -8,22 +8,26 @@ use native.Mathlib.Omega.{arith}
 use lib.Dec.{leb}
 use borrow.Author.Tests.{leb-true, leb-false, le-leb}
 use lib.ListN.{getD-replicate, length, getD, replicate, length-replicate, List·getD-eq-default}
-use Rattle.spec.specs.AllRuns.{isRelease}
+use Rattle.spec.specs.GroupLog.{emptyGroupLog}
+use Rattle.spec.specs.Limits.{registers}
+use Rattle.spec.specs.Log.{emptyLog}
 use Rattle.spec.specs.LockStep.{LockResult, LockState, Step, continues, countedAfter, countedFrom, initialState, resultOf, runFrom, runRow, stops}
 use Rattle.spec.specs.Mask.{has}
 use Rattle.spec.specs.Runs.{Run, after, many, shownTo}
-use Rattle.spec.specs.Shape.{Shape, shapeOf, total}
+use Rattle.spec.specs.Shape.{Shape, Sizes, oneGroup, reaches, shapeOf, total}
 use Rattle.spec.specs.Table.{Table, WellFormed, noRow, openBefore, rowAt}
-use Rattle.spec.specs.Threads.{Group, Move, atEnd, initialGroup, machine, noThread, released, row}
+use Rattle.spec.specs.Threads.{Group, Move, atEnd, emptyRecord, initialThreads, machine, noThread, released, row}
 use Rattle.spec.specs.declared.Verdict.{Verdict}
-use Rattle.spec.specs.declared.Verdict.the-variants.{Diverged, Outside, Passed, Race, Spent}
+use Rattle.spec.specs.declared.Verdict.the-variants.{Diverged, GroupRace, Outside, Passed, Race, Spent}
 use Rattle.allruns.proofs.Counts.{passedAt, counted-is}
 use Rattle.allruns.proofs.Descent.{many-append, run-append, after-append, seen-append}
-use Rattle.allruns.proofs.LogRecord.{log-empty}
+use Rattle.allruns.proofs.LogMatches.{BlankAt, LogMatches, LogSized}
+use Rattle.allruns.proofs.LogRecord.{empty-blank, empty-sized, log-blank}
+use Rattle.allruns.proofs.GroupMatches.{GroupMatches, groups-empty}
 use Rattle.allruns.proofs.Bools.{and-make}
 use Rattle.allruns.proofs.Blocked.{Blocked}
 use Rattle.allruns.proofs.BarrierRow.{row-done, every-make}
-use Rattle.allruns.proofs.StepCounts.{stepsAfter, steps-append}
+use Rattle.allruns.proofs.StepCounts.{isOwnRelease, stepsAfter, steps-append}
 use Rattle.allruns.proofs.Rows.{openersOf, fresh, Sim, Advanced, Failed, RowDone, framed-fresh}
 use Rattle.allruns.proofs.Nesting.{isWhile}
 use Rattle.allruns.proofs.Simulation.{Frame, loopsOf, place, body}
@@ -34,13 +38,15 @@ pub record Completes (T : Table) (L : Shape) (s : LockState) (g : Group) (o : Lo
   pub run : Run (machine T L) g moves
   pub ended : atEnd T (after (machine T L) g moves) ≡ true
   pub counted : o .state .steps ≡ stepsAfter (s .steps) moves
-  pub released : many isRelease moves + s .barriers ≡ o .state .barriers
+  pub released : many isOwnRelease moves + s .barriers ≡ o .state .barriers
   pub sees : shownTo (machine T L) tt g moves ≡ bs
   pub finally : after (machine T L) g moves .cells ≡ o .state .cells
+  pub groups : GroupMatches L (total L) (after (machine T L) g moves .ever) (after (machine T L) g moves .barred) (o .state .groupLog)
 
 abbrev pub Simulates : Table → Shape → LockState → Group → LockResult → List (List ℕ) → Verdict → Type 0
 Simulates T L s g o bs Passed = Completes T L s g o bs
 Simulates T L s g o bs (Race t u k a) = Failed T L g (Race t u k a)
+Simulates T L s g o bs (GroupRace t h k a) = Failed T L g (GroupRace t h k a)
 Simulates T L s g o bs (Outside t a) = Failed T L g (Outside t a)
 Simulates T L s g o bs (Diverged t u) = Failed T L g (Diverged t u)
 Simulates T L s g o bs Spent = Unit {0}
@@ -81,6 +87,7 @@ complete-here T w L s fs g S l o e =
       released = let b = ap (λ z. z .barriers) e in omega arith;
       sees = refl;
       finally = S .match .cells ∙ ap (λ z. z .cells) (sym e);
+      groups = subst (λ z. GroupMatches L (total L) (g .ever) (g .barred) (z .groupLog)) (sym e) (S .match .groups);
     }
 
 complete-on : (T : Table) (L : Shape) (s z : LockState) (g : Group) (o : LockResult) (bs : List (List ℕ)) (h : Advanced T L s g z)
@@ -91,9 +98,11 @@ complete-on T L s z g o bs h t =
       run = run-append (machine T L) g (h .moves) (t .moves) (h .run) (t .run);
       ended = ap (atEnd T) (after-append (machine T L) g (h .moves) (t .moves)) ∙ t .ended;
       counted = t .counted ∙ ap (λ steps. stepsAfter steps (t .moves)) (h .counted) ∙ sym (steps-append (s .steps) (h .moves) (t .moves));
-      released = omega (arith, many-append (machine T L) isRelease (h .moves) (t .moves), h .released, t .released);
+      released = omega (arith, many-append (machine T L) isOwnRelease (h .moves) (t .moves), h .released, t .released);
       sees = seen-append (machine T L) tt g (h .moves) (t .moves) ∙ ap₂ _++_ (h .sees) (t .sees);
       finally = ap (λ x. x .cells) (after-append (machine T L) g (h .moves) (t .moves)) ∙ t .finally;
+      groups =
+          subst (λ x. GroupMatches L (total L) (x .ever) (x .barred) (o .state .groupLog)) (sym (after-append (machine T L) g (h .moves) (t .moves))) (t .groups);
     }
 
 failed-on : (T : Table) (L : Shape) (s z : LockState) (g : Group) (v : Verdict) (h : Advanced T L s g z)
@@ -110,6 +119,7 @@ simulates-on : (T : Table) (L : Shape) (s z : LockState) (g : Group) (o : LockRe
     → Simulates T L z (after (machine T L) g (h .moves)) o bs v → Simulates T L s g o (passedAt (rowAt T (s .row) .op) s ++ bs) v
 simulates-on T L s z g o bs h Passed t = complete-on T L s z g o bs h t
 simulates-on T L s z g o bs h (Race t u k a) f = failed-on T L s z g (Race t u k a) h f
+simulates-on T L s z g o bs h (GroupRace t u k a) f = failed-on T L s z g (GroupRace t u k a) h f
 simulates-on T L s z g o bs h (Outside t a) f = failed-on T L s z g (Outside t a) h f
 simulates-on T L s z g o bs h (Diverged t u) f = failed-on T L s z g (Diverged t u) h f
 simulates-on T L s z g o bs h Spent t = tt
@@ -118,6 +128,7 @@ simulates-fail : (T : Table) (L : Shape) (s : LockState) (g : Group) (o : LockRe
     → Simulates T L s g o bs v
 simulates-fail T L s g o bs Passed f = absurd (f .stopping)
 simulates-fail T L s g o bs (Race t u k a) f = f
+simulates-fail T L s g o bs (GroupRace t u k a) f = f
 simulates-fail T L s g o bs (Outside t a) f = f
 simulates-fail T L s g o bs (Diverged t u) f = f
 simulates-fail T L s g o bs Spent f = tt
@@ -160,27 +171,86 @@ simulates T w L (suc k) s fs g S = by (leb (length T) (s .row)) refl (simulates 
         at (stops v z) e h =
             unfold resultOf in (simulates-fail T L s g (record { verdict = v; state = z }) (countedAfter s (stops v z) (countedFrom T L k)) v h)
 
-pub start-sim : (T : Table) → WellFormed T → (n : ℕ) (cells : List ℕ)
-    → Sim T (shapeOf n cells) (initialState n cells) [] (initialGroup T (shapeOf n cells) cells)
-unfolding initialState initialGroup shapeOf
-start-sim T w n cells =
+-- A group starts: at row 0 with all threads enabled and registers zero, none of them has moved, the log says nothing at the places that it can name, and
+-- the group masks say what is barred to it. Cells, rows and barriers are any.
+pub record Starts (T : Table) (L : Shape) (s : LockState) (g : Group) : Type 0 where
+  pub numbered : L .group < L .groups
+  pub first : s .row ≡ 0
+  pub enabled : s .enabled ≡ replicate (L .threads) true
+  pub saved : s .saved ≡ []
+  pub regs : s .regs ≡ replicate (L .threads) (replicate registers 0)
+  pub threads : g .threads ≡ initialThreads T (L .threads)
+  pub cells : g .cells ≡ s .cells
+  pub celled : length (s .cells) ≡ total L
+  pub made : g .made ≡ emptyRecord
+  pub good : g .bad ≡ false
+  pub sized : LogSized (L .threads) (total L) (s .log)
+  pub blank : (i : ℕ) → i < total L → reaches L i ≡ true → BlankAt (s .log) i
+  pub groups : GroupMatches L (total L) (g .ever) (g .barred) (s .groupLog)
+
+pub group-sim : (T : Table) → WellFormed T → (L : Shape) (s : LockState) (g : Group) → Starts T L s g → Sim T L s [] g
+unfolding initialThreads
+group-sim T w L s g h =
     record {
       match = record {
-        good = refl;
-        size = length-replicate n _;
-        regged = length-replicate n _;
-        threads = λ t l. getD-replicate n t _ noThread l ∙ ap₂ body (unfold place loopsOf in refl) (sym (getD-replicate n t (replicate 16 0) [] l));
-        cells = refl;
-        celled = unfold total in refl;
-        logs = log-empty n (length cells);
+        good = h .good;
+        size = ap length (h .threads) ∙ length-replicate n _;
+        regged = ap length (h .regs) ∙ length-replicate n _;
+        threads = λ t l.
+            ap (λ ths. getD ths t noThread) (h .threads) ∙ getD-replicate n t _ noThread l
+            ∙ ap₂ body (sym (spot t)) (sym (ap (λ rs. getD rs t []) (h .regs) ∙ getD-replicate n t (replicate registers 0) [] l));
+        cells = h .cells;
+        celled = h .celled;
+        numbered = h .numbered;
+        logs = subst (λ R. LogMatches n (total L) (reaches L) R (s .log)) (sym (h .made)) (log-blank n (total L) (reaches L) (s .log) (h .sized) (h .blank));
+        groups = h .groups;
       };
-      saving = refl;
-      nested = λ t l. unfold has in (getD-replicate n t true false l);
-      onSize = length-replicate n true;
+      saving = h .saved;
+      nested = λ t l. unfold has in (ap (λ m. getD m t false) (h .enabled) ∙ getD-replicate n t true false l);
+      onSize = ap length (h .enabled) ∙ length-replicate n true;
       sized = tt;
-      framed = fresh {fs = []} none;
-      within = omega arith;
+      framed = fresh {fs = []} (none ∙ ap (openBefore T) (sym (h .first)));
+      within = let e = h .first in omega (arith, e);
     }
   where
+    n : ℕ
+    n = L .threads
+
     none : [] ≡ openBefore T 0
     none = unfold openBefore in refl
+
+    spot : (t : ℕ) → place T (s .row) (s .enabled) [] t ≡ record { row = 0; loops = replicate (length T) 0 }
+    spot t = unfold place loopsOf in (ap (λ r. record { row = r; loops = replicate (length T) 0 }) (h .first))
+
+-- Group 0, before anyone has moved: nothing is barred to it.
+unfoldable pub firstGroup : Table → Shape → (cells : List ℕ) → Group
+firstGroup T L cells =
+    record { threads = initialThreads T (L .threads); cells = cells; made = emptyRecord; ever = emptyRecord; barred = λ a. false; bad = false }
+
+pub first-sim : (T : Table) → WellFormed T → (Z : Sizes) (cells : List ℕ) → 0 < Z .groups → length cells ≡ total (shapeOf Z 0)
+    → Sim T (shapeOf Z 0) (initialState Z cells) [] (firstGroup T (shapeOf Z 0) cells)
+unfolding initialState firstGroup
+first-sim T w Z cells g e =
+    group-sim T w (shapeOf Z 0) (initialState Z cells) (firstGroup T (shapeOf Z 0) cells)
+    (record {
+      numbered = g;
+      first = refl;
+      enabled = refl;
+      saved = refl;
+      regs = refl;
+      threads = refl;
+      cells = refl;
+      celled = e;
+      made = refl;
+      good = refl;
+      sized = subst (λ k. LogSized (Z .threads) k (emptyLog (Z .threads) (length cells))) e (empty-sized (Z .threads) (length cells));
+      blank = λ i l r. empty-blank (Z .threads) (length cells) i (omega (arith, e, l));
+      groups = subst (λ k. GroupMatches (shapeOf Z 0) k emptyRecord (λ a. false) (emptyGroupLog (Z .groups) (length cells))) e
+          (groups-empty (shapeOf Z 0) (length cells) g);
+    })
+
+-- A launch of one group.
+pub start-sim : (T : Table) → WellFormed T → (n : ℕ) (cells : List ℕ) → let L = shapeOf (oneGroup n cells) 0 in
+    Sim T L (initialState (oneGroup n cells) cells) [] (firstGroup T L cells)
+unfolding total
+start-sim T w n cells = first-sim T w (oneGroup n cells) cells (omega arith) (omega arith)

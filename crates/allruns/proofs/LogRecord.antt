@@ -1,25 +1,25 @@
 -- The lock-step log stands for the machine's access record. Assumes nothing.
 use mathlib.Core.Path.{_≡_, refl, sym, _∙_, ap, ap₂, subst}
-use mathlib.Core.List.{List, [], _∷_, _++_, map}
+use mathlib.Core.List.{List, [], _∷_, _++_}
 use mathlib.Core.Bool.{Bool, true, false, cond, not, _&&_, _||_, or-comm, and-true, and-false, or-false, Bool·not-not}
-use Prim.Native.Nat.{ℕ, zero, suc, _<_}
+use Prim.Native.Nat.{ℕ, zero, suc, _+_, _<_}
 use native.Mathlib.Omega.{arith}
 use native.Mathlib.Decide.{ℕ-discrete}
 use lib.Dec.{eqb, ltb}
 use borrow.Author.Tests.{eq-eqb, ne-eqb, ltb-true, ltb-false}
-use lib.ListN.{length, getD, set, replicate, length-set, length-replicate, length-map, getD-replicate}
+use lib.ListN.{length, getD, set, replicate, length-set, length-replicate, getD-replicate}
 use lib.Seq.{getD-set-other, getD-set-same, set-out}
 use Rattle.spec.specs.Access.{Access, Kind, load, store, atomicAdd, valueOf, Mode, reads, writes, adds, mode, agree, conflict}
-use Rattle.spec.specs.Lists.{anyOf}
+use Rattle.spec.specs.Lists.{anyOf, mapWhere}
 use Rattle.spec.specs.Log.{Log, masksOf, emptyLog, nobody, cleared, withThread, unequal, logged, conflicting, testedMask, conflictMask}
 use Rattle.spec.specs.Mask.{Mask, any, has, union}
 use Rattle.spec.specs.Threads.{AccessRecord, anyBelow, emptyRecord, races, recorded}
-use Rattle.spec.proofs.LogLaws.{same, masks-logged, masks-cleared, masks-empty, wiped-size, tested-size}
+use Rattle.spec.proofs.LogLaws.{same, masks-logged, masks-cleared, masks-empty, nobody-size, where-size, where-at, tested-size}
 use Rattle.allruns.proofs.Bools.{or-never, below-none, below-same, below-more}
 use Rattle.allruns.proofs.Accesses.{conflict-swap, some-same, some-or, some-none}
 use Rattle.allruns.proofs.Diamond.{races-more}
-use Rattle.allruns.proofs.LogMatches.{inMode, isOther, holds, LogMatches}
-use Rattle.allruns.proofs.EqualStores.{unequal-empty, unequal-cleared, unequal-logged, race-free, writer-says}
+use Rattle.allruns.proofs.LogMatches.{inMode, isOther, holds, LogSized, LogMatches, BlankAt, LogSame}
+use Rattle.allruns.proofs.EqualStores.{unequal-first, unequal-logged, race-free, writer-says}
 
 pub any-below : (m : Mask) → any m ≡ anyBelow (length m) (has m)
 unfolding any anyBelow has
@@ -77,7 +77,7 @@ enter-has masks c t e u l k = by (ℕ-discrete e c)
         ∙ fin (eqb u t) (has (getD masks c []) u) ∙ ap (λ v. has (getD masks v []) u || (eqb u t && true)) (sym q))
     by (no q) = rw (ne-eqb e c q) (ap (λ m. has m u) (getD-set-other masks c e _ [] q) ∙ non (eqb u t) _)
 
-enter-size : (masks : List Mask) (c t e : ℕ) → length (getD (withThread masks c t) e []) ≡ length (getD masks e [])
+pub enter-size : (masks : List Mask) (c t e : ℕ) → length (getD (withThread masks c t) e []) ≡ length (getD masks e [])
 unfolding withThread
 enter-size masks c t e = by (ℕ-discrete e c) (ltb c (length masks)) refl
   where
@@ -100,7 +100,7 @@ marks-size G c t load = refl
 marks-size G c t (store v) = length-set (G .marks) c _
 marks-size G c t (atomicAdd v) = refl
 
-nobody-has : (m : Mask) (t : ℕ) → has (nobody m) t ≡ false
+pub nobody-has : (m : Mask) (t : ℕ) → has (nobody m) t ≡ false
 unfolding has nobody
 nobody-has [] t = refl
 nobody-has (b ∷ m) zero = refl
@@ -163,9 +163,57 @@ tested n R t x m l s h =
     pick true a = refl
     pick false a = refl
 
-module _ (n k : ℕ) (R : AccessRecord) (G : Log) (h : LogMatches n k R G) (t c : ℕ) (l : t < n) (i : c < k) where
+pub replicate-has : (n t : ℕ) → has (replicate n false) t ≡ false
+unfolding has
+replicate-has zero t = refl
+replicate-has (suc n) zero = refl
+replicate-has (suc n) (suc t) = replicate-has n t
+
+mask-empty : (n k : ℕ) (m : Mode) (c : ℕ) → c < k → getD (masksOf (emptyLog n k) m) c [] ≡ replicate n false
+mask-empty n k m c i = ap (λ y. getD y c []) (masks-empty n k m) ∙ getD-replicate k c (replicate n false) [] i
+
+where-from : {A : Type 0} (p : ℕ → Bool) (f : A → A) (xs : List A) (j : ℕ) (d : A) → j < length xs
+    → getD (mapWhere p f 0 xs) j d ≡ cond (p j) (f (getD xs j d)) (getD xs j d)
+where-from p f xs j d l = where-at p f 0 xs j d l ∙ ap (λ k. cond (p k) (f (getD xs j d)) (getD xs j d)) (let z : 0 + j ≡ j = omega arith in z)
+
+mask-cleared : (p : ℕ → Bool) (G : Log) (m : Mode) (c : ℕ) → c < length (masksOf G m)
+    → getD (masksOf (cleared p G) m) c [] ≡ cond (p c) (nobody (getD (masksOf G m) c [])) (getD (masksOf G m) c [])
+mask-cleared p G m c i = ap (λ y. getD y c []) (masks-cleared p G m) ∙ where-from p nobody (masksOf G m) c [] i
+
+pub logged-sized : (n k : ℕ) (G : Log) (c t : ℕ) (x : Kind) → LogSized n k G → LogSized n k (logged G c t x)
+logged-sized n k G c t x z =
+    record {
+      count = λ m. ap length (masks-logged G c t x m) ∙ counted m (same m (mode x)) ∙ z .count m;
+      size = λ m e j. ap (λ y. length (getD y e [])) (masks-logged G c t x m) ∙ sized m (same m (mode x)) e ∙ z .size m e j;
+      valueCount = values-size G c t x ∙ z .valueCount;
+      markCount = marks-size G c t x ∙ z .markCount;
+    }
+  where
+    after : Mode → Bool → List Mask
+    after m b = cond b (withThread (masksOf G m) c t) (masksOf G m)
+
+    counted : (m : Mode) (b : Bool) → length (after m b) ≡ length (masksOf G m)
+    counted m true = unfold withThread in (length-set (masksOf G m) c _)
+    counted m false = refl
+
+    sized : (m : Mode) (b : Bool) (e : ℕ) → length (getD (after m b) e []) ≡ length (getD (masksOf G m) e [])
+    sized m true e = enter-size (masksOf G m) c t e
+    sized m false e = refl
+
+-- The record with the access x: what it had, and x.
+pub holds-recorded : (R : AccessRecord) (t c : ℕ) (p : Kind → Bool) (x : Kind) (u e : ℕ)
+    → holds p e (recorded R t (record { cell = c; kind = x } ∷ []) u) ≡ (holds p e (R u) || (eqb u t && (eqb e c && p x)))
+unfolding holds recorded anyOf
+holds-recorded R t c p x u e = by (eqb u t)
+  where
+    by : (d : Bool) → anyOf (λ a. eqb e (a .cell) && p (a .kind)) (cond d (record { cell = c; kind = x } ∷ R u) (R u))
+        ≡ (anyOf (λ a. eqb e (a .cell) && p (a .kind)) (R u) || (d && (eqb e c && p x)))
+    by true = or-comm (eqb e c && p x) (anyOf (λ a. eqb e (a .cell) && p (a .kind)) (R u))
+    by false = sym (or-false (anyOf (λ a. eqb e (a .cell) && p (a .kind)) (R u)))
+
+module _ (n k : ℕ) (q : ℕ → Bool) (R : AccessRecord) (G : Log) (h : LogMatches n k q R G) (t c : ℕ) (l : t < n) (i : c < k) (r : q c ≡ true) where
   against-size : (x : Kind) → length (testedMask G c x) ≡ n
-  against-size x = tested-size G c x n (λ m. h .size m c i)
+  against-size x = tested-size G c x n (λ m. h .sized .size m c i)
 
   -- What the conflict table makes of an access in mode y beside one in mode x is found in the masks of one mode.
   by-modes : (e q : Bool) (x y : Mode) → (e && not (agree q x y))
@@ -188,7 +236,7 @@ module _ (n k : ℕ) (R : AccessRecord) (G : Log) (h : LogMatches n k R G) (t c 
   in-mode : (m : Mode) (p : Bool) (u : ℕ) → u < n
       → anyOf (λ a. eqb c (a .cell) && (p && same m (mode (a .kind)))) (R u) ≡ (p && has (getD (masksOf G m) c []) u)
   unfolding holds inMode
-  in-mode m true u j = h .says m u c j i
+  in-mode m true u j = h .says m u c j i r
   in-mode m false u j = some-same _ (λ a. false) (R u) (λ a. and-false (eqb c (a .cell))) ∙ some-none (R u)
 
   -- The same for an access in mode x that brings v: between two stores the values count, and there first value and mark speak for them.
@@ -201,7 +249,7 @@ module _ (n k : ℕ) (R : AccessRecord) (G : Log) (h : LogMatches n k R G) (t c 
   in-modes reads adds v u j = in-mode reads true u j
   in-modes writes reads v u j = in-mode writes true u j
   in-modes writes writes v u j = unfold holds isOther inMode in
-      (writer-says n k R G h c v i u j ∙ ap (λ b. b && has (getD (masksOf G writes) c []) u) (sym (Bool·not-not (unequal G c v))))
+      (writer-says n k q R G h c v i r u j ∙ ap (λ b. b && has (getD (masksOf G writes) c []) u) (sym (Bool·not-not (unequal G c v))))
   in-modes writes adds v u j = in-mode writes true u j
   in-modes adds reads v u j = in-mode adds true u j
   in-modes adds writes v u j = in-mode adds true u j
@@ -230,90 +278,157 @@ module _ (n k : ℕ) (R : AccessRecord) (G : Log) (h : LogMatches n k R G) (t c 
   unfolding conflictMask
   log-tested x = tested n R t (record { cell = c; kind = x }) (testedMask G c x) l (against-size x) (against-has x)
 
-  -- The record with the access x: what it had, and x.
-  holds-recorded : (p : Kind → Bool) (x : Kind) (u e : ℕ)
-      → holds p e (recorded R t (record { cell = c; kind = x } ∷ []) u) ≡ (holds p e (R u) || (eqb u t && (eqb e c && p x)))
-  unfolding holds recorded anyOf
-  holds-recorded p x u e = by (eqb u t)
-    where
-      by : (d : Bool) → anyOf (λ a. eqb e (a .cell) && p (a .kind)) (cond d (record { cell = c; kind = x } ∷ R u) (R u))
-          ≡ (anyOf (λ a. eqb e (a .cell) && p (a .kind)) (R u) || (d && (eqb e c && p x)))
-      by true = or-comm (eqb e c && p x) (anyOf (λ a. eqb e (a .cell) && p (a .kind)) (R u))
-      by false = sym (or-false (anyOf (λ a. eqb e (a .cell) && p (a .kind)) (R u)))
-
   -- The masks of a mode with the access: entered where it is the access's own, else as they were.
-  mask-logged : (m : Mode) (b : Bool) (u e : ℕ) → u < n → e < k
+  mask-logged : (m : Mode) (b : Bool) (u e : ℕ) → u < n → e < k → q e ≡ true
       → (holds (inMode m) e (R u) || (eqb u t && (eqb e c && b))) ≡ has (getD (cond b (withThread (masksOf G m) c t) (masksOf G m)) e []) u
-  mask-logged m true u e a b =
-      ap₂ (λ x y. x || (eqb u t && y)) (h .says m u e a b) (and-true (eqb e c))
-      ∙ sym (enter-has (masksOf G m) c t e u (omega (arith, h .count m)) (omega (arith, h .size m c i)))
-  mask-logged m false u e a b = or-never (holds (inMode m) e (R u)) (eqb u t) (eqb e c) ∙ h .says m u e a b
+  mask-logged m true u e a b j =
+      ap₂ (λ x y. x || (eqb u t && y)) (h .says m u e a b j) (and-true (eqb e c))
+      ∙ sym (enter-has (masksOf G m) c t e u (omega (arith, h .sized .count m)) (omega (arith, h .sized .size m c i)))
+  mask-logged m false u e a b j = or-never (holds (inMode m) e (R u)) (eqb u t) (eqb e c) ∙ h .says m u e a b j
 
   -- First value and mark with the access.
-  unequal-recorded : (x : Kind) (e w : ℕ) → e < k
+  unequal-recorded : (x : Kind) (e w : ℕ) → e < k → q e ≡ true
       → unequal (logged G c t x) e w ≡ anyBelow n (λ u. holds (isOther w) e (recorded R t (record { cell = c; kind = x } ∷ []) u))
   unfolding masksOf
-  unequal-recorded x e w j =
-      unequal-logged G c t (omega (arith, h .count writes)) (omega (arith, h .size writes c i)) (omega (arith, h .valueCount)) (omega (arith, h .markCount)) x e w
-      ∙ ap (λ b. b || (eqb e c && isOther w x)) (h .differ e w j)
-      ∙ sym (below-same n _ _ (λ u a. holds-recorded (isOther w) x u e) ∙ below-more n (λ u. holds (isOther w) e (R u)) t (eqb e c && isOther w x) l)
+  unequal-recorded x e w j b =
+      unequal-logged G c t (omega (arith, h .sized .count writes)) (omega (arith, h .sized .size writes c i)) (omega (arith, h .sized .valueCount))
+      (omega (arith, h .sized .markCount)) x e w
+      ∙ ap (λ b. b || (eqb e c && isOther w x)) (h .differ e w j b)
+      ∙ sym (below-same n _ _ (λ u a. holds-recorded R t c (isOther w) x u e) ∙ below-more n (λ u. holds (isOther w) e (R u)) t (eqb e c && isOther w x) l)
 
   -- An access that does not race, entered.
-  pub log-entered : (x : Kind) → any (conflictMask G c t x) ≡ false → LogMatches n k (recorded R t (record { cell = c; kind = x } ∷ [])) (logged G c t x)
+  pub log-entered : (x : Kind) → any (conflictMask G c t x) ≡ false → LogMatches n k q (recorded R t (record { cell = c; kind = x } ∷ [])) (logged G c t x)
   unfolding inMode
   log-entered x f =
       record {
-        count = λ m. ap length (masks-logged G c t x m) ∙ counted m (same m (mode x));
-        size = λ m e j. ap (λ y. length (getD y e [])) (masks-logged G c t x m) ∙ sized m (same m (mode x)) e ∙ h .size m e j;
-        says = λ m u e a b.
-            holds-recorded (inMode m) x u e ∙ mask-logged m (same m (mode x)) u e a b ∙ ap (λ y. has (getD y e []) u) (sym (masks-logged G c t x m));
-        valueCount = values-size G c t x ∙ h .valueCount;
-        markCount = marks-size G c t x ∙ h .markCount;
+        sized = logged-sized n k G c t x (h .sized);
+        says = λ m u e a b j.
+            holds-recorded R t c (inMode m) x u e ∙ mask-logged m (same m (mode x)) u e a b j ∙ ap (λ y. has (getD y e []) u) (sym (masks-logged G c t x m));
         differ = unequal-recorded x;
         free = free-recorded n R t (record { cell = c; kind = x }) l (h .free) (log-tested x ∙ f);
       }
-    where
-      after : Mode → Bool → List Mask
-      after m b = cond b (withThread (masksOf G m) c t) (masksOf G m)
 
-      counted : (m : Mode) (b : Bool) → length (after m b) ≡ k
-      counted m true = unfold withThread in (length-set (masksOf G m) c _ ∙ h .count m)
-      counted m false = h .count m
-
-      sized : (m : Mode) (b : Bool) (e : ℕ) → length (getD (after m b) e []) ≡ length (getD (masksOf G m) e [])
-      sized m true e = enter-size (masksOf G m) c t e
-      sized m false e = refl
-
-pub log-empty : (n k : ℕ) → LogMatches n k emptyRecord (emptyLog n k)
+-- A log in which nothing is logged at these places matches the empty record.
+pub log-blank : (n k : ℕ) (q : ℕ → Bool) (G : Log) → LogSized n k G → ((c : ℕ) → c < k → q c ≡ true → BlankAt G c) → LogMatches n k q emptyRecord G
 unfolding emptyRecord holds anyOf
-log-empty n k =
+log-blank n k q G z b =
     record {
-      count = λ m. ap length (masks-empty n k m) ∙ length-replicate k (replicate n false);
-      size = λ m c l. ap length (mask-empty m c l) ∙ length-replicate n false;
-      says = λ m t c l i. sym (unfold has in (ap (λ y. getD y t false) (mask-empty m c i) ∙ getD-replicate n t false false l));
-      valueCount = unfold emptyLog in (length-replicate k 0);
-      markCount = unfold emptyLog in (length-replicate k false);
-      differ = λ c v i. unequal-empty n k c v i ∙ sym (below-none n (λ t. false) .1 (λ t l. refl));
+      sized = z;
+      says = λ m t c l i r. sym (b c i r .unmet m t);
+      differ = λ c v i r. unequal-first G c v (b c i r .unmarked) (none c i r) ∙ sym (below-none n (λ t. false) .1 (λ t l. refl));
       free = λ t l. refl;
     }
   where
-    mask-empty : (m : Mode) (c : ℕ) → c < k → getD (masksOf (emptyLog n k) m) c [] ≡ replicate n false
-    mask-empty m c i = ap (λ y. getD y c []) (masks-empty n k m) ∙ getD-replicate k c (replicate n false) [] i
+    none : (c : ℕ) → c < k → q c ≡ true → any (getD (G .writers) c []) ≡ false
+    none c i r = any-below (getD (G .writers) c []) ∙ below-none (length (getD (G .writers) c [])) _ .1 (λ t l. unfold masksOf in (b c i r .unmet writes t))
 
-wiped : (masks : List Mask) (c t : ℕ) → has (getD (map nobody masks) c []) t ≡ false
-wiped [] c t = unfold has in refl
-wiped (m ∷ masks) zero t = nobody-has m t
-wiped (m ∷ masks) (suc c) t = wiped masks c t
-
-pub log-cleared : (n k : ℕ) (R : AccessRecord) (G : Log) → LogMatches n k R G → LogMatches n k emptyRecord (cleared G)
-unfolding emptyRecord holds anyOf
-log-cleared n k R G h =
+-- The log at the start, and what is cleared.
+pub empty-sized : (n k : ℕ) → LogSized n k (emptyLog n k)
+empty-sized n k =
     record {
-      count = λ m. ap length (masks-cleared G m) ∙ length-map (masksOf G m) nobody ∙ h .count m;
-      size = λ m c i. ap (λ y. length (getD y c [])) (masks-cleared G m) ∙ wiped-size (masksOf G m) c ∙ h .size m c i;
-      says = λ m t c i j. sym (ap (λ y. has (getD y c []) t) (masks-cleared G m) ∙ wiped (masksOf G m) c t);
-      valueCount = unfold cleared in (length-map (G .values) (λ v. 0) ∙ h .valueCount);
-      markCount = unfold cleared in (length-map (G .marks) (λ b. false) ∙ h .markCount);
-      differ = λ c v i. unequal-cleared G c v ∙ sym (below-none n (λ t. false) .1 (λ t l. refl));
-      free = λ t l. refl;
+      count = λ m. ap length (masks-empty n k m) ∙ length-replicate k (replicate n false);
+      size = λ m c i. ap length (mask-empty n k m c i) ∙ length-replicate n false;
+      valueCount = unfold emptyLog in (length-replicate k 0);
+      markCount = unfold emptyLog in (length-replicate k false);
     }
+
+pub empty-blank : (n k c : ℕ) → c < k → BlankAt (emptyLog n k) c
+empty-blank n k c i =
+    record {
+      unmet = λ m t. ap (λ y. has y t) (mask-empty n k m c i) ∙ replicate-has n t;
+      unmarked = unfold emptyLog in (getD-replicate k c false false i);
+    }
+
+pub cleared-sized : (n k : ℕ) (p : ℕ → Bool) (G : Log) → LogSized n k G → LogSized n k (cleared p G)
+cleared-sized n k p G z =
+    record {
+      count = λ m. ap length (masks-cleared p G m) ∙ where-size p nobody 0 (masksOf G m) ∙ z .count m;
+      size = λ m c i. ap length (mask-cleared p G m c (omega (arith, z .count m))) ∙ by (p c) m c ∙ z .size m c i;
+      valueCount = unfold cleared in (where-size p (λ v. 0) 0 (G .values) ∙ z .valueCount);
+      markCount = unfold cleared in (where-size p (λ b. false) 0 (G .marks) ∙ z .markCount);
+    }
+  where
+    by : (b : Bool) (m : Mode) (c : ℕ) → length (cond b (nobody (getD (masksOf G m) c [])) (getD (masksOf G m) c [])) ≡ length (getD (masksOf G m) c [])
+    by true m c = nobody-size (getD (masksOf G m) c [])
+    by false m c = refl
+
+module _ (n k : ℕ) (p : ℕ → Bool) (G : Log) (z : LogSized n k G) (c : ℕ) (i : c < k) where
+  mark-cleared : getD (cleared p G .marks) c false ≡ cond (p c) false (getD (G .marks) c false)
+  unfolding cleared
+  mark-cleared = where-from p (λ b. false) (G .marks) c false (omega (arith, z .markCount))
+
+  -- Nothing is logged where the log is cleared, nor where nothing was logged before.
+  pub cleared-blank : p c ≡ true → BlankAt (cleared p G) c
+  cleared-blank r =
+      record {
+        unmet = λ m t.
+            ap (λ y. has y t) (mask-cleared p G m c (omega (arith, z .count m)) ∙ ap (λ b. cond b (nobody (getD (masksOf G m) c [])) (getD (masksOf G m) c [])) r)
+            ∙ nobody-has (getD (masksOf G m) c []) t;
+        unmarked = mark-cleared ∙ ap (λ b. cond b false (getD (G .marks) c false)) r;
+      }
+
+  pub blank-cleared : BlankAt G c → BlankAt (cleared p G) c
+  blank-cleared b =
+      record {
+        unmet = λ m t. ap (λ y. has y t) (mask-cleared p G m c (omega (arith, z .count m))) ∙ by (p c) m t;
+        unmarked = mark-cleared ∙ at (p c);
+      }
+    where
+      by : (b : Bool) (m : Mode) (t : ℕ) → has (cond b (nobody (getD (masksOf G m) c [])) (getD (masksOf G m) c [])) t ≡ false
+      by true m t = nobody-has (getD (masksOf G m) c []) t
+      by false m t = b .unmet m t
+
+      at : (b : Bool) → cond b false (getD (G .marks) c false) ≡ false
+      at true = refl
+      at false = b .unmarked
+
+-- A barrier: the group's record is empty, and so is the log at the places that it can name.
+pub log-cleared : (n k : ℕ) (q : ℕ → Bool) (R : AccessRecord) (G : Log) → LogMatches n k q R G → LogMatches n k q emptyRecord (cleared q G)
+log-cleared n k q R G h = log-blank n k q (cleared q G) (cleared-sized n k q G (h .sized)) (λ c i r. cleared-blank n k q G (h .sized) c i r)
+
+-- Places that an access or a barrier leaves as they were.
+pub logged-same : (G : Log) (c t : ℕ) (x : Kind) (e : ℕ) → ¬ (e ≡ c) → LogSame G (logged G c t x) e
+logged-same G c t x e d =
+    record {
+      masks = λ m. ap (λ y. getD y e []) (masks-logged G c t x m) ∙ by m (same m (mode x));
+      value = values x;
+      mark = marks x;
+    }
+  where
+    by : (m : Mode) (b : Bool) → getD (cond b (withThread (masksOf G m) c t) (masksOf G m)) e [] ≡ getD (masksOf G m) e []
+    by m true = unfold withThread in (getD-set-other (masksOf G m) c e _ [] d)
+    by m false = refl
+
+    values : (x : Kind) → getD (logged G c t x .values) e 0 ≡ getD (G .values) e 0
+    values load = unfold logged in refl
+    values (store v) = unfold logged in (getD-set-other (G .values) c e _ 0 d)
+    values (atomicAdd v) = unfold logged in refl
+
+    marks : (x : Kind) → getD (logged G c t x .marks) e false ≡ getD (G .marks) e false
+    marks load = unfold logged in refl
+    marks (store v) = unfold logged in (getD-set-other (G .marks) c e _ false d)
+    marks (atomicAdd v) = unfold logged in refl
+
+where-other : {A : Type 0} (p : ℕ → Bool) (f : A → A) (i : ℕ) (xs : List A) (j : ℕ) (d : A) → p (i + j) ≡ false → getD (mapWhere p f i xs) j d ≡ getD xs j d
+unfolding mapWhere
+where-other p f i [] j d r = refl
+where-other p f i (x ∷ xs) zero d r = ap (λ b. cond b (f x) x) (ap p (let z : i ≡ i + 0 = omega arith in z) ∙ r)
+where-other p f i (x ∷ xs) (suc j) d r = where-other p f (suc i) xs j d (ap p (let z : suc i + j ≡ i + suc j = omega arith in z) ∙ r)
+
+pub cleared-same : (p : ℕ → Bool) (G : Log) (e : ℕ) → p e ≡ false → LogSame G (cleared p G) e
+unfolding cleared
+cleared-same p G e r =
+    record {
+      masks = λ m. ap (λ y. getD y e []) (masks-cleared p G m) ∙ where-other p nobody 0 (masksOf G m) e [] from;
+      value = where-other p (λ v. 0) 0 (G .values) e 0 from;
+      mark = where-other p (λ b. false) 0 (G .marks) e false from;
+    }
+  where
+    from : p (0 + e) ≡ false
+    from = ap p (let z : 0 + e ≡ e = omega arith in z) ∙ r
+
+pub same-then : (G H J : Log) (c : ℕ) → LogSame G H c → LogSame H J c → LogSame G J c
+same-then G H J c a b = record { masks = λ m. b .masks m ∙ a .masks m; value = b .value ∙ a .value; mark = b .mark ∙ a .mark }
+
+pub same-blank : (G H : Log) (c : ℕ) → LogSame G H c → BlankAt G c → BlankAt H c
+same-blank G H c s b = record { unmet = λ m t. ap (λ y. has y t) (s .masks m) ∙ b .unmet m t; unmarked = s .mark ∙ b .unmarked }

@@ -10,10 +10,11 @@ use lib.ListN.{length, getD, drop, set, length-set, length-replicate}
 use lib.Seq.{ext-getD, getD-set-other, getD-set-same}
 use Rattle.spec.specs.AllRuns.{RunOf, leaves}
 use Rattle.spec.specs.Op.{BARRIER, CALC, ELSE, ENDIF, ENDWHILE, IF, MEM, Op, UNKNOWN, WHILE}
-use Rattle.spec.specs.Shape.{Shape, shapeOf}
+use Rattle.spec.specs.LaunchThreads.{Move, noPart}
+use Rattle.spec.specs.Shape.{Shape, Sizes, shapeOf}
 use Rattle.spec.specs.Table.{Fits, Role, Table, WellFormed, closing, dividing, elseOf, endOf, innermost, openBefore, openedBy, opening, pastElse}
 use Rattle.spec.specs.Table.{plain, role, rowAt, scan, scanRow, startOf}
-use Rattle.spec.specs.Threads.{Move, Thread, effectOf, goto, noThread, onIf, onWhile, pastBarrier, put, reg, threadAfter}
+use Rattle.spec.specs.Threads.{Thread, effectOf, goto, noThread, onIf, onWhile, pastBarrier, put, reg, threadAfter}
 use Rattle.allruns.proofs.Nesting.{isWhile, innermost-at, outer, scan-step, none-between}
 use Rattle.allruns.proofs.Progress.{back, isLoop}
 use Rattle.allruns.proofs.Invariants.{Keeps, in-every-run, reach-cases, replicate-keeps}
@@ -68,7 +69,7 @@ below-top T (o ∷ os) i n q m =
 at-else : (P : ℕ → Type 0) (o : Op) (h : ℕ) → P h → P (suc h) → P (pastElse o h)
 unfolding pastElse
 at-else P (CALC c) h p q = p
-at-else P (MEM m) h p q = p
+at-else P (MEM z m) h p q = p
 at-else P IF h p q = p
 at-else P ELSE h p q = q
 at-else P ENDIF h p q = p
@@ -145,8 +146,8 @@ module _ (T : Table) (w : WellFormed T) (r : ℕ) (l : r < length T) where
       by (o ∷ os) z b m = subst (λ ps. List·Memᴰ i (o ∷ ps)) (sym (rw b at (innermost-at T w r o os (omega arith) z .around))) m
 
 -- Thread t as a run leaves it.
-abbrev pub threadIn : Table → (n : ℕ) → (cells : List ℕ) → List Move → (t : ℕ) → Thread
-threadIn T n cells ms t = getD (leaves T n cells ms .threads) t noThread
+abbrev pub threadIn : Table → Sizes → (cells : List ℕ) → List Move → (g t : ℕ) → Thread
+threadIn T Z cells ms g t = getD (getD (leaves T Z cells ms .parts) g noPart .threads) t noThread
 
 -- A thread whose counts are 0 but at the loops around its row.
 record Kept (T : Table) (x : Thread) : Type 0 where
@@ -171,8 +172,8 @@ module _ (T : Table) (w : WellFormed T) where
       → Kept T (threadAfter x cells (effectOf T L t x (rowAt T (x .row)) o))
   unfolding effectOf threadAfter put goto onIf onWhile isLoop isWhile role
   kept-row L t x cells l (CALC c) q k = moves x _ _ k (to-next T (x .row) (ap isWhile q) (ap role q))
-  kept-row L t x cells l (MEM m) q k =
-      reach-cases (λ e. Kept T (threadAfter x cells e)) L m _ _ _ (moves x _ _ k (to-next T (x .row) (ap isWhile q) (ap role q))) k
+  kept-row L t x cells l (MEM p m) q k =
+      reach-cases (λ e. Kept T (threadAfter x cells e)) L p _ _ _ (moves x _ _ k (to-next T (x .row) (ap isWhile q) (ap role q))) k
   kept-row L t x cells l IF q k = by (reg x (rowAt T (x .row) .a))
     where
       by : (v : ℕ) → Kept T (onIf T x v)
@@ -202,8 +203,9 @@ module _ (T : Table) (w : WellFormed T) where
         barriers = λ x q k. moves x _ _ k (to-next T (x .row) (ap isWhile q) (ap role q));
       }
 
-  kept-run : (n : ℕ) (cells : List ℕ) (ms : List Move) → RunOf T n cells ms → (t : ℕ) → t < n → Kept T (threadIn T n cells ms t)
-  kept-run n cells ms r = in-every-run T n cells (Kept T) (λ cells. Unit {0}) (keeps-kept (shapeOf n cells)) tt ms r .each
+  kept-run : (Z : Sizes) (cells : List ℕ) (ms : List Move) → RunOf T Z cells ms → (g t : ℕ) → g < Z .groups → t < Z .threads
+      → Kept T (threadIn T Z cells ms g t)
+  kept-run Z cells ms r = in-every-run T Z cells (Kept T) (λ cells. Unit {0}) (λ g. keeps-kept (shapeOf Z g)) tt ms r .each
 
 -- A count that is not 0 is that of a loop around.
 elsewhere : (T : Table) (x : Thread) (i : ℕ) → Kept T x → (getD (x .loops) i 0 ≡ 0) ⊎ Around T (x .row) i
@@ -213,9 +215,10 @@ elsewhere T x i k = by (getD (x .loops) i 0) refl
     by zero q = inl q
     by (suc v) q = inr (k .counts i (omega arith))
 
-pub loops-elsewhere : (T : Table) → WellFormed T → (n : ℕ) (cells : List ℕ) (ms : List Move) → RunOf T n cells ms → (t i : ℕ) → t < n
-    → ¬ Around T (threadIn T n cells ms t .row) i → getD (threadIn T n cells ms t .loops) i 0 ≡ 0
-loops-elsewhere T w n cells ms r t i l a = ⊎-elim (λ e. e) (λ h. absurd (a h)) (elsewhere T _ i (kept-run T w n cells ms r t l))
+pub loops-elsewhere : (T : Table) → WellFormed T → (Z : Sizes) (cells : List ℕ) (ms : List Move) → RunOf T Z cells ms
+    → (g t i : ℕ) → g < Z .groups → t < Z .threads
+    → ¬ Around T (threadIn T Z cells ms g t .row) i → getD (threadIn T Z cells ms g t .loops) i 0 ≡ 0
+loops-elsewhere T w Z cells ms r g t i k l a = ⊎-elim (λ e. e) (λ h. absurd (a h)) (elsewhere T _ i (kept-run T w Z cells ms r g t k l))
 
 -- So two threads at one row have the same counts if they have the same at the loops around it.
 agree : (T : Table) (x y : Thread) → Kept T x → Kept T y → x .row ≡ y .row
@@ -227,8 +230,9 @@ agree T x y k h q f = ext-getD 0 (x .loops) (y .loops) (k .sized ∙ sym (h .siz
     by i (inl a) (inr b) = f i (subst (λ r. Around T r i) (sym q) b)
     by i (inl a) (inl b) = a ∙ sym b
 
-pub same-loops : (T : Table) → WellFormed T → (n : ℕ) (cells : List ℕ) (ms : List Move) → RunOf T n cells ms → (t u : ℕ) → t < n → u < n
-    → threadIn T n cells ms t .row ≡ threadIn T n cells ms u .row
-    → ((i : ℕ) → Around T (threadIn T n cells ms t .row) i → getD (threadIn T n cells ms t .loops) i 0 ≡ getD (threadIn T n cells ms u .loops) i 0)
-    → threadIn T n cells ms t .loops ≡ threadIn T n cells ms u .loops
-same-loops T w n cells ms r t u l m q f = agree T _ _ (kept-run T w n cells ms r t l) (kept-run T w n cells ms r u m) q f
+pub same-loops : (T : Table) → WellFormed T → (Z : Sizes) (cells : List ℕ) (ms : List Move) → RunOf T Z cells ms
+    → (g t u : ℕ) → g < Z .groups → t < Z .threads → u < Z .threads
+    → threadIn T Z cells ms g t .row ≡ threadIn T Z cells ms g u .row
+    → ((i : ℕ) → Around T (threadIn T Z cells ms g t .row) i → getD (threadIn T Z cells ms g t .loops) i 0 ≡ getD (threadIn T Z cells ms g u .loops) i 0)
+    → threadIn T Z cells ms g t .loops ≡ threadIn T Z cells ms g u .loops
+same-loops T w Z cells ms r g t u k l m q f = agree T _ _ (kept-run T w Z cells ms r g t k l) (kept-run T w Z cells ms r g u k m) q f

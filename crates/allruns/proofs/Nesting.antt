@@ -13,7 +13,7 @@ use Rattle.spec.specs.Table.{pastElse, plain, role, rowAt, scan, scanRow}
 
 unfoldable pub isWhile : Op → Bool
 isWhile (CALC c) = false
-isWhile (MEM m) = false
+isWhile (MEM p m) = false
 isWhile IF = false
 isWhile ELSE = false
 isWhile ENDIF = false

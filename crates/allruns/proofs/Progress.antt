@@ -224,7 +224,7 @@ while-again T x y w o l k e q n =
 pub pastElse-ge : (o : Op) (h : ℕ) → h ≤ pastElse o h
 unfolding pastElse
 pastElse-ge (CALC c) h = omega arith
-pastElse-ge (MEM m) h = omega arith
+pastElse-ge (MEM p m) h = omega arith
 pastElse-ge IF h = omega arith
 pastElse-ge ELSE h = omega arith
 pastElse-ge ENDIF h = omega arith
@@ -279,7 +279,7 @@ pub forward : (T : Table) → WellFormed T → (n : Shape) (t : ℕ) (x : Thread
     → isOutside (effectOf T n t x (rowAt T (x .row)) o) ≡ false → Later T x (threadAfter x cells (effectOf T n t x (rowAt T (x .row)) o))
 unfolding effectOf reach isOutside threadAfter isWaiting put goto isLoop isWhile onIf onWhile
 forward T w n t x cells f l (CALC c) q i u = on-later T x _ (omega arith) refl (ap isWhile q)
-forward T w n t x cells f l (MEM m) q i u = by (ltb c (bound n m)) u
+forward T w n t x cells f l (MEM p m) q i u = by (ltb c (bound n p)) u
   where
     c : ℕ
     c = reg x (cellByte m (rowAt T (x .row)))
@@ -287,8 +287,8 @@ forward T w n t x cells f l (MEM m) q i u = by (ltb c (bound n m)) u
     k : Kind
     k = kindOf m (reg x (rowAt T (x .row) .a))
 
-    by : (z : Bool) → isOutside (cond z (accesses (address n m c) k (rowAt T (x .row) .d)) strays) ≡ false
-        → Later T x (threadAfter x cells (cond z (accesses (address n m c) k (rowAt T (x .row) .d)) strays))
+    by : (z : Bool) → isOutside (cond z (accesses (address n p c) k (rowAt T (x .row) .d)) strays) ≡ false
+        → Later T x (threadAfter x cells (cond z (accesses (address n p c) k (rowAt T (x .row) .d)) strays))
     by true u = on-later T x _ (omega arith) refl (ap isWhile q)
     by false u = absurd (true≢false u)
 forward T w n t x cells f l IF q i u = by (reg x (rowAt T (x .row) .a))
@@ -313,11 +313,11 @@ pub sized : (T : Table) (n : Shape) (t : ℕ) (x : Thread) (cells : List ℕ) (o
     → length (threadAfter x cells (effectOf T n t x (rowAt T (x .row)) o) .loops) ≡ length (x .loops)
 unfolding effectOf threadAfter put goto
 sized T n t x cells (CALC c) = refl
-sized T n t x cells (MEM m) = unfold reach in (by (ltb (reg x (cellByte m (rowAt T (x .row)))) (bound n m)))
+sized T n t x cells (MEM p m) = unfold reach in (by (ltb (reg x (cellByte m (rowAt T (x .row)))) (bound n p)))
   where
     by : (z : Bool)
         → length (threadAfter x cells
-        (cond z (accesses (address n m (reg x (cellByte m (rowAt T (x .row))))) (kindOf m (reg x (rowAt T (x .row) .a))) (rowAt T (x .row) .d))
+        (cond z (accesses (address n p (reg x (cellByte m (rowAt T (x .row))))) (kindOf m (reg x (rowAt T (x .row) .a))) (rowAt T (x .row) .d))
         strays) .loops) ≡ length (x .loops)
     by true = unfold threadAfter in refl
     by false = unfold threadAfter in refl

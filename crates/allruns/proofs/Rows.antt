@@ -5,33 +5,30 @@ use mathlib.Core.List.{List, [], _∷_, map}
 use mathlib.Core.Bool.{Bool, true, false, cond, not, _&&_, true≢false, and-false}
 use Prim.Native.Nat.{ℕ, zero, suc, _+_, _<_, _≤_}
 use native.Mathlib.Omega.{arith}
-use lib.Dec.{leb}
 use borrow.Author.Tests.{eq-eqb, ne-eqb}
 use lib.ListN.{length, getD, set, length-set, length-replicate}
 use lib.Seq.{getD-set-other, getD-set-same, set-set, set-getD}
-use Rattle.spec.specs.Access.{Kind}
-use Rattle.spec.specs.AllRuns.{isRelease}
 use Rattle.spec.specs.LockStep.{ifRow, elseRow, endifRow, whileRow, endwhileRow, LockState, Saved, Step, accessTurn, advance, andThen, computeTurn}
 use Rattle.spec.specs.LockStep.{continues, countSteps, forEnabled, inTurn, leaveOrStay, madeAccess, pop, reg, savedAtWhile, setReg, stops}
-use Rattle.spec.specs.LockStep.{topMask, topOpener, tryAccess}
-use Rattle.spec.specs.Log.{conflictMask, raceKind}
-use Rattle.spec.specs.Mask.{Mask, any, has, holding, lowest, members, membersFrom, minus, nonzero}
-use Rattle.spec.specs.Op.{ELSE, ENDIF, ENDWHILE, IF, Mem, Op, WHILE}
+use Rattle.spec.specs.LockStep.{topMask, topOpener}
+use Rattle.spec.specs.Mask.{Mask, any, has, holding, members, membersFrom, minus, nonzero}
+use Rattle.spec.specs.Op.{ELSE, ENDIF, ENDWHILE, IF, Mem, Op, Space, WHILE}
 use Rattle.spec.specs.Runs.{Run, after, many, shownTo}
-use Rattle.spec.specs.Shape.{Shape, address, bound}
+use Rattle.spec.specs.Shape.{Shape}
 use Rattle.spec.specs.Steps.{allStepped}
-use Rattle.spec.specs.Table.{Fits, Row, Table, WellFormed, cellByte, closing, elseOf, endOf, innermost, kindOf, openBefore, openedBy, role, rowAt, startOf}
+use Rattle.spec.specs.Table.{Fits, Row, Table, WellFormed, closing, elseOf, endOf, innermost, openBefore, openedBy, role, rowAt, startOf}
 use Rattle.spec.specs.Threads.{Group, Move, effect, effectOf, isOutside, machine, next, row}
 use Rattle.spec.specs.declared.Verdict.{Verdict}
-use Rattle.spec.specs.declared.Verdict.the-variants.{Diverged, Outside, Passed, Race, Spent}
+use Rattle.spec.specs.declared.Verdict.the-variants.{Diverged, GroupRace, Outside, Passed, Race, Spent}
 use Rattle.spec.specs.Threads as own
 use Rattle.spec.proofs.Laws.{zeros, minus-size, holding-size}
+use Rattle.allruns.proofs.AccessTurns.{turn-cases}
 use Rattle.allruns.proofs.Counts.{passes, passedAt}
 use Rattle.allruns.proofs.Bools.{and-left}
 use Rattle.allruns.proofs.Turns.{One, Turned, turn-all, quiet-all, act-is}
 use Rattle.allruns.proofs.Blocked.{Blocked}
 use Rattle.allruns.proofs.Nesting.{isWhile, outer, Opened, AllOpened, all-opened, else-of-else, else-of-endif, end-here, Left, after-end, innermost-at}
-use Rattle.allruns.proofs.StepCounts.{stepsAfter, steps-rows}
+use Rattle.allruns.proofs.StepCounts.{isOwnRelease, stepsAfter, steps-rows}
 use Rattle.allruns.proofs.Simulation.{exitBy, Pos, Frame, loopsOf, exit, place, Nested, place-in, place-out, place-any, body, Match, movedAll, allMoved}
 
 abbrev pub savedOf : List Frame → List Saved
@@ -63,6 +60,7 @@ pub record Sim (T : Table) (L : Shape) (s : LockState) (fs : List Frame) (g : Gr
 abbrev pub Stopping : Verdict → Type 0
 Stopping Passed = ⊥
 Stopping (Race t o k a) = Unit {0}
+Stopping (GroupRace t h k a) = Unit {0}
 Stopping (Outside t a) = Unit {0}
 Stopping (Diverged t o) = Unit {0}
 Stopping Spent = ⊥
@@ -74,7 +72,7 @@ pub record Advanced (T : Table) (L : Shape) (s : LockState) (g : Group) (z : Loc
   pub run : Run (machine T L) g moves
   pub sim : Sim T L z frames (after (machine T L) g moves)
   pub counted : z .steps ≡ stepsAfter (s .steps) moves
-  pub released : many isRelease moves + s .barriers ≡ z .barriers
+  pub released : many isOwnRelease moves + s .barriers ≡ z .barriers
   pub sees : shownTo (machine T L) tt g moves ≡ passedAt (rowAt T (s .row) .op) s
 
 pub record Failed (T : Table) (L : Shape) (g : Group) (v : Verdict) : Type 0 where
@@ -97,7 +95,9 @@ match-at T L P Q s g e h =
       threads = λ t l. h .threads t l ∙ ap (λ p. body p (getD (s .regs) t [])) (e t l);
       cells = h .cells;
       celled = h .celled;
+      numbered = h .numbered;
       logs = h .logs;
+      groups = h .groups;
     }
 
 pub match-onward : (T : Table) (L : Shape) (r : ℕ) (m : Mask) (v : List Saved) (P : ℕ → Pos) (s : LockState) (g : Group) → Match T L P s g
@@ -111,7 +111,9 @@ match-onward T L r m v P s g h =
       threads = h .threads;
       cells = h .cells;
       celled = h .celled;
+      numbered = h .numbered;
       logs = h .logs;
+      groups = h .groups;
     }
 
 pub match-stepped : (T : Table) (L : Shape) (m : Mask) (P : ℕ → Pos) (s : LockState) (g : Group) → Match T L P s g → Match T L P (countSteps m s) g
@@ -124,7 +126,9 @@ match-stepped T L m P s g h =
       threads = h .threads;
       cells = h .cells;
       celled = h .celled;
+      numbered = h .numbered;
       logs = h .logs;
+      groups = h .groups;
     }
 
 -- Rows of threads show nothing and release nothing.
@@ -133,8 +137,8 @@ unfolding own.shown
 rows-seen T L g [] = refl
 rows-seen T L g (t ∷ ts) = rows-seen T L (next T L g (row t)) ts
 
-rows-release : (ts : List ℕ) → many isRelease (map row ts) ≡ 0
-unfolding isRelease
+rows-release : (ts : List ℕ) → many isOwnRelease (map row ts) ≡ 0
+unfolding isOwnRelease
 rows-release [] = refl
 rows-release (t ∷ ts) = let h = rows-release ts in omega arith
 
@@ -666,23 +670,11 @@ unfolding inTurn allStepped
 keeps-all f one [] s = record { rowSame = refl; onSame = refl; savedSame = refl; stepsMore = refl; barriersSame = refl }
 keeps-all f one (t ∷ ts) s = keeps-then t ts s (f s t) (inTurn f ts) (one s t) (keeps-all f one ts)
 
-pub keeps-touch : (L : Shape) (m : Mem) (x : Row) (s : LockState) (t : ℕ) → Keeps (t ∷ []) s (accessTurn L m x s t)
-unfolding accessTurn tryAccess allStepped
-keeps-touch L m x s t = by (leb (bound L m) (reg s t (cellByte m x))) (address L m (reg s t (cellByte m x))) (kindOf m (reg s t (x .a)))
-  where
-    made : (c : ℕ) (k : Kind) (e : Bool)
-        → Keeps (t ∷ []) s (cond e (stops (Race t (lowest (conflictMask (s .log) c t k)) (raceKind (s .log) c (lowest (conflictMask (s .log) c t k)) k) c) s)
-        (continues (madeAccess s t (x .d) c k)))
-    made c k true = tt
-    made c k false = unfold madeAccess in (record { rowSame = refl; onSame = refl; savedSame = refl; stepsMore = refl; barriersSame = refl })
-
-    by : (a : Bool) (c : ℕ) (k : Kind)
-        → Keeps (t ∷ []) s (cond a (stops (Outside t (reg s t (cellByte m x))) s)
-        (cond (any (conflictMask (s .log) c t k))
-        (stops (Race t (lowest (conflictMask (s .log) c t k)) (raceKind (s .log) c (lowest (conflictMask (s .log) c t k)) k) c) s)
-        (continues (madeAccess s t (x .d) c k))))
-    by true c k = tt
-    by false c k = made c k (any (conflictMask (s .log) c t k))
+pub keeps-touch : (L : Shape) (p : Space) (m : Mem) (x : Row) (s : LockState) (t : ℕ) → Keeps (t ∷ []) s (accessTurn L p m x s t)
+unfolding madeAccess allStepped
+keeps-touch L p m x s t =
+    turn-cases L p m x s t (Keeps (t ∷ []) s) (λ l. tt) (λ o y l a. tt) (λ h y l a b. tt)
+    (λ l a b. record { rowSame = refl; onSame = refl; savedSame = refl; stepsMore = refl; barriersSame = refl })
 
 pub keeps-calc : (x : Row) (f : ℕ → ℕ → ℕ → ℕ) (s : LockState) (t : ℕ) → Keeps (t ∷ []) s (computeTurn x f s t)
 unfolding computeTurn setReg allStepped

@@ -10,10 +10,11 @@ use lib.ListN.{length, getD, set, replicate}
 use Rattle.spec.specs.LockStep.{LockState}
 use Rattle.spec.specs.Mask.{Mask, has}
 use Rattle.spec.specs.Op.{BARRIER, CALC, ELSE, ENDIF, ENDWHILE, IF, MEM, Op, UNKNOWN, WHILE}
-use Rattle.spec.specs.Shape.{Shape, total}
+use Rattle.spec.specs.Shape.{Shape, reaches, total}
 use Rattle.spec.specs.Table.{Table, elseOf, endOf, rowAt}
 use Rattle.spec.specs.Threads.{Group, Thread, noThread, row}
 use Rattle.allruns.proofs.LogMatches.{LogMatches}
+use Rattle.allruns.proofs.GroupMatches.{GroupMatches}
 use Rattle.allruns.proofs.Nesting.{isWhile}
 
 pub record Pos : Type 0 where
@@ -31,7 +32,7 @@ loopsOf T (f ∷ fs) = cond (isWhile (rowAt T (f .opener) .op)) (set (loopsOf T 
 
 unfoldable pub exitBy : Op → Table → ℕ → ℕ
 exitBy (CALC c) T o = 0
-exitBy (MEM m) T o = 0
+exitBy (MEM p m) T o = 0
 exitBy IF T o = elseOf T o
 exitBy ELSE T o = endOf T o
 exitBy ENDIF T o = 0
@@ -80,7 +81,9 @@ pub record Match (T : Table) (L : Shape) (P : ℕ → Pos) (s : LockState) (g : 
   pub threads : (t : ℕ) → t < (L .threads) → getD (g .threads) t noThread ≡ body (P t) (getD (s .regs) t [])
   pub cells : g .cells ≡ s .cells
   pub celled : length (s .cells) ≡ total L
-  pub logs : LogMatches (L .threads) (length (s .cells)) (g .made) (s .log)
+  pub numbered : L .group < L .groups
+  pub logs : LogMatches (L .threads) (total L) (reaches L) (g .made) (s .log)
+  pub groups : GroupMatches L (total L) (g .ever) (g .barred) (s .groupLog)
 
 -- One place changed.
 unfoldable pub moved : (ℕ → Pos) → ℕ → Pos → ℕ → Pos

@@ -5,15 +5,24 @@ use mathlib.Core.Bool.{Bool, true, false, cond, not}
 use Prim.Native.Nat.{ℕ, _+_, _<_}
 use native.Mathlib.Omega.{arith}
 use borrow.Author.Tests.{ltb-true}
+use lib.Dec.{eqb}
 use lib.ListN.{length, getD, length-set, length-map}
-use Rattle.spec.specs.AllRuns.{isMoveOf, isRelease}
-use Rattle.spec.specs.Runs.{Run, many}
+use Rattle.spec.specs.Runs.{Run, after, many}
 use Rattle.spec.specs.Shape.{Shape}
 use Rattle.spec.specs.Steps.{stepped, allStepped, sum}
 use Rattle.spec.specs.Table.{Table}
 use Rattle.spec.specs.Threads.{Group, Move, effectAt, endsBadly, machine, markBad, next, pastBarrier, performed, possible, release, released, row, threadCount}
 use Rattle.spec.proofs.StepLaws.{stepped-size, stepped-at, sum-stepped}
 use Rattle.allruns.proofs.Bools.{and-left, and-right}
+
+-- The class of thread t's moves among the moves of its group, and that of the group's releases.
+unfoldable pub isRowOf : (t : ℕ) → Move → Bool
+isRowOf t (row u) = eqb u t
+isRowOf t release = false
+
+unfoldable pub isOwnRelease : Move → Bool
+isOwnRelease (row u) = false
+isOwnRelease release = true
 
 unfoldable pub stepsAfter : (steps : List ℕ) → List Move → List ℕ
 stepsAfter steps [] = steps
@@ -33,8 +42,8 @@ steps-rows steps [] = refl
 steps-rows steps (t ∷ ts) = steps-rows (stepped steps t) ts
 
 -- A thread's count grows by its own moves.
-pub steps-of : (t : ℕ) (steps : List ℕ) (ms : List Move) → t < length steps → getD (stepsAfter steps ms) t 0 ≡ many (isMoveOf t) ms + getD steps t 0
-unfolding stepsAfter isMoveOf
+pub steps-of : (t : ℕ) (steps : List ℕ) (ms : List Move) → t < length steps → getD (stepsAfter steps ms) t 0 ≡ many (isRowOf t) ms + getD steps t 0
+unfolding stepsAfter isRowOf
 steps-of t steps [] l = omega arith
 steps-of t steps (row u ∷ ms) l =
     let h = steps-of t (stepped steps u) ms (omega (arith, stepped-size steps u)) in
@@ -43,7 +52,7 @@ steps-of t steps (row u ∷ ms) l =
 steps-of t steps (release ∷ ms) l = let h = steps-of t steps ms l in omega arith
 
 -- A move leaves as many threads, and a row is that of one of them.
-next-size : (T : Table) (L : Shape) (g : Group) (m : Move) → length (next T L g m .threads) ≡ length (g .threads)
+pub next-size : (T : Table) (L : Shape) (g : Group) (m : Move) → length (next T L g m .threads) ≡ length (g .threads)
 unfolding next released markBad performed
 next-size T L g (row t) = by (endsBadly g t (effectAt T L g t))
   where
@@ -58,8 +67,8 @@ row-below T L g t c = ltb-true t _ (and-left _ _ (and-right (not (g .bad)) _ c))
 
 -- So the moves of a run are what all counts together grow by, and the releases.
 pub all-moves : (T : Table) (L : Shape) (g : Group) (ms : List Move) (steps : List ℕ) → Run (machine T L) g ms → length (g .threads) ≡ length steps
-    → length ms + sum steps ≡ sum (stepsAfter steps ms) + many isRelease ms
-unfolding stepsAfter isRelease
+    → length ms + sum steps ≡ sum (stepsAfter steps ms) + many isOwnRelease ms
+unfolding stepsAfter isOwnRelease
 all-moves T L g [] steps r e = omega arith
 all-moves T L g (row t ∷ ms) steps r e =
     let h = all-moves T L (next T L g (row t)) ms (stepped steps t) (r .1) (next-size T L g (row t) ∙ e ∙ sym (stepped-size steps t)) in
@@ -69,3 +78,17 @@ all-moves T L g (row t ∷ ms) steps r e =
 all-moves T L g (release ∷ ms) steps r e =
     let h = all-moves T L (next T L g release) ms steps (r .1) (next-size T L g release ∙ e) in
     omega (arith, h)
+
+-- What other groups forbid stays as it is while the group moves.
+pub barred-next : (T : Table) (L : Shape) (g : Group) (m : Move) → next T L g m .barred ≡ g .barred
+unfolding next released markBad performed
+barred-next T L g (row t) = by (endsBadly g t (effectAt T L g t))
+  where
+    by : (b : Bool) → cond b (markBad g) (performed g t (effectAt T L g t)) .barred ≡ g .barred
+    by true = refl
+    by false = refl
+barred-next T L g release = refl
+
+pub barred-kept : (T : Table) (L : Shape) (g : Group) (ms : List Move) → after (machine T L) g ms .barred ≡ g .barred
+barred-kept T L g [] = refl
+barred-kept T L g (m ∷ ms) = barred-kept T L (next T L g m) ms ∙ barred-next T L g m

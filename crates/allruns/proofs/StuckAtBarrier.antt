@@ -10,9 +10,11 @@ use lib.ListN.{length, getD}
 use Rattle.spec.specs.Lists.{every}
 use Rattle.spec.specs.Op.{BARRIER, CALC, ELSE, ENDIF, ENDWHILE, IF, MEM, Op, UNKNOWN, WHILE}
 use Rattle.spec.specs.Runs.{Stuck}
-use Rattle.spec.specs.Shape.{Shape}
+use Rattle.spec.specs.LaunchThreads.{Groups, atEnd, machine, noPart, ofGroup, partAtEnd, possible}
+use Rattle.spec.specs.Shape.{Shape, Sizes, shapeOf}
 use Rattle.spec.specs.Table.{Fits, Table, WellFormed, rowAt}
-use Rattle.spec.specs.Threads.{Group, Thread, atEnd, effect, effectAt, effectOf, isBarrier, isWaiting, machine, noThread, possible, row, threadCount}
+use Rattle.spec.specs.Threads as own
+use Rattle.spec.specs.Threads.{Thread, effect, effectAt, effectOf, isBarrier, isWaiting, noThread, row, threadCount}
 use Rattle.allruns.proofs.Bools.{and-make}
 use Rattle.allruns.proofs.Invariants.{reach-cases}
 
@@ -36,7 +38,7 @@ waits-at-barrier : (T : Table) (L : Shape) (t : ℕ) (x : Thread) (i o : Op) →
     → isBarrier o ≡ true
 unfolding effectOf isWaiting isBarrier
 waits-at-barrier T L t x i (CALC c) f q = q
-waits-at-barrier T L t x i (MEM m) f q = sym (reach-cases (λ e. isWaiting e ≡ false) L m _ _ _ refl refl) ∙ q
+waits-at-barrier T L t x i (MEM p m) f q = sym (reach-cases (λ e. isWaiting e ≡ false) L p _ _ _ refl refl) ∙ q
 waits-at-barrier T L t x i IF f q = q
 waits-at-barrier T L t x i ELSE f q = q
 waits-at-barrier T L t x i ENDIF f q = q
@@ -45,25 +47,38 @@ waits-at-barrier T L t x i ENDWHILE f q = q
 waits-at-barrier T L t x i BARRIER f q = refl
 waits-at-barrier T L t x i UNKNOWN f q = absurd f
 
-pub stuck-at-barrier : (T : Table) → WellFormed T → (L : Shape) (s : Group) → Stuck (machine T L) s
-    → (t : ℕ) × (t < length (s .threads)) × (isBarrier (rowAt T (getD (s .threads) t noThread .row) .op) ≡ true)
-unfolding atEnd possible threadCount effectAt effect
-stuck-at-barrier T w L s k = (f .0, f .1, waits-at-barrier T L (f .0) x _ _ (w .fitting (x .row) l) waiting)
+-- A thread that is not at the table's end and can't move is at a BARRIER.
+left-waiting : (T : Table) → WellFormed T → (L : Shape) (t : ℕ) (x : Thread) → leb (length T) (x .row) ≡ false → not (isWaiting (effect T L t x)) ≡ false
+    → isBarrier (rowAt T (x .row) .op) ≡ true
+unfolding effect
+left-waiting T w L t x q h =
+    let l = leb-false _ _ q in
+    waits-at-barrier T L t x _ _ (w .fitting (x .row) l) (rw (lt-ltb (x .row) (length T) l) at (not-false (isWaiting (effect T L t x)) h))
+
+-- Of a launch: a thread of one of its groups.
+pub stuck-at-barrier : (T : Table) → WellFormed T → (Z : Sizes) (S : Groups) → length (S .parts) ≡ Z .groups → Stuck (machine T Z) S
+    → (g : ℕ) × (t : ℕ) × (g < Z .groups) × (t < length (getD (S .parts) g noPart .threads))
+    × (isBarrier (rowAt T (getD (getD (S .parts) g noPart .threads) t noThread .row) .op) ≡ true)
+unfolding atEnd partAtEnd possible own.possible threadCount effectAt
+stuck-at-barrier T w Z S e k = (f .0, h .0, here, h .1, left-waiting T w (shapeOf Z (f .0)) (h .0) _ (h .2) waiting)
   where
-    good : not (s .bad) ≡ true
-    good = ap not (is-false (s .bad) (k .unharmed))
+    good : not (S .bad) ≡ true
+    good = ap not (is-false (S .bad) (k .unharmed))
 
-    -- a thread that is not at the table's end
-    f : (t : ℕ) × (t < length (s .threads)) × (leb (length T) (getD (s .threads) t noThread .row) ≡ false)
-    f = some-fails _ (s .threads) noThread (is-false _ (λ e. k .unfinished (and-make good e)))
+    -- a group that is not at its end, and a thread of it that is not at the table's end
+    f : (g : ℕ) × (g < length (S .parts)) × (partAtEnd T (getD (S .parts) g noPart) ≡ false)
+    f = some-fails (partAtEnd T) (S .parts) noPart (is-false _ (λ a. k .unfinished (and-make good a)))
 
-    x : Thread
-    x = getD (s .threads) (f .0) noThread
+    threads : List Thread
+    threads = getD (S .parts) (f .0) noPart .threads
 
-    l : x .row < length T
-    l = leb-false _ _ (f .2)
+    h : (t : ℕ) × (t < length threads) × (leb (length T) (getD threads t noThread .row) ≡ false)
+    h = unfold partAtEnd in (some-fails _ threads noThread (f .2))
 
-    waiting : isWaiting (effectOf T L (f .0) x (rowAt T (x .row)) (rowAt T (x .row) .op)) ≡ true
+    here : f .0 < Z .groups
+    here = omega (arith, f .1, e)
+
+    waiting : not (isWaiting (effect T (shapeOf Z (f .0)) (h .0) (getD threads (h .0) noThread))) ≡ false
     waiting =
-        rw (lt-ltb (x .row) (length T) l) at
-        (not-false (isWaiting (effectAt T L s (f .0))) (is-false _ (λ e. k .halted (row (f .0)) (and-make good (and-make (lt-ltb _ _ (f .1)) e)))))
+        is-false _
+        (λ a. k .halted (ofGroup (f .0) (row (h .0))) (and-make (lt-ltb (f .0) (Z .groups) here) (and-make good (and-make (lt-ltb (h .0) (length threads) (h .1)) a))))

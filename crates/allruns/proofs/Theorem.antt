@@ -1,68 +1,79 @@
--- Demand 3 holds of every well-formed table, thread count, cells and limit. Assumes nothing.
+-- Demand 3 holds of every well-formed table, sizes with a group at least, cells and limit. Assumes nothing.
 use mathlib.Core.Path.{_≡_, refl, sym, _∙_, ap, subst}
-use mathlib.Core.Logic.{⊎-elim}
-use mathlib.Core.List.{List, [], _∷_}
-use Prim.Native.Nat.{ℕ, zero, suc, _+_, _<_}
+use mathlib.Core.List.{List, [], _∷_, _++_, append-nil, map}
+use mathlib.Core.Bool.{Bool, true, false, cond}
+use Prim.Native.Nat.{ℕ, suc, _+_, _*_, _-_, _<_, _≤_}
 use native.Mathlib.Omega.{arith}
-use lib.ListN.{length, getD, replicate, length-replicate}
+use lib.Dec.{eqb}
+use lib.ListN.{length, getD, replicate, length-map}
 use Rattle.spec.specs.declared.Verdict.{Verdict}
-use Rattle.spec.specs.declared.Verdict.the-variants.{Passed, Race, Outside, Diverged, Spent}
-use Rattle.spec.specs.Runs.{many, RunsAlwaysEnd, shownTo}
-use Rattle.spec.specs.Shape.{Shape, shapeOf}
+use Rattle.spec.specs.declared.Verdict.the-variants.{Passed, Race, GroupRace, Outside, Diverged, Spent}
+use Rattle.spec.specs.AllRuns.{isMoveOf, isRelease, isReleaseOf, EveryRunEndsWell, PassedSays, Demand3}
+use Rattle.spec.specs.Lists.{joined}
+use Rattle.spec.specs.LockStep.{LockResult, initialState, outcomeOf}
+use Rattle.spec.specs.Runs.{many, shownTo}
+use Rattle.spec.specs.Shape.{Sizes, shapeOf}
 use Rattle.spec.specs.Steps.{sum}
 use Rattle.spec.specs.Table.{Table, WellFormed}
 use Rattle.spec.specs.Threads as own
-use Rattle.spec.specs.Threads.{Group, Move, initialGroup, row, release, next, machine}
-use Rattle.spec.specs.LockStep.{LockState, LockResult, initialState, lockstep, outcomeOf, countedBarriers}
-use Rattle.spec.specs.AllRuns.{machineOf, startOfRuns, isMoveOf, isRelease, EveryRunEndsWell, PassedSays, Demand3}
-use Rattle.spec.proofs.Laws.{zeros}
+use Rattle.spec.specs.LaunchRun.{GroupRun, countedBarriers, groupResult, groupRuns, lastRun, lockstep, ownCells, stepsByLaunch}
+use Rattle.spec.specs.LaunchThreads.{Groups, Move, initialGroups, machine, next, ofGroup, shown}
 use Rattle.allruns.proofs.Descent.{Same, descent}
-use Rattle.allruns.proofs.Diamond.{laws}
-use Rattle.allruns.proofs.Blocked.{bad-not-all, blocked-not-all}
-use Rattle.allruns.proofs.StepCounts.{steps-of, all-moves}
-use Rattle.allruns.proofs.Rows.{Failed}
-use Rattle.allruns.proofs.LockRun.{Completes, Simulates, simulates, start-sim}
-use Rattle.allruns.proofs.Counts.{spent-at-limit, counted-length}
-use Rattle.allruns.proofs.LockInvariants.{steps-size}
+use Rattle.allruns.proofs.Together.{all-laws}
+use Rattle.allruns.proofs.Lifted.{failed-not-all}
+use Rattle.allruns.proofs.LaunchCounts.{counted-in-all, launch-spent, joined-at, joined-length}
+use Rattle.allruns.proofs.GroupsInTurn.{LaunchCompletes, LaunchSimulates, first-turn, in-turn}
 
--- A run shows as much as it releases.
-shown-length : (T : Table) (L : Shape) (g : Group) (ms : List Move) → length (shownTo (machine T L) tt g ms) ≡ many isRelease ms
-unfolding isRelease own.shown
-shown-length T L g [] = refl
-shown-length T L g (row t ∷ ms) = let h = shown-length T L (next T L g (row t)) ms in omega arith
-shown-length T L g (release ∷ ms) = let h = shown-length T L (next T L g release) ms in omega arith
+-- An observer is shown as much as the group has releases.
+shown-length : (T : Table) (Z : Sizes) (g : ℕ) (S : Groups) (ms : List Move) → length (shownTo (machine T Z) g S ms) ≡ many (isReleaseOf g) ms
+unfolding isReleaseOf shown
+shown-length T Z g S [] = refl
+shown-length T Z g S (ofGroup h (own.row t) ∷ ms) = omega (arith, shown-length T Z g (next T Z S (ofGroup h (own.row t))) ms)
+shown-length T Z g S (ofGroup h own.release ∷ ms) = by (eqb h g) (shown-length T Z g (next T Z S (ofGroup h own.release)) ms)
+  where
+    own-now : List ℕ
+    own-now = ownCells (shapeOf Z h) (S .cells)
 
--- A launch whose lock-step run stops has a run that ends badly, or one that leaves a thread at a barrier for ever.
-failed-not-all : (T : Table) → WellFormed T → (L : Shape) (g : Group) (v : Verdict) → Failed T L g v → RunsAlwaysEnd (machine T L) g → ⊥
-failed-not-all T w L g v f a =
-    ⊎-elim (λ b. bad-not-all T L g (f .moves) (f .run) b a) (λ p. blocked-not-all T w L g (f .moves) (p .0) (p .1) (f .run) (p .2) a) (f .fails)
+    rest : List (List ℕ)
+    rest = shownTo (machine T Z) g (next T Z S (ofGroup h own.release)) ms
 
-sum-zeros : (n : ℕ) → sum (replicate n 0) ≡ 0
-unfolding sum
-sum-zeros zero = refl
-sum-zeros (suc n) = omega (arith, sum-zeros n)
+    by : (b : Bool) → length rest ≡ many (isReleaseOf g) ms → length (cond b (own-now ∷ []) [] ++ rest) ≡ cond b 1 0 + many (isReleaseOf g) ms
+    by true ih = omega (arith, ih)
+    by false ih = omega (arith, ih)
 
-module _ (T : Table) (w : WellFormed T) (n : ℕ) (cells : List ℕ) (limit : ℕ) where
+module _ (T : Table) (w : WellFormed T) (Z : Sizes) (one : 1 ≤ Z .groups) (cells : List ℕ) (size : length cells ≡ Z .groups * Z .cells + Z .global)
+    (limit : ℕ) where
   abbrev result : LockResult
-  result = lockstep T n cells limit
+  result = lockstep T Z cells limit
 
-  abbrev bars : List (List ℕ)
-  bars = countedBarriers T n cells limit
+  abbrev start : Groups
+  start = initialGroups T Z cells
 
-  abbrev start : LockState
-  start = initialState n cells
+  abbrev runs : List GroupRun
+  runs = groupRuns T Z cells limit
 
-  simulated : Simulates T (shapeOf n cells) start (startOfRuns T n cells) result bars (result .verdict)
-  unfolding lockstep countedBarriers
-  simulated = simulates T w (shapeOf n cells) limit start [] (startOfRuns T n cells) (start-sim T w n cells)
+  abbrev steps : List ℕ
+  steps = stepsByLaunch T Z cells limit
 
-  complete : result .verdict ≡ Passed → Completes T (shapeOf n cells) start (startOfRuns T n cells) result bars
-  complete p = subst (Simulates T (shapeOf n cells) start (startOfRuns T n cells) result bars) p simulated
+  abbrev stepsOfRuns : List (List ℕ)
+  stepsOfRuns = map (λ u. groupResult T limit u .state .steps) runs
 
-  same : (p : result .verdict ≡ Passed) → Same (machineOf T n cells) (startOfRuns T n cells) (complete p .moves)
-  same p = descent (machineOf T n cells) (laws T (shapeOf n cells)) (startOfRuns T n cells) (complete p .moves) (complete p .run) (complete p .ended)
+  all-groups : suc (Z .groups - 1) ≡ Z .groups
+  all-groups = omega arith
 
-  well : result .verdict ≡ Passed → EveryRunEndsWell T n cells
+  simulated : LaunchSimulates T Z limit start 0 0 (Z .groups) runs result (result .verdict)
+  unfolding lockstep lastRun groupRuns initialState
+  simulated =
+      subst (λ n. LaunchSimulates T Z limit start 0 0 n runs result (result .verdict)) all-groups
+      (in-turn T w Z limit (Z .groups - 1) 0 start (initialState Z cells) (omega arith) (first-turn T Z cells size))
+
+  complete : result .verdict ≡ Passed → LaunchCompletes T Z limit start 0 0 (Z .groups) runs result
+  complete p = subst (LaunchSimulates T Z limit start 0 0 (Z .groups) runs result) p simulated
+
+  same : (p : result .verdict ≡ Passed) → Same (machine T Z) start (complete p .moves)
+  same p = descent (machine T Z) (all-laws T Z) start (complete p .moves) (complete p .run) (complete p .ended)
+
+  well : result .verdict ≡ Passed → EveryRunEndsWell T Z cells
   well p =
       record {
         always = same p .all;
@@ -70,58 +81,74 @@ module _ (T : Table) (w : WellFormed T) (n : ℕ) (cells : List ℕ) (limit : �
         neverStuck = λ ms r s. s .unfinished (same p .all .ends ms r (s .halted));
       }
 
-  back : (v : Verdict) → result .verdict ≡ v → Simulates T (shapeOf n cells) start (startOfRuns T n cells) result bars v → ¬ (result .verdict ≡ Spent)
-      → EveryRunEndsWell T n cells → result .verdict ≡ Passed
+  -- A launch whose lock-step run stops has a run that ends badly, or one that leaves a thread at a barrier for ever.
+  back : (v : Verdict) → result .verdict ≡ v → LaunchSimulates T Z limit start 0 0 (Z .groups) runs result v → ¬ (result .verdict ≡ Spent)
+      → EveryRunEndsWell T Z cells → result .verdict ≡ Passed
   back Passed q c ns a = q
-  back (Race t u k c) q f ns a = absurd (failed-not-all T w (shapeOf n cells) (startOfRuns T n cells) _ f (a .always))
-  back (Outside t c) q f ns a = absurd (failed-not-all T w (shapeOf n cells) (startOfRuns T n cells) _ f (a .always))
-  back (Diverged t u) q f ns a = absurd (failed-not-all T w (shapeOf n cells) (startOfRuns T n cells) _ f (a .always))
+  back (Race t u k c) q f ns a = absurd (failed-not-all T w Z start f (a .always))
+  back (GroupRace t h k c) q f ns a = absurd (failed-not-all T w Z start f (a .always))
+  back (Outside t c) q f ns a = absurd (failed-not-all T w Z start f (a .always))
+  back (Diverged t u) q f ns a = absurd (failed-not-all T w Z start f (a .always))
   back Spent q c ns a = absurd (ns q)
 
-  -- The moves of the simulated run: each thread's own, and all.
-  steps-are : (p : result .verdict ≡ Passed) (t : ℕ) → t < n → many (isMoveOf t) (complete p .moves) ≡ getD (result .state .steps) t 0
-  unfolding initialState
-  steps-are p t l =
-      let a = steps-of t (replicate n 0) (complete p .moves) (subst (λ k. t < k) (sym (length-replicate n 0)) l) in
-      let b = ap (λ steps. getD steps t 0) (complete p .counted) in
-      omega (arith, a, b, zeros n t)
+  -- Where all groups have run, the steps by launch number are theirs, one group behind the other.
+  module _ (p : result .verdict ≡ Passed) where
+    run-count : length stepsOfRuns ≡ Z .groups
+    run-count = length-map runs (λ u. groupResult T limit u .state .steps) ∙ complete p .count
 
-  moves-are : (p : result .verdict ≡ Passed) → length (complete p .moves) ≡ sum (result .state .steps) + many isRelease (complete p .moves)
-  unfolding initialState initialGroup shapeOf
-  moves-are p =
-      let a = all-moves T (shapeOf n cells) (startOfRuns T n cells) (complete p .moves) (replicate n 0) (complete p .run)
-      (length-replicate n _ ∙ sym (length-replicate n 0)) in
-      let b = ap sum (complete p .counted) in
-      omega (arith, a, b, sum-zeros n)
+    steps-joined : steps ≡ joined stepsOfRuns
+    unfolding stepsByLaunch
+    steps-joined = ap (λ k. joined stepsOfRuns ++ replicate k 0) none ∙ append-nil (joined stepsOfRuns)
+      where
+        left : Z .groups - length runs ≡ 0
+        left = let e = complete p .count in omega (arith, e)
 
-  barriers-are : (k : ℕ) → k + start .barriers ≡ result .state .barriers → k ≡ result .state .barriers
-  unfolding initialState
-  barriers-are k h = omega arith
+        none : (Z .groups - length runs) * Z .threads ≡ 0
+        none = ap (λ k. k * Z .threads) left ∙ (let z : 0 * Z .threads ≡ 0 = omega arith in z)
 
-  says : result .verdict ≡ Passed → PassedSays T n cells (result .state .steps) (result .state .barriers) (result .state .cells) bars
-  says p =
-      record {
-        every = steps-size T n cells limit;
-        each = λ t l ms r. same p .classed (isMoveOf t) ms (r .0) (r .1) ∙ steps-are p t l;
-        moves = λ ms r.
-            same p .count ms (r .0) (r .1) ∙ moves-are p
-            ∙ ap (λ k. sum (result .state .steps) + k) (barriers-are (many isRelease (complete p .moves)) (complete p .released));
-        releases = λ ms r. same p .classed isRelease ms (r .0) (r .1) ∙ barriers-are (many isRelease (complete p .moves)) (complete p .released);
-        classes = λ c ms ks r u. same p .classed c ms (r .0) (r .1) ∙ sym (same p .classed c ks (u .0) (u .1));
-        meanwhile = λ ms r. let h = same p .prefix tt ms r in (h .0, h .1 ∙ complete p .sees);
-        shown = λ ms r. shown-length T (shapeOf n cells) (startOfRuns T n cells) ms;
-        throughout = λ ms r. same p .sees tt ms (r .0) (r .1) ∙ complete p .sees;
-        finally = λ ms r. ap (λ g. g .cells) (same p .there ms (r .0) (r .1)) ∙ complete p .finally;
-        some-run = (complete p .moves, (complete p .run, complete p .ended));
-      }
+    steps-count : length steps ≡ Z .groups * Z .threads
+    steps-count = ap length steps-joined ∙ joined-length (Z .threads) stepsOfRuns (complete p .sized) ∙ ap (λ n. n * Z .threads) run-count
+
+    steps-are : (g t : ℕ) → g < Z .groups → t < Z .threads → many (isMoveOf g t) (complete p .moves) ≡ getD steps (g * Z .threads + t) 0
+    steps-are g t a b =
+        ap (λ h. many (isMoveOf h t) (complete p .moves)) (let z : g ≡ 0 + g = omega arith in z)
+        ∙ complete p .each g t a b
+        ∙ sym (joined-at (Z .threads) stepsOfRuns (complete p .sized) g t (omega (arith, a, run-count)) b)
+        ∙ ap (λ xs. getD xs (g * Z .threads + t) 0) (sym steps-joined)
+
+    moves-are : length (complete p .moves) ≡ sum steps + result .state .barriers
+    moves-are = let a = complete p .counted in let b : sum steps ≡ sum (joined stepsOfRuns) = ap sum steps-joined in omega (arith, a, b)
+
+    releases-are : many isRelease (complete p .moves) ≡ result .state .barriers
+    releases-are = omega (arith, complete p .released)
+
+    shown-are : (g : ℕ) → g < Z .groups → shownTo (machine T Z) g start (complete p .moves) ≡ getD (countedBarriers T Z cells limit) g []
+    unfolding countedBarriers
+    shown-are g a =
+        ap (λ h. shownTo (machine T Z) h start (complete p .moves)) (let z : g ≡ 0 + g = omega arith in z) ∙ complete p .sees g a
+
+    says : PassedSays T Z cells steps (result .state .barriers) (result .state .cells) (countedBarriers T Z cells limit)
+    says =
+        record {
+          every = steps-count;
+          each = λ g t a b ms r. same p .classed (isMoveOf g t) ms (r .0) (r .1) ∙ steps-are g t a b;
+          moves = λ ms r. same p .count ms (r .0) (r .1) ∙ moves-are;
+          releases = λ ms r. same p .classed isRelease ms (r .0) (r .1) ∙ releases-are;
+          classes = λ c ms ks r u. same p .classed c ms (r .0) (r .1) ∙ sym (same p .classed c ks (u .0) (u .1));
+          meanwhile = λ g a ms r. let h = same p .prefix g ms r in (h .0, h .1 ∙ shown-are g a);
+          shown = λ g ms r. shown-length T Z g start ms;
+          throughout = λ g a ms r. same p .sees g ms (r .0) (r .1) ∙ shown-are g a;
+          finally = λ ms r. ap (λ S. S .cells) (same p .there ms (r .0) (r .1)) ∙ complete p .finally;
+          some-run = (complete p .moves, (complete p .run, complete p .ended));
+        }
 
   -- whatever its rows cost
-  pub demand3 : (conflicts : ℕ) → Demand3 T n cells limit (outcomeOf result conflicts) (result .state .steps) (result .state .cells)
+  pub demand3 : (conflicts : ℕ) → Demand3 T Z cells limit (outcomeOf result conflicts) steps (result .state .cells)
   unfolding outcomeOf
   demand3 conflicts =
       record {
         exactly = λ ns. (well, back (result .verdict) refl simulated ns);
         passed = says;
-        counted = counted-length T n cells limit;
-        spent = spent-at-limit T n cells limit;
+        counted = counted-in-all T Z cells limit;
+        spent = launch-spent T Z cells limit;
       }

@@ -1,29 +1,31 @@
 -- A row of the lock-step run is a row of each enabled thread, lowest first. Assumes nothing.
-use mathlib.Core.Path.{_≡_, refl, sym, _∙_, ap, ap₂, subst, fun-ext}
+use mathlib.Core.Path.{_≡_, refl, sym, _∙_, ap, ap₂, subst, subst₂, fun-ext}
 use mathlib.Core.List.{List, [], _∷_, map}
-use mathlib.Core.Bool.{Bool, true, false, cond, not, or-false}
+use mathlib.Core.Bool.{Bool, true, false, cond, not, _||_, or-false}
 use Prim.Native.Nat.{ℕ, suc, _+_, _<_, _≤_}
 use native.Mathlib.Omega.{arith}
 use native.Mathlib.Decide.{ℕ-discrete}
-use lib.Dec.{eqb, leb}
-use borrow.Author.Tests.{leb-true, leb-false, lt-ltb, le-ltb}
+use lib.Dec.{eqb}
+use borrow.Author.Tests.{lt-ltb, le-ltb}
 use lib.ListN.{length, getD, set, length-set}
 use lib.Seq.{getD-set-other, getD-set-same, set-getD}
 use Rattle.spec.specs.Access.{Access, Kind, cellAfter, registersAfter}
 use Rattle.spec.specs.Lists.{anyOf}
-use Rattle.spec.specs.LockStep.{LockState, Step, accessTurn, andThen, computeTurn, continues, inTurn, madeAccess, reg, setReg, stops, tryAccess}
-use Rattle.spec.specs.Log.{conflictMask, raceKind}
-use Rattle.spec.specs.Mask.{Mask, any, has, lowest, membersFrom}
-use Rattle.spec.specs.Op.{CALC, Calc, MEM, Mem, Op, value}
+use Rattle.spec.specs.GroupLog.{GroupLog}
+use Rattle.spec.specs.LockStep.{LockState, Step, accessTurn, andThen, computeTurn, continues, inTurn, madeAccess, reg, setReg, stops}
+use Rattle.spec.specs.Mask.{Mask, any, has, membersFrom}
+use Rattle.spec.specs.Op.{CALC, Calc, GLOBAL, MEM, Mem, OWN, Op, Space, value}
 use Rattle.spec.specs.Runs.{Run, after}
-use Rattle.spec.specs.Shape.{Shape, address, bound, total}
-use Rattle.spec.specs.Table.{Row, Table, cellByte, kindOf, rowAt}
-use Rattle.spec.specs.Threads.{Effect, Group, Move, Thread, accesses, accessesOf, cellsAfter, effect, effectAt, effectOf, endsBadly, isOutside}
+use Rattle.spec.specs.Shape.{Shape, address, bound, reaches, total}
+use Rattle.spec.specs.Table.{Row, Table, rowAt}
+use Rattle.spec.specs.Threads.{AccessRecord, Effect, Group, Move, Thread, accesses, accessesOf, cellsAfter, effect, effectAt, effectOf, endsBadly, isOutside}
 use Rattle.spec.specs.Threads.{isWaiting, machine, next, noThread, performed, possible, races, reach, recorded, row, strays, threadAfter, threadCount}
-use Rattle.spec.specs.declared.Verdict.the-variants.{Outside, Race}
 use Rattle.spec.specs.Threads as own
 use Rattle.allruns.proofs.LogMatches.{LogMatches}
 use Rattle.allruns.proofs.LogRecord.{log-tested, log-entered}
+use Rattle.allruns.proofs.Places.{address-reached, address-within, global-place, own-apart}
+use Rattle.allruns.proofs.GroupMatches.{GroupMatches, groups-global, groups-own, rivals-say}
+use Rattle.allruns.proofs.AccessTurns.{entered, groups, groupsAfter, kind, number, others, standing, turn-cases}
 use Rattle.allruns.proofs.Bools.{and-make}
 use Rattle.allruns.proofs.Diamond.{next-done, next-bad}
 use Rattle.allruns.proofs.Simulation.{Pos, body, Match, moved, moved-same, moved-other, movedAll}
@@ -72,6 +74,15 @@ module _ (T : Table) (L : Shape) (new : ℕ → Pos) (here : Pos) where
       turn-all f one (suc k) m (moved P k (new k)) s₁ (next T L g (row k)) (omega arith)
       (λ j q. moved-other P k (suc k + j) (new k) (λ e. omega arith) ∙ ap P (let z : suc k + j ≡ k + suc j = omega arith in z) ∙ at (suc j) q) h₁)
 
+-- Nothing recorded.
+none-recorded : (R : AccessRecord) (t : ℕ) → recorded R t [] ≡ R
+unfolding recorded
+none-recorded R t = fun-ext (λ u. same (eqb u t) (R u))
+  where
+    same : (b : Bool) (xs : List Access) → cond b xs xs ≡ xs
+    same true xs = refl
+    same false xs = refl
+
 -- A thread's row that makes no access, and leaves the lock-step state as it is but for what `s₁` says of registers.
 module _ (T : Table) (L : Shape) (t : ℕ) (P : ℕ → Pos) (s : LockState) (g : Group) (l : t < (L .threads)) (h : Match T L P s g) where
   pub own-act : effectAt T L g t ≡ effect T L t (body (P t) (getD (s .regs) t []))
@@ -102,9 +113,11 @@ module _ (T : Table) (L : Shape) (t : ℕ) (P : ℕ → Pos) (s : LockState) (g 
   -- where the machine stands after thread t's own act x, which is not bad
   pub matched : (x : Effect) (p : Pos) (r : List ℕ) (s₁ : LockState) → threadAfter (getD (g .threads) t noThread) (g .cells) x ≡ body p r
       → s₁ .regs ≡ set (s .regs) t r → cellsAfter (g .cells) x ≡ s₁ .cells → length (s₁ .cells) ≡ length (s .cells)
-      → LogMatches (L .threads) (length (s .cells)) (recorded (g .made) t (accessesOf x)) (s₁ .log) → Match T L (moved P t p) s₁ (performed g t x)
+      → LogMatches (L .threads) (total L) (reaches L) (recorded (g .made) t (accessesOf x)) (s₁ .log)
+      → GroupMatches L (total L) (recorded (g .ever) t (accessesOf x)) (g .barred) (s₁ .groupLog)
+      → Match T L (moved P t p) s₁ (performed g t x)
   unfolding performed
-  matched x p r s₁ e q k len logs =
+  matched x p r s₁ e q k len logs groups =
       record {
         good = h .good;
         size = length-set (g .threads) t _ ∙ h .size;
@@ -112,49 +125,55 @@ module _ (T : Table) (L : Shape) (t : ℕ) (P : ℕ → Pos) (s : LockState) (g 
         threads = stepped-threads x p (s₁ .regs) r q e;
         cells = k;
         celled = len ∙ h .celled;
-        logs = subst (λ k. LogMatches (L .threads) k (recorded (g .made) t (accessesOf x)) (s₁ .log)) (sym len) logs;
+        numbered = h .numbered;
+        logs = logs;
+        groups = groups;
       }
 
   pub next-is : (x : Effect) (p : Pos) (s₁ : LockState) → effectAt T L g t ≡ x → isWaiting x ≡ false → endsBadly g t x ≡ false
       → Match T L (moved P t p) s₁ (performed g t x) → (possible T L g (row t) ≡ true) × Match T L (moved P t p) s₁ (next T L g (row t))
   next-is x p s₁ a i b m = (may x a i, subst (Match T L (moved P t p) s₁) (sym (next-done T L g t (ap (endsBadly g t) a ∙ b) ∙ ap (performed g t) a)) m)
 
-  -- nothing noted
-  none-noted : recorded (g .made) t [] ≡ g .made
-  unfolding recorded
-  none-noted = fun-ext (λ u. same (eqb u t) (g .made u))
-    where
-      same : (b : Bool) (xs : List Access) → cond b xs xs ≡ xs
-      same true xs = refl
-      same false xs = refl
-
   -- a row without access
   pub quiet-one : (p : Pos) (r : List ℕ) (s₁ : LockState) → effect T L t (body (P t) (getD (s .regs) t [])) ≡ own.goes (body p r) → s₁ .regs ≡ set (s .regs) t r
-      → s₁ .cells ≡ s .cells → s₁ .log ≡ s .log
+      → s₁ .cells ≡ s .cells → s₁ .log ≡ s .log → s₁ .groupLog ≡ s .groupLog
       → (possible T L g (row t) ≡ true) × Match T L (moved P t p) s₁ (next T L g (row t))
   unfolding isWaiting endsBadly isOutside accessesOf anyOf threadAfter cellsAfter
-  quiet-one p r s₁ a q c d =
+  quiet-one p r s₁ a q c d e =
       next-is (own.goes (body p r)) p s₁ (own-act ∙ a) refl refl
       (matched (own.goes (body p r)) p r s₁ refl q (h .cells ∙ sym c) (ap length c)
-      (subst (LogMatches (L .threads) (length (s .cells)) (recorded (g .made) t [])) (sym d)
-      (subst (λ R. LogMatches (L .threads) (length (s .cells)) R (s .log)) (sym none-noted) (h .logs))))
+      (subst₂ (LogMatches (L .threads) (total L) (reaches L)) (sym (none-recorded (g .made) t)) (sym d) (h .logs))
+      (subst₂ (λ R H. GroupMatches L (total L) R (g .barred) H) (sym (none-recorded (g .ever) t)) (sym e) (h .groups)))
 
 pub act-is : (T : Table) (L : Shape) (t : ℕ) (th : Thread) (o : Op) → th .row < length T → rowAt T (th .row) .op ≡ o
     → effect T L t th ≡ effectOf T L t th (rowAt T (th .row)) o
 unfolding effect
 act-is T L t th o l q = rw (lt-ltb _ _ l) (ap (effectOf T L t th (rowAt T (th .row))) q)
 
--- A cell that a row can name is one of all cells.
-spot-within : (L : Shape) (m : Mem) (c : ℕ) → c < bound L m → address L m c < total L
-unfolding bound address total
-spot-within L m c l = l
+-- An access made by both: the group masks.
+groups-entered : (L : Shape) (ever : AccessRecord) (barred : Access → Bool) (H : GroupLog) → L .group < L .groups → GroupMatches L (total L) ever barred H
+    → (p : Space) (t c : ℕ) (k : Kind) → t < L .threads → c < bound L p
+    → GroupMatches L (total L) (recorded ever t (record { cell = address L p c; kind = k } ∷ [])) barred (groupsAfter p H (address L p c) (L .group) k)
+unfolding groupsAfter
+groups-entered L ever barred H g h OWN t c k l b = groups-own L (total L) ever barred H g h t (address L OWN c) k l (own-apart L g c b)
+groups-entered L ever barred H g h GLOBAL t c k l b =
+    groups-global L (total L) ever barred H g h t (address L GLOBAL c) k l (address-within L g GLOBAL c b) (global-place L c)
 
 module _ (T : Table) (L : Shape) (t : ℕ) (P : ℕ → Pos) (s : LockState) (g : Group) (l : t < (L .threads)) (h : Match T L P s g)
     (inside : P t .row < length T) where
-  pub touch-one : (here : Pos) (new : ℕ → Pos) (m : Mem) → rowAt T (P t .row) .op ≡ MEM m → new t ≡ record { row = suc (P t .row); loops = P t .loops }
-      → One T L new here t P g (accessTurn L m (rowAt T (P t .row)) s t)
-  unfolding accessTurn tryAccess
-  touch-one here new m q e = by (leb (bound L m) b) refl
+  pub touch-one : (here : Pos) (new : ℕ → Pos) (p : Space) (m : Mem) → rowAt T (P t .row) .op ≡ MEM p m
+      → new t ≡ record { row = suc (P t .row); loops = P t .loops } → One T L new here t P g (accessTurn L p m (rowAt T (P t .row)) s t)
+  touch-one here new p m q e =
+      turn-cases L p m x s t (One T L new here t P g)
+      (λ y. (
+        may T L t P s g l h _ (strayed y) (unfold isWaiting in refl),
+        next-bad T L g t (ap (endsBadly g t) (strayed y) ∙ (unfold endsBadly isOutside in refl)),
+      ))
+      (λ o w y a. bad y (ap (λ b. b || any (groups L p m x s t)) a))
+      (λ o w y a b. bad y (ap₂ _||_ a b))
+      (λ y a b.
+      subst (λ u. (possible T L g (row t) ≡ true) × Match T L (moved P t u) s₁ (next T L g (row t))) (sym e)
+      (next-is T L t P s g l h (accesses c k (x .d)) pos s₁ (made y) (unfold isWaiting in refl) (hurt y ∙ ap₂ _||_ a b) (touch-match y a)))
     where
       x : Row
       x = rowAt T (P t .row)
@@ -163,67 +182,53 @@ module _ (T : Table) (L : Shape) (t : ℕ) (P : ℕ → Pos) (s : LockState) (g 
       th = body (P t) (getD (s .regs) t [])
 
       b : ℕ
-      b = reg s t (cellByte m x)
+      b = number L p m x s t
 
       c : ℕ
-      c = address L m b
+      c = standing L p m x s t
 
       k : Kind
-      k = kindOf m (reg s t (x .a))
+      k = kind L p m x s t
 
-      f : Mask
-      f = conflictMask (s .log) c t k
+      s₁ : LockState
+      s₁ = entered L p m x s t
 
       pos : Pos
       pos = record { row = suc (P t .row); loops = P t .loops }
 
-      a : effectAt T L g t ≡ reach L m b k (x .d)
-      a = own-act T L t P s g l h ∙ act-is T L t th (MEM m) inside q ∙ (unfold effectOf own.reg reg in refl)
+      a : effectAt T L g t ≡ reach L p b k (x .d)
+      a = own-act T L t P s g l h ∙ act-is T L t th (MEM p m) inside q ∙ (unfold effectOf own.reg reg in refl)
 
-      strayed : bound L m ≤ b → effectAt T L g t ≡ strays
-      strayed y = a ∙ (unfold reach in (rw (le-ltb b (bound L m) y)))
+      strayed : bound L p ≤ b → effectAt T L g t ≡ strays
+      strayed y = a ∙ (unfold reach in (rw (le-ltb b (bound L p) y)))
 
-      made : b < bound L m → effectAt T L g t ≡ accesses c k (x .d)
-      made y = a ∙ (unfold reach in (rw (lt-ltb b (bound L m) y)))
+      made : b < bound L p → effectAt T L g t ≡ accesses c k (x .d)
+      made y = a ∙ (unfold reach in (rw (lt-ltb b (bound L p) y)))
 
-      within : b < bound L m → c < length (s .cells)
-      within y = subst (λ n. c < n) (sym (h .celled)) (spot-within L m b y)
-
-      hurt : b < bound L m → endsBadly g t (accesses c k (x .d)) ≡ any f
+      -- the machine's two tests are those of lock step
+      hurt : b < bound L p → endsBadly g t (accesses c k (x .d)) ≡ (any (others L p m x s t) || any (groups L p m x s t))
       hurt y =
-          unfold endsBadly isOutside accessesOf anyOf threadCount in (or-false _ ∙ ap (λ n. races n (g .made) t (record { cell = c; kind = k })) (h .size)
-          ∙ log-tested (L .threads) (length (s .cells)) (g .made) (s .log) (h .logs) t c l (within y) k)
+          unfold endsBadly isOutside accessesOf anyOf threadCount in (or-false _ ∙ ap₂ _||_
+          (ap (λ n. races n (g .made) t (record { cell = c; kind = k })) (h .size)
+          ∙ log-tested (L .threads) (total L) (reaches L) (g .made) (s .log) (h .logs) t c l (address-within L (h .numbered) p b y)
+          (address-reached L p b y) k)
+          (rivals-say L (total L) (g .ever) (g .barred) (s .groupLog) (h .numbered) (h .groups) s refl p b k y (address-within L (h .numbered) p b y)))
 
-      touch-match : b < bound L m → any f ≡ false → Match T L (moved P t pos) (madeAccess s t (x .d) c k) (performed g t (accesses c k (x .d)))
+      bad : b < bound L p → (any (others L p m x s t) || any (groups L p m x s t)) ≡ true → (possible T L g (row t) ≡ true) × (next T L g (row t) .bad ≡ true)
+      bad y o = (may T L t P s g l h _ (made y) (unfold isWaiting in refl), next-bad T L g t (ap (endsBadly g t) (made y) ∙ hurt y ∙ o))
+
+      touch-match : b < bound L p → any (others L p m x s t) ≡ false → Match T L (moved P t pos) s₁ (performed g t (accesses c k (x .d)))
       touch-match y o =
-          matched T L t P s g l h (accesses c k (x .d)) pos (registersAfter k (x .d) (getD (s .cells) c 0) (getD (s .regs) t [])) (madeAccess s t (x .d) c k)
+          matched T L t P s g l h (accesses c k (x .d)) pos (registersAfter k (x .d) (getD (s .cells) c 0) (getD (s .regs) t [])) s₁
           (unfold threadAfter in
           (ap₂ (λ th cs. record { row = suc (th .row); regs = registersAfter k (x .d) (getD cs c 0) (th .regs); loops = th .loops }) (h .threads t l)
           (h .cells)))
           (unfold madeAccess in refl) (unfold cellsAfter madeAccess in (ap (λ cs. set cs c (cellAfter k (getD cs c 0))) (h .cells)))
           (unfold madeAccess in (length-set (s .cells) c _))
-          (unfold madeAccess accessesOf in (log-entered (L .threads) (length (s .cells)) (g .made) (s .log) (h .logs) t c l (within y) k o))
-
-      by : (y : Bool) → leb (bound L m) b ≡ y
-          → One T L new here t P g
-          (cond y (stops (Outside t b) s)
-          (cond (any f) (stops (Race t (lowest f) (raceKind (s .log) c (lowest f) k) c) s) (continues (madeAccess s t (x .d) c k))))
-      by true y = (
-        may T L t P s g l h _ (strayed (leb-true _ _ y)) (unfold isWaiting in refl),
-        next-bad T L g t (ap (endsBadly g t) (strayed (leb-true _ _ y)) ∙ (unfold endsBadly isOutside in refl)),
-      )
-      by false y = at (any f) refl
-        where
-          y′ : b < bound L m
-          y′ = leb-false _ _ y
-
-          at : (o : Bool) → any f ≡ o
-              → One T L new here t P g (cond o (stops (Race t (lowest f) (raceKind (s .log) c (lowest f) k) c) s) (continues (madeAccess s t (x .d) c k)))
-          at true o = (may T L t P s g l h _ (made y′) (unfold isWaiting in refl), next-bad T L g t (ap (endsBadly g t) (made y′) ∙ hurt y′ ∙ o))
-          at false o =
-              subst (λ p. (possible T L g (row t) ≡ true) × Match T L (moved P t p) (madeAccess s t (x .d) c k) (next T L g (row t))) (sym e)
-              (next-is T L t P s g l h (accesses c k (x .d)) pos (madeAccess s t (x .d) c k) (made y′) (unfold isWaiting in refl) (hurt y′ ∙ o)
-              (touch-match y′ o))
+          (unfold madeAccess accessesOf in
+          (log-entered (L .threads) (total L) (reaches L) (g .made) (s .log) (h .logs) t c l (address-within L (h .numbered) p b y)
+          (address-reached L p b y) k o))
+          (unfold accessesOf in (groups-entered L (g .ever) (g .barred) (s .groupLog) (h .numbered) (h .groups) p t b k l y))
 
   pub calc-one : (here : Pos) (new : ℕ → Pos) (k : Calc) → rowAt T (P t .row) .op ≡ CALC k → new t ≡ record { row = suc (P t .row); loops = P t .loops }
       → One T L new here t P g (computeTurn (rowAt T (P t .row)) (λ v a b. value k (L .threads) v (rowAt T (P t .row) .a) (rowAt T (P t .row) .b) a b) s t)
@@ -232,7 +237,7 @@ module _ (T : Table) (L : Shape) (t : ℕ) (P : ℕ → Pos) (s : LockState) (g 
       subst (λ p. (possible T L g (row t) ≡ true) × Match T L (moved P t p) s₁ (next T L g (row t))) (sym e)
       (quiet-one T L t P s g l h (record { row = suc (P t .row); loops = P t .loops }) (set (getD (s .regs) t []) (x .d) w) s₁
       (act-is T L t (body (P t) (getD (s .regs) t [])) (CALC k) inside q ∙ (unfold effectOf own.put own.reg reg in refl))
-      (unfold setReg in refl) (unfold setReg in refl) (unfold setReg in refl))
+      (unfold setReg in refl) (unfold setReg in refl) (unfold setReg in refl) (unfold setReg in refl))
     where
       x : Row
       x = rowAt T (P t .row)
@@ -276,4 +281,4 @@ module _ (T : Table) (L : Shape) (new : ℕ → Pos) (here : Pos) (s : LockState
           quiet-one T L k P s g (omega arith) h (new k) (getD (s .regs) k []) s
           (ap (λ p. effect T L k (body p (getD (s .regs) k []))) (ap P (sym zero-at) ∙ at 0 refl)
           ∙ subst (λ u. effect T L u (body here (getD (s .regs) u [])) ≡ own.goes (body (new u) (getD (s .regs) u []))) zero-at (effectOf 0 refl))
-          (sym (set-getD (s .regs) k [])) refl refl
+          (sym (set-getD (s .regs) k [])) refl refl refl

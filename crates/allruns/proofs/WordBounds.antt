@@ -14,17 +14,19 @@ use lib.ListN.{length, getD, set, replicate, length-set, length-replicate, List�
 use Rattle.spec.specs.Access.{Kind, load, store, atomicAdd, cellAfter, registersAfter}
 use Rattle.spec.specs.AllRuns.{RunOf, leaves}
 use Rattle.spec.specs.Limits.{registers}
-use Rattle.spec.specs.LockStep.{LockState, advance, countSteps, initialState, lockstep, madeAccess, passBarrier, reg, setReg}
+use Rattle.spec.specs.LaunchRun.{lockstep, nextStart}
+use Rattle.spec.specs.LaunchThreads.{Groups, Move, noPart}
+use Rattle.spec.specs.LockStep.{LockState, advance, countSteps, initialState, madeAccess, passBarrier, reg, setReg}
 use Rattle.spec.specs.Op.{Op, Calc, SET, TID, COUNT, ADD, SUB, MUL, AND, OR, XOR, SHR, SAR, EQ, LT, SLT, CALC, Mem, MEM, LOAD, STORE, ATOMICADD, IF, ELSE}
 use Rattle.spec.specs.Op.{ENDIF, WHILE, ENDWHILE, BARRIER, UNKNOWN, value}
-use Rattle.spec.specs.Shape.{Shape, shapeOf}
+use Rattle.spec.specs.Shape.{Shape, Sizes, address, shapeOf}
 use Rattle.spec.specs.Table.{Table, rowAt, kindOf}
 use Rattle.spec.specs.Threads as own
-use Rattle.spec.specs.Threads.{Group, Move, Thread, cellsAfter, effectOf, goto, noThread, onIf, onWhile, pastBarrier, put, threadAfter}
+use Rattle.spec.specs.Threads.{Thread, cellsAfter, effectOf, goto, noThread, onIf, onWhile, pastBarrier, put, threadAfter}
 use Rattle.spec.specs.Word.{places, signed, truth, unsigned}
 use Rattle.spec.proofs.Laws.{lt-or-le}
-use Rattle.allruns.proofs.LockInvariants.{RowsKeep, cond-keeps, in-lockstep}
-use Rattle.allruns.proofs.Invariants.{Holds, Keeps, in-every-run, reach-cases, replicate-keeps, set-keeps}
+use Rattle.allruns.proofs.LockInvariants.{RowsKeep, cond-keeps, in-launch}
+use Rattle.allruns.proofs.Invariants.{HoldsIn, Keeps, in-every-run, reach-cases, replicate-keeps, set-keeps}
 
 abbrev pub Word : ℕ → Type 0
 Word v = v < 2 ^ 32
@@ -96,9 +98,6 @@ pub record WordsIn (regs : ℕ → List ℕ) (cells : List ℕ) : Type 0 where
 abbrev pub WordState : LockState → Type 0
 WordState s = WordsIn (λ t. getD (s .regs) t []) (s .cells)
 
-abbrev pub WordGroup : Group → Type 0
-WordGroup s = WordsIn (λ t. getD (s .threads) t noThread .regs) (s .cells)
-
 -- The rows' bytes a and b.
 abbrev pub Bytes : Table → Type 0
 Bytes T = (r : ℕ) → r < length T → (rowAt T r .a < 256) × (rowAt T r .b < 256)
@@ -126,19 +125,31 @@ module _ (T : Table) (L : Shape) (bytes : Bytes T) (few : Word (L .threads)) whe
             (λ m i. set-keeps Word (getD (s .regs) t []) 0 _ _ i
             (λ z. value-word c (L .threads) t _ _ _ _ few (omega arith) (b .0) (b .1) (h .1 .ofThreads t _) (h .1 .ofThreads t _)) (h .1 .ofThreads t i))
             (h .1 .ofCells);
-        accesses = λ s r t c m h.
+        accesses = λ s r t c p m l h.
             let w = kind-word m _ (h .1 .ofThreads t (rowAt T r .a)) in
-            put-words (L .threads) t s _ _ h (λ l. registers-words _ _ _ _ w (h .1 .ofCells c) (h .1 .ofThreads t)) (cells-words _ c (s .cells) w (h .1 .ofCells));
+            put-words (L .threads) t s _ _ h (λ l. registers-words _ _ _ _ w (h .1 .ofCells (address L p c)) (h .1 .ofThreads t))
+            (cells-words _ (address L p c) (s .cells) w (h .1 .ofCells));
         steps = λ s m h. h;
         passes = λ s h. h;
         onward = λ s r m v h. h;
       }
 
-pub lockstep-words : (T : Table) (n : ℕ) (cells : List ℕ) (limit : ℕ) → Word n → Bytes T → Words cells → WordState (lockstep T n cells limit .state)
-unfolding shapeOf initialState
-lockstep-words T n cells limit few bytes words =
-    in-lockstep T n cells limit (Sound n) (sound-rows T (shapeOf n cells) bytes few)
-    (length-replicate n _, record { ofThreads = λ t. replicate-keeps Words n _ [] t zero-words (λ i. omega arith); ofCells = words }) .1
+-- Where a launch stops, whatever its verdict.
+pub lockstep-words : (T : Table) (Z : Sizes) (cells : List ℕ) (limit : ℕ) → Word (Z .threads) → Bytes T → Words cells
+    → WordState (lockstep T Z cells limit .state)
+unfolding initialState nextStart
+lockstep-words T Z cells limit few bytes words =
+    in-launch T Z limit (Sound (Z .threads)) (λ g. sound-rows T (shapeOf Z g) bytes few) (λ g s h. zeroed (s .cells) (h .1 .ofCells)) cells (zeroed cells words) .1
+  where
+    none : List ℕ
+    none = replicate registers 0
+
+    zeroed : (cells : List ℕ) → Words cells
+        → (length (replicate (Z .threads) none) ≡ Z .threads) × WordsIn (λ t. getD (replicate (Z .threads) none) t []) cells
+    zeroed cells w = (
+      length-replicate (Z .threads) _,
+      record { ofThreads = λ t. replicate-keeps Words (Z .threads) _ [] t zero-words (λ i. omega arith); ofCells = w },
+    )
 
 -- The same of the threads' own machine.
 module _ (T : Table) (L : Shape) (bytes : Bytes T) (few : Word (L .threads)) where
@@ -148,8 +159,8 @@ module _ (T : Table) (L : Shape) (bytes : Bytes T) (few : Word (L .threads)) whe
   words-row t x cells m l (CALC c) h w =
       let b = bytes (x .row) l in
       (λ i. set-keeps Word (x .regs) 0 _ _ i (λ z. value-word c (L .threads) t _ _ _ _ few (omega arith) (b .0) (b .1) (h _) (h _)) (h i), w)
-  words-row t x cells m l (MEM o) h w =
-      reach-cases (λ e. Words (threadAfter x cells e .regs) × Words (cellsAfter cells e)) L o _ _ _
+  words-row t x cells m l (MEM p o) h w =
+      reach-cases (λ e. Words (threadAfter x cells e .regs) × Words (cellsAfter cells e)) L p _ _ _
       (registers-words _ _ _ (x .regs) k (w _) h, cells-words _ _ cells k w) (h, w)
     where
       k : KindWord (kindOf o (own.reg x (rowAt T (x .row) .a)))
@@ -174,13 +185,23 @@ module _ (T : Table) (L : Shape) (bytes : Bytes T) (few : Word (L .threads)) whe
   unfolding pastBarrier goto
   keeps-words = record { first = zero-words; rows = λ t x cells m l o q h w. words-row t x cells m l o h w; barriers = λ x q h. h }
 
-pub runs-words : (T : Table) (n : ℕ) (cells : List ℕ) → Word n → Bytes T → Words cells → (ms : List Move) → RunOf T n cells ms → WordGroup (leaves T n cells ms)
-unfolding shapeOf noThread
-runs-words T n cells few bytes words ms r = record { ofThreads = λ t. by t (lt-or-le t n); ofCells = h .shared }
-  where
-    h : Holds n (λ x. Words (x .regs)) Words (leaves T n cells ms)
-    h = in-every-run T n cells (λ x. Words (x .regs)) Words (keeps-words T (shapeOf n cells) bytes few) words ms r
+-- In every run of a launch: the registers of each thread of each group, and the cells.
+abbrev pub WordGroups : Groups → Type 0
+WordGroups S = (g : ℕ) → WordsIn (λ t. getD (getD (S .parts) g noPart .threads) t noThread .regs) (S .cells)
 
-    by : (t : ℕ) → (t < n) ⊎ (n ≤ t) → Words (getD (leaves T n cells ms .threads) t noThread .regs)
-    by t (inl l) = h .each t l
-    by t (inr l) = rw (List·getD-eq-default (leaves T n cells ms .threads) noThread {n = t} (omega (arith, h .count))) (λ i. omega arith)
+pub runs-words : (T : Table) (Z : Sizes) (cells : List ℕ) → Word (Z .threads) → Bytes T → Words cells → (ms : List Move) → RunOf T Z cells ms
+    → WordGroups (leaves T Z cells ms)
+unfolding noThread noPart
+runs-words T Z cells few bytes words ms r g = record { ofThreads = λ t. by t (lt-or-le g (Z .groups)) (lt-or-le t (Z .threads)); ofCells = h .shared }
+  where
+    S : Groups
+    S = leaves T Z cells ms
+
+    h : HoldsIn Z (λ x. Words (x .regs)) Words S
+    h = in-every-run T Z cells (λ x. Words (x .regs)) Words (λ g. keeps-words T (shapeOf Z g) bytes few) words ms r
+
+    by : (t : ℕ) → (g < Z .groups) ⊎ (Z .groups ≤ g) → (t < Z .threads) ⊎ (Z .threads ≤ t) → Words (getD (getD (S .parts) g noPart .threads) t noThread .regs)
+    by t (inl k) (inl l) = h .each g t k l
+    by t (inl k) (inr l) =
+        rw (List·getD-eq-default (getD (S .parts) g noPart .threads) noThread {n = t} (omega (arith, h .count g k))) (unfold noThread in (λ i. omega arith))
+    by t (inr k) z = rw (List·getD-eq-default (S .parts) noPart {n = g} (omega (arith, h .groups))) (unfold noPart noThread in (λ i. omega arith))

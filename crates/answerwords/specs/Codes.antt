@@ -8,7 +8,7 @@ use lib.ListN.{getD, take, replicate}
 use Rattle.spec.specs.declared.AccessKind.{AccessKind}
 use Rattle.spec.specs.declared.AccessKind.the-variants.{ReadWrite, WriteRead, WriteWrite, ReadAdd, AddRead, WriteAdd, AddWrite}
 use Rattle.spec.specs.declared.Verdict.{Verdict}
-use Rattle.spec.specs.declared.Verdict.the-variants.{Passed, Race, Outside, Diverged, Spent}
+use Rattle.spec.specs.declared.Verdict.the-variants.{Passed, Race, GroupRace, Outside, Diverged, Spent}
 use Rattle.spec.specs.declared.Outcome.{Outcome}
 use Rattle.spec.specs.declared.Answer.{Answer}
 use Rattle.spec.specs.declared.Answer.the-variants as answer
@@ -18,6 +18,7 @@ use Rattle.spec.specs.declared.Value.{Value}
 use Rattle.spec.specs.declared.Value.the-variants as value
 use Rattle.refusals.specs.Words.{refusalWords}
 use Rattle.spec.specs.Table.{rowsOf}
+use Rattle.spec.specs.Shape.{oneGroup}
 use Rattle.spec.specs.AllRuns.{Demand3}
 use Rattle.spec.specs.Report.{Line, headLines, intervalLines}
 
@@ -34,6 +35,7 @@ refusalIn (written.Wrote n) = 0 ∷ 0 ∷ []
 unfoldable pub verdictCode : Verdict → ℕ
 verdictCode Passed = 1
 verdictCode (Race thread other kind at) = 2
+verdictCode (GroupRace thread group kind at) = 2
 verdictCode (Outside thread at) = 3
 verdictCode (Diverged thread other) = 4
 verdictCode Spent = 5
@@ -98,4 +100,4 @@ outcomeFrom ws =
 -- Demand 3 of a bare launch, of the words that its caller is handed: the flag that it ran, the outcome's words, the cells and the step counts that are left.
 abbrev pub RanDemand3 : (table : List ℕ) → (threads limit : ℕ) → (lentCells : List ℕ) → (ran : Bool) → (outcome left counts : List ℕ) → Type 0
 RanDemand3 table threads limit lentCells ran outcome left counts =
-    ran ≡ true → Demand3 (rowsOf table) threads lentCells limit (outcomeFrom outcome) (take threads counts) left
+    ran ≡ true → Demand3 (rowsOf table) (oneGroup threads lentCells) lentCells limit (outcomeFrom outcome) (take threads counts) left

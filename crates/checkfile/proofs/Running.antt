@@ -12,7 +12,9 @@ use Rattle.spec.specs.declared.Written.{Written}
 use Rattle.spec.specs.declared.Written.the-variants.{Wrote}
 use Rattle.spec.specs.Table.{rowsOf}
 use Rattle.spec.specs.Log.{logWords}
-use Rattle.spec.specs.LockStep.{LockResult, lockstep, outcomeOf}
+use Rattle.spec.specs.Shape.{oneGroup}
+use Rattle.spec.specs.LockStep.{LockResult, outcomeOf}
+use Rattle.spec.specs.LaunchRun.{lockstep}
 use Rattle.spec.specs.Intervals.{intervalRecords, recordWords, conflictsOf}
 use Rattle.spec.specs.LaunchFile.{Launch}
 use Rattle.spec.specs.Report.{runReport, reportOf}
@@ -56,7 +58,7 @@ module _ (table ends : List ℕ) (threads limit : ℕ) (words cells log records 
 
   -- All counts are there.
   pub counts-long : (memory : List ℕ) {o : Outcome} {ys zs ws counts : List ℕ}
-      → RunIs (lockstep (rowsOf table) threads memory limit) (intervalRecords (rowsOf table) threads memory limit) records o ys zs ws counts → length counts ≡ 32
+      → RunIs (lockstep (rowsOf table) (oneGroup threads memory) memory limit) (intervalRecords (rowsOf table) (oneGroup threads memory) memory limit) records o ys zs ws counts → length counts ≡ 32
   counts-long memory run =
       ap length (run .counts-are)
       ∙ over-length _ (replicate 32 0) (omega (arith, steps-size (rowsOf table) threads memory limit, asks .fewThreads, length-replicate {A = ℕ} 32 0))
@@ -74,16 +76,16 @@ module _ (table ends : List ℕ) (threads limit : ℕ) (words cells log records 
     abbrev steps : List ℕ
     steps = take threads counts
 
-    pub reported : RunIs (lockstep (rowsOf table) threads (take (length words) placed) limit)
-        (intervalRecords (rowsOf table) threads (take (length words) placed) limit) records o ys zs ws counts
+    pub reported : RunIs (lockstep (rowsOf table) (oneGroup threads (take (length words) placed)) (take (length words) placed) limit)
+        (intervalRecords (rowsOf table) (oneGroup threads (take (length words) placed)) (take (length words) placed) limit) records o ys zs ws counts
         → r ≡ writerAnswer (ran o) steps front output → out ≡ writerBuffer (ran o) steps front output → FitsOutput (ran o) steps front
         → ReportedLaunch launch cells log records output r (ys ++ drop (length words) placed) (zs ++ drop (logPerCell * length words) log) ws out
     unfolding launchRun launchIntervals launchOutcome launchReport
     reported run answer buffer fits =
-        let same : lockstep (rowsOf table) threads (take (length words) placed) limit ≡ launchRun launch = ap
-        (λ (w : List ℕ). lockstep (rowsOf table) threads w limit) (front-of words cells placed p) in
-        let records-same : intervalRecords (rowsOf table) threads (take (length words) placed) limit ≡ launchIntervals launch = ap
-        (λ (w : List ℕ). intervalRecords (rowsOf table) threads w limit) (front-of words cells placed p) in
+        let same : lockstep (rowsOf table) (oneGroup threads (take (length words) placed)) (take (length words) placed) limit ≡ launchRun launch = ap
+        (λ (w : List ℕ). lockstep (rowsOf table) (oneGroup threads w) w limit) (front-of words cells placed p) in
+        let records-same : intervalRecords (rowsOf table) (oneGroup threads (take (length words) placed)) (take (length words) placed) limit ≡ launchIntervals launch = ap
+        (λ (w : List ℕ). intervalRecords (rowsOf table) (oneGroup threads w) w limit) (front-of words cells placed p) in
         let kept : front ≡ ys = front-kept (length words) ys _ ly in
         let few : length front ≡ length words = ap length kept ∙ ly in
         let ran-steps : steps ≡ launchRun launch .state .steps = counts-front counts (launchRun launch .state .steps) (replicate 32 0)

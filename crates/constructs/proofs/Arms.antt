@@ -12,6 +12,7 @@ use Rattle.spec.specs.LockStep.{LockState, Step, continues, ifRow, elseRow, end
 use Rattle.layout.specs.declared.State.{State}
 use Rattle.layout.specs.declared.Next.{Next}
 use Rattle.layout.specs.declared.Next.the-variants as next
+use Rattle.layout.specs.Memory.{shapeBy}
 use Rattle.layout.specs.Represents.{Represents, After, DepthAsks}
 use Rattle.layout.specs.Constructs.{constructState, saving, savedAfter, openersAfter, ConstructDone, barrierNext, barrierLog}
 use Rattle.constructs.proofs.Rows.{ifOn, whileOn, if-done, else-done, endif-done, while-done, endwhile-done}
@@ -20,11 +21,11 @@ use Rattle.constructs.proofs.Barrier.{barrier-means}
 module _ (n : ℕ) (z : LockState) (s : State) (regs cells log saved openers : List ℕ) (R : Represents n z s regs cells log saved openers)
     (T : Table) (L : Shape) (x : Row) (op : ℕ) (q : x .op ≡ opOf op) where
   pub barrier-after : 1 ≤ n → op ≡ 37 → (r : Next) (log′ : List ℕ) → (r ≡ barrierNext n s) × (log′ ≡ barrierLog n s (length cells) log)
-      → After n (runRow T L x z (x .op)) r regs cells log′ saved openers
+      → After n (runRow T (shapeBy n cells) x z (x .op)) r regs cells log′ saved openers
   unfolding runRow opOf opTable
   barrier-after o e r log′ (er, el) =
-      subst (λ y. After n y r regs cells log′ saved openers) (sym (ap (runRow T L x z) (q ∙ ap opOf e)))
-      (subst₂ (λ y w. After n (barrierRow z) y regs cells w saved openers) (sym er) (sym el) (barrier-means n z s regs cells log saved openers R o))
+      subst (λ y. After n y r regs cells log′ saved openers) (sym (ap (runRow T (shapeBy n cells) x z) (q ∙ ap opOf e)))
+      (subst₂ (λ y w. After n (barrierRow (shapeBy n cells) z) y regs cells w saved openers) (sym er) (sym el) (barrier-means n z s regs cells log saved openers R o))
 
   module _ (a e : ℕ) (ea : x .a ≡ a) (ee : x .op ≡ WHILE → e ≡ endOf T (z .row)) (small : (op ≡ 32 → a < 16) × (op ≡ 35 → a < 16))
       (D : DepthAsks op s openers) where

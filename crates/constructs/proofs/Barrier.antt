@@ -1,11 +1,11 @@
 -- BARRIER. Assumes nothing.
 use mathlib.Core.Path.{_≡_, refl, sym, _∙_, ap, ap₂}
 use mathlib.Core.List.{List, map}
-use mathlib.Core.Bool.{Bool, true, false, cond, not}
-use Prim.Native.Nat.{ℕ, _+_, _-_, _^_, _≤_}
+use mathlib.Core.Bool.{Bool, true, false, cond, not, _&&_, _||_}
+use Prim.Native.Nat.{ℕ, _+_, _-_, _*_, _^_, _<_, _≤_}
 use native.Mathlib.Omega.{arith}
 use native.Mathlib.Decide.{ℕ-discrete}
-use borrow.Author.Tests.{eq-eqb, ne-eqb}
+use borrow.Author.Tests.{eq-eqb, ne-eqb, le-leb, lt-ltb}
 use lib.Dec.{eqb}
 use lib.Bits.{bitAnd}
 use lib.Pow.{pow-mono}
@@ -13,6 +13,7 @@ use lib.Count.{trailingZeros}
 use lib.ListN.{length, replicate, length-replicate}
 use Rattle.spec.specs.declared.Verdict.the-variants.{Diverged}
 use Rattle.spec.specs.Log.{cellsCleared}
+use Rattle.spec.specs.Shape.{isOwn, isGlobal, reaches}
 use Rattle.spec.specs.Mask.{maskWord, any, full, lowest}
 use Rattle.spec.specs.LockStep.{LockState, barrierRow, passBarrier}
 use Rattle.masks.proofs.Words.{any-none, any-some, word-minus, word-all, full-is, not-full, rest-any, rest-is, rest-size, lowest-is}
@@ -21,12 +22,13 @@ use Rattle.layout.specs.declared.Next.the-variants as next
 use Rattle.layout.proofs.LogBuffer.{cleared-is}
 use Rattle.layout.proofs.Reach.{empty-cleared, zeros-empty}
 use Rattle.layout.proofs.Turning.{kept-none}
+use Rattle.layout.specs.Memory.{shapeBy}
 use Rattle.layout.specs.Represents.{Represents, After, Counts, movedOn}
 use Rattle.layout.specs.Constructs.{passedState, divergedNext, barrierNext, barrierLog}
 use Rattle.layout.proofs.PlainRows.{moves-on}
 
 module _ (n : ℕ) (z : LockState) (s : State) (regs cells log saved openers : List ℕ) (R : Represents n z s regs cells log saved openers) where
-  skips : s .mask ≡ 0 → After n (barrierRow z) (next.Go (movedOn s)) regs cells log saved openers
+  skips : s .mask ≡ 0 → After n (barrierRow (shapeBy n cells) z) (next.Go (movedOn s)) regs cells log saved openers
   unfolding barrierRow
   skips e =
       let no : any (z .enabled) ≡ false = any-none (z .enabled) (sym (R .enabled-is) ∙ e) in
@@ -35,10 +37,17 @@ module _ (n : ℕ) (z : LockState) (s : State) (regs cells log saved openers : L
   some-on : (s .mask ≡ 0 → ⊥) → any (z .enabled) ≡ true
   some-on ne = any-some (z .enabled) (λ e. ne (R .enabled-is ∙ e))
 
+  -- the one group's threads can name every cell
+  reached : (i : ℕ) → i < length (z .cells) → reaches (shapeBy n cells) i ≡ true
+  unfolding reaches isOwn
+  reached i l =
+      let size = ap length (R .memory .cells-are) in
+      ap₂ (λ a b. a && b || isGlobal (shapeBy n cells) i) (le-leb (0 * length cells) i (omega arith)) (lt-ltb i (0 * length cells + length cells) (omega arith))
+
   abbrev walked : List ℕ
   walked = cellsCleared (length cells) (s .reach + 1) log
 
-  passes : 1 ≤ n → s .mask ≡ 2 ^ n - 1 → After n (barrierRow z) (next.Go (passedState s)) regs cells walked saved openers
+  passes : 1 ≤ n → s .mask ≡ 2 ^ n - 1 → After n (barrierRow (shapeBy n cells) z) (next.Go (passedState s)) regs cells walked saved openers
   unfolding barrierRow passBarrier
   passes o em =
       let two : 2 ^ 1 ≤ 2 ^ n = pow-mono {i = 1} {j = n} o in
@@ -54,7 +63,7 @@ module _ (n : ℕ) (z : LockState) (s : State) (regs cells log saved openers : L
             few = M .few;
             regs-are = M .regs-are;
             cells-are = M .cells-are;
-            log-is = cleared-is n (length (z .cells)) (z .log) log walked (M .log-is) whole;
+            log-is = cleared-is n (length (z .cells)) (z .log) log (M .log-is) (reaches (shapeBy n cells)) reached walked whole;
           };
           row-is = omega (arith, R .row-is);
           enabled-is = R .enabled-is;
@@ -69,7 +78,7 @@ module _ (n : ℕ) (z : LockState) (s : State) (regs cells log saved openers : L
         },
       )
 
-  diverges : (s .mask ≡ 0 → ⊥) → (s .mask ≡ 2 ^ n - 1 → ⊥) → After n (barrierRow z) (divergedNext n s) regs cells log saved openers
+  diverges : (s .mask ≡ 0 → ⊥) → (s .mask ≡ 2 ^ n - 1 → ⊥) → After n (barrierRow (shapeBy n cells) z) (divergedNext n s) regs cells log saved openers
   unfolding barrierRow
   diverges ne nm =
       let yes-any = some-on ne in
@@ -84,11 +93,11 @@ module _ (n : ℕ) (z : LockState) (s : State) (regs cells log saved openers : L
       ∙ lowest-is (map not (z .enabled)) 32 (omega (arith, rest-size (z .enabled))) (rest-any (z .enabled) part) in
       rw (yes-any, part) (s, ap₂ (λ x y. next.Stop (Diverged x y) s) first other, R)
 
-  pub barrier-means : 1 ≤ n → After n (barrierRow z) (barrierNext n s) regs cells (barrierLog n s (length cells) log) saved openers
+  pub barrier-means : 1 ≤ n → After n (barrierRow (shapeBy n cells) z) (barrierNext n s) regs cells (barrierLog n s (length cells) log) saved openers
   unfolding barrierNext barrierLog
   barrier-means o = by (ℕ-discrete (s .mask) (2 ^ n - 1)) (ℕ-discrete (s .mask) 0)
     where
-      by : Dec (s .mask ≡ 2 ^ n - 1) → Dec (s .mask ≡ 0) → After n (barrierRow z) (barrierNext n s) regs cells (barrierLog n s (length cells) log) saved openers
+      by : Dec (s .mask ≡ 2 ^ n - 1) → Dec (s .mask ≡ 0) → After n (barrierRow (shapeBy n cells) z) (barrierNext n s) regs cells (barrierLog n s (length cells) log) saved openers
       by (yes e) d = rw (eq-eqb (s .mask) (2 ^ n - 1) e) (passes o e)
       by (no f) (yes e) = rw (ne-eqb (s .mask) (2 ^ n - 1) f, eq-eqb (s .mask) 0 e) (skips e)
       by (no f) (no g) = rw (ne-eqb (s .mask) (2 ^ n - 1) f, ne-eqb (s .mask) 0 g) (diverges g f)

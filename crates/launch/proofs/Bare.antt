@@ -16,7 +16,8 @@ use Rattle.spec.specs.Answers.{first, told, toldBy}
 use Rattle.spec.specs.Table.{rowsOf}
 use Rattle.spec.specs.TableCheck.{tableRefusal}
 use Rattle.spec.specs.Log.{logWords}
-use Rattle.spec.specs.LockStep.{lockstep}
+use Rattle.spec.specs.Shape.{oneGroup}
+use Rattle.spec.specs.LaunchRun.{lockstep}
 use Rattle.spec.specs.Intervals.{intervalRecords, recordWords}
 use Rattle.spec.specs.Entries.{bareNumbers, bareLent, bareRefusal, bareRun, bareIntervals, bareOutcome, answerOf, keptIf, bareAnswer, bareCells, bareLog}
 use Rattle.spec.specs.Entries.{bareRecords, bareSteps, over}
@@ -131,7 +132,7 @@ module _ (table : List ℕ) (threads count limit : ℕ) (cells log records steps
   state-refuses why n t e = refused why (passed byNumbers _ n ∙ passed byTable _ t ∙ found byState why _ e)
 
   pub ran : (o : Outcome) (cells′ log′ records′ steps′ : List ℕ) → byNumbers ≡ none → byTable ≡ none → byState ≡ none
-      → RunIs (lockstep (rowsOf table) threads cells limit) (intervalRecords (rowsOf table) threads cells limit) records o cells′ log′ records′ steps′
+      → RunIs (lockstep (rowsOf table) (oneGroup threads cells) cells limit) (intervalRecords (rowsOf table) (oneGroup threads cells) cells limit) records o cells′ log′ records′ steps′
       → Entry (answer.Ran o) cells′ log′ records′ steps′
   unfolding bareRefusal bareAnswer bareCells bareLog bareRecords bareSteps answerOf keptIf bareRun bareIntervals bareOutcome
   ran o cells′ log′ records′ steps′ n t s R =

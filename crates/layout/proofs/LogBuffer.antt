@@ -13,7 +13,7 @@ use lib.Pow.{pow-pos}
 use lib.ListN.{length, getD, set, replicate, length-set, length-map, length-replicate, getD-replicate, List·getD-map}
 use lib.Seq.{set-getD, getD-set-other}
 use Rattle.spec.specs.Access.{Kind, load, store, atomicAdd, valueOf, Mode, reads, writes, adds, mode, agree}
-use Rattle.spec.specs.Lists.{joined}
+use Rattle.spec.specs.Lists.{joined, mapWhere}
 use Rattle.spec.specs.Mask.{Mask, maskWord, has, union}
 use Rattle.spec.specs.Op.{Mem, LOAD, STORE, ATOMICADD}
 use Rattle.spec.specs.Table.{kindOf}
@@ -21,7 +21,7 @@ use Rattle.spec.specs.Limits.{logPerCell}
 use Rattle.spec.specs.Log.{Log, masksOf, markWord, logKinds, logWords, emptyLog, nobody, cleared, cellsCleared, withThread, firstValue, unequal, logged}
 use Rattle.spec.specs.Log.{conflicting, testedMask, conflictMask}
 use Rattle.spec.proofs.ClearingLaws.{cells-all}
-use Rattle.spec.proofs.LogLaws.{same, masks-empty, masks-logged, masks-cleared, wiped-size, tested-size}
+use Rattle.spec.proofs.LogLaws.{same, masks-empty, masks-logged, masks-cleared, nobody-size, where-all, tested-size}
 use Rattle.masks.proofs.Words.{word-or, word-set, word-has, word-except, any-none, any-some}
 use Rattle.layout.specs.Memory.{Masks, LogIs}
 use Rattle.layout.specs.Logging.{rank, valueRank, markRank, placeOf, wordOf, equalWord, markEntered, valueEntered, hasBit}
@@ -339,26 +339,46 @@ zero-log k G masks values marks = joined-zeros k (logKinds G) zeros
     zeros (suc (suc (suc (suc zero)))) h = marks
     zeros (suc (suc (suc (suc (suc q))))) h = absurd (omega arith)
 
--- A log put to 0 is the cleared one, whatever it was.
-pub cleared-is : (n k : ℕ) (G : Log) (log log′ : List ℕ) → LogIs n k G log → log′ ≡ replicate (length log) 0 → LogIs n k (cleared G) log′
-cleared-is n k G log log′ L e =
-    record {
-      words-are = e ∙ ap zeros (log-size n k G log L) ∙ sym (zero-log k (cleared G)
-          (λ m. ap (map maskWord) (masks-cleared G m) ∙ wiped-words maskWord nobody nobody-word (masksOf G m) ∙ ap zeros (L .masks-are m .count))
-          (unfold cleared in (wiped-values (G .values) ∙ ap zeros (L .values-are)))
-          (unfold cleared in (wiped-words markWord (λ b. false) (λ b. unfold markWord in refl) (G .marks) ∙ ap zeros (L .marks-are))));
-      masks-are = λ m. subst (Masks n k) (sym (masks-cleared G m))
-          (record { count = length-map (masksOf G m) nobody ∙ L .masks-are m .count; each = λ c h. wiped-size (masksOf G m) c ∙ L .masks-are m .each c h });
-      values-are = unfold cleared in (length-map (G .values) (λ v. 0) ∙ L .values-are);
-      marks-are = unfold cleared in (length-map (G .marks) (λ b. false) ∙ L .marks-are);
-    }
-  where
-    zeros : ℕ → List ℕ
-    zeros j = replicate j 0
+-- A log put to 0 is the one cleared at all cells, whatever it was.
+module _ (n k : ℕ) (G : Log) (log : List ℕ) (L : LogIs n k G log) (p : ℕ → Bool) (all : (i : ℕ) → i < k → p i ≡ true) where
+  all-places : {A : Type 0} (f : A → A) (xs : List A) → length xs ≡ k → mapWhere p f 0 xs ≡ map f xs
+  all-places f xs e = where-all p f 0 xs (λ j l. ap p (let z : 0 + j ≡ j = omega arith in z) ∙ all j (omega arith))
 
--- The walk over all cells comes to it.
-pub walk-clears : (n k : ℕ) (G : Log) (log : List ℕ) → LogIs n k G log → cellsCleared k k log ≡ logWords (cleared G)
-walk-clears n k G log L = cleared-is n k G log (cellsCleared k k log) L (cells-all k log k (λ h. omega (arith, log-size n k G log L)) (le-refl k)) .words-are
+  masks-wiped : (m : Mode) → masksOf (cleared p G) m ≡ map nobody (masksOf G m)
+  masks-wiped m = masks-cleared p G m ∙ all-places nobody (masksOf G m) (L .masks-are m .count)
+
+  values-wiped : cleared p G .values ≡ map (λ v. 0) (G .values)
+  unfolding cleared
+  values-wiped = all-places (λ v. 0) (G .values) (L .values-are)
+
+  marks-wiped : cleared p G .marks ≡ map (λ b. false) (G .marks)
+  unfolding cleared
+  marks-wiped = all-places (λ b. false) (G .marks) (L .marks-are)
+
+  pub cleared-is : (log′ : List ℕ) → log′ ≡ replicate (length log) 0 → LogIs n k (cleared p G) log′
+  cleared-is log′ e =
+      record {
+        words-are = e ∙ ap zeros (log-size n k G log L) ∙ sym (zero-log k (cleared p G)
+            (λ m. ap (map maskWord) (masks-wiped m) ∙ wiped-words maskWord nobody nobody-word (masksOf G m) ∙ ap zeros (L .masks-are m .count))
+            (values-wiped ∙ wiped-values (G .values) ∙ ap zeros (L .values-are))
+            (ap (map markWord) marks-wiped ∙ wiped-words markWord (λ b. false) (λ b. unfold markWord in refl) (G .marks) ∙ ap zeros (L .marks-are)));
+        masks-are = λ m. subst (Masks n k) (sym (masks-wiped m))
+            (record { count = length-map (masksOf G m) nobody ∙ L .masks-are m .count; each = λ c h. wiped-size (masksOf G m) c ∙ L .masks-are m .each c h });
+        values-are = ap length values-wiped ∙ length-map (G .values) (λ v. 0) ∙ L .values-are;
+        marks-are = ap length marks-wiped ∙ length-map (G .marks) (λ b. false) ∙ L .marks-are;
+      }
+    where
+      zeros : ℕ → List ℕ
+      zeros j = replicate j 0
+
+      wiped-size : (ms : List Mask) (c : ℕ) → length (getD (map nobody ms) c []) ≡ length (getD ms c [])
+      wiped-size [] c = refl
+      wiped-size (m ∷ ms) zero = nobody-size m
+      wiped-size (m ∷ ms) (suc c) = wiped-size ms c
+
+  -- The walk over all cells comes to it.
+  pub walk-clears : cellsCleared k k log ≡ logWords (cleared p G)
+  walk-clears = cleared-is (cellsCleared k k log) (cells-all k log k (λ h. omega (arith, log-size n k G log L)) (le-refl k)) .words-are
 
 -- And at the start it is the empty one.
 empty-masks : (n k : ℕ) → Masks n k (replicate k (replicate n false))

@@ -11,10 +11,10 @@ use Rattle.spec.specs.Mask.{Mask, maskWord, members, nonzero}
 use Rattle.spec.specs.Access.{Mode}
 use Rattle.spec.specs.Limits.{logPerCell}
 use Rattle.spec.specs.Log.{Log, masksOf, logWords}
-use Rattle.spec.specs.Op.{Calc, CALC, Mem, MEM, opOf, value}
+use Rattle.spec.specs.Op.{Calc, CALC, OWN, Mem, MEM, opOf, value}
 use Rattle.spec.specs.Table.{Row}
 use Rattle.spec.specs.LockStep.{LockState, Step, continues, stops, inTurn, accessTurn}
-use Rattle.spec.specs.Shape.{Shape}
+use Rattle.spec.specs.Shape.{Shape, shapeOf, oneGroup}
 use Rattle.spec.specs.Word.{add}
 use Rattle.layout.specs.declared.Access.{Access}
 use Rattle.layout.specs.declared.Access.the-variants.{Done, Stop}
@@ -152,20 +152,20 @@ pub record CellNumber (op d a t : ℕ) (regs : List ℕ) (x : ℕ) : Type 0 wher
   pub in-register : CellRegister op d a register
   pub word : x ≡ getD regs (register * 32 + t) 0
 
--- The launch's shape, by the code's numbers.
+-- The shape of the one group, by the code's numbers.
 abbrev pub shapeBy : (n : ℕ) → (cells : List ℕ) → Shape
-shapeBy n cells = record { threads = n; cells = length cells }
+shapeBy n cells = shapeOf (oneGroup n cells) 0
 
 -- One thread's access, and a row's accesses, in a launch of n threads.
 abbrev pub AccessOne : (op t d a : ℕ) → (regs cells log : List ℕ) → Access → (regs′ cells′ log′ : List ℕ) → Type 0
 AccessOne op t d a regs cells log r regs′ cells′ log′ =
-    (n : ℕ) (m : Mem) (x : Row) → opOf op ≡ MEM m → t < n → x .d ≡ d → x .a ≡ a
-    → OneTurn (accessTurn (shapeBy n cells) m x) n t regs cells log r regs′ cells′ log′
+    (n : ℕ) (m : Mem) (x : Row) → opOf op ≡ MEM OWN m → t < n → x .d ≡ d → x .a ≡ a
+    → OneTurn (accessTurn (shapeBy n cells) OWN m x) n t regs cells log r regs′ cells′ log′
 
 abbrev pub AccessAll : (op n mask d a : ℕ) → (regs cells log : List ℕ) → Access → (regs′ cells′ log′ : List ℕ) → Type 0
 AccessAll op n mask d a regs cells log r regs′ cells′ log′ =
-    (m : Mem) (x : Row) → opOf op ≡ MEM m → x .d ≡ d → x .a ≡ a
-    → AllTurns (accessTurn (shapeBy n cells) m x) n mask regs cells log r regs′ cells′ log′
+    (m : Mem) (x : Row) → opOf op ≡ MEM OWN m → x .d ≡ d → x .a ≡ a
+    → AllTurns (accessTurn (shapeBy n cells) OWN m x) n mask regs cells log r regs′ cells′ log′
 
 -- Whether an access by op of the cell numbered x goes on: the cell is there, and nobody is met but the acting thread, of this bit. A STORE stores v.
 unfoldable pub goesOn : (op v bit x : ℕ) → (cells log : List ℕ) → Bool

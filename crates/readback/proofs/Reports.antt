@@ -12,12 +12,13 @@ use Rattle.spec.specs.declared.Subject.{Subject}
 use Rattle.spec.specs.declared.Subject.the-variants as subject
 use Rattle.spec.specs.declared.Value.the-variants as value
 use Rattle.spec.specs.declared.Verdict.{Verdict}
-use Rattle.spec.specs.declared.Verdict.the-variants.{Passed, Race, Outside, Diverged, Spent}
+use Rattle.spec.specs.declared.Verdict.the-variants.{Passed, Race, GroupRace, Outside, Diverged, Spent}
 use Rattle.spec.specs.Lists.{anyOf, every, equalList}
 use Rattle.spec.specs.Text.{text, decimal, equals}
 use Rattle.spec.specs.Report.{Line, _is_, verdictText, valueText, bytesOf, headWith, headLines, intervalLines, eachLine, endLine, runLines, runReport}
 use Rattle.spec.specs.Report.{refusalLines, refusalReport, reportOf}
-use Rattle.spec.specs.Reading.{linesIn, isLine, hasLine, isFirst, beginsWith, numberIn, numbersAt, EndsOnce, isPassed, hasPassed, installs, Readable}
+use Rattle.spec.specs.Reading.{linesIn, isLine, hasLine, isFirst, beginsWith, numberIn, numbersAt, EndsOnce, hasPassed, installs, Readable}
+use Rattle.spec.specs.Answers.{isPassed}
 use Rattle.readback.proofs.Numbers.{every-append, number-back}
 use Rattle.readback.proofs.Clean.{noNewline}
 use Rattle.readback.proofs.Back.{inKey, keyed, lineText, lines-back, saidBy, numbers-back}
@@ -150,6 +151,7 @@ passed-line : (v : Verdict) → isLine "verdict=passed" (verdictLine v) ≡ isPa
 unfolding isLine equalList verdictLine verdictText isPassed text
 passed-line Passed = refl
 passed-line (Race thread other kind at) = refl
+passed-line (GroupRace thread group kind at) = refl
 passed-line (Outside thread at) = refl
 passed-line (Diverged thread other) = refl
 passed-line Spent = refl
@@ -205,6 +207,7 @@ pub only-passed : (v : Verdict) → isPassed v ≡ true → v ≡ Passed
 unfolding isPassed
 only-passed Passed e = refl
 only-passed (Race thread other kind at) e = absurd (false≢true e)
+only-passed (GroupRace thread group kind at) e = absurd (false≢true e)
 only-passed (Outside thread at) e = absurd (false≢true e)
 only-passed (Diverged thread other) e = absurd (false≢true e)
 only-passed Spent e = absurd (false≢true e)
@@ -217,6 +220,7 @@ spent-line : (v : Verdict) → isLine "verdict=spent" (verdictLine v) ≡ true �
 unfolding isLine equalList verdictLine verdictText text
 spent-line Passed e = absurd (false≢true e)
 spent-line (Race thread other kind at) e = absurd (false≢true e)
+spent-line (GroupRace thread group kind at) e = absurd (false≢true e)
 spent-line (Outside thread at) e = absurd (false≢true e)
 spent-line (Diverged thread other) e = absurd (false≢true e)
 spent-line Spent e = refl

@@ -5,7 +5,6 @@ use mathlib.Core.Bool.{true, false, false≢true}
 use mathlib.Core.List.{List, [], _∷_}
 use mathlib.Core.Option.{some}
 use Prim.Native.Nat.{ℕ}
-use lib.ListN.{length}
 use Rattle.spec.specs.declared.Outcome.{Outcome}
 use Rattle.spec.specs.declared.Refusal.{Refusal}
 use Rattle.spec.specs.declared.Subject.the-variants as subject
@@ -13,11 +12,12 @@ use Rattle.spec.specs.declared.Verdict.the-variants.{Passed, Spent}
 use Rattle.spec.specs.Answers.{refusalNumber, refusalPlace}
 use Rattle.spec.specs.LockStep.{LockResult, outcomeOf}
 use Rattle.spec.specs.Intervals.{conflictsOf}
-use Rattle.spec.specs.AllRuns.{Demand3}
+use Rattle.spec.specs.AllRuns.{countedInAll, Demand3}
 use Rattle.spec.specs.LaunchFile.{Launch, Checked, refused, accepted, fileLaunch}
 use Rattle.spec.specs.Report.{reportOf}
-use Rattle.spec.specs.Reading.{beginsWith, numbersAt, isPassed, hasPassed, Readable}
-use Rattle.spec.specs.Entries.{launchRun, launchIntervals, launchOutcome, launchReport, printed, checkPrints, subjectOf}
+use Rattle.spec.specs.Reading.{beginsWith, numbersAt, hasPassed, Readable}
+use Rattle.spec.specs.Answers.{isPassed}
+use Rattle.spec.specs.Entries.{sizesOf, launchRun, launchIntervals, launchOutcome, launchReport, printed, checkPrints, subjectOf}
 use Rattle.spec.specs.Demands.{RunsEndWell, countedIn, PassedReport, ReportDemand3, FileReadable}
 use Rattle.allruns.proofs.Launches.{launch-demand3}
 use Rattle.readback.proofs.Reports.{readable, begins-passed, begins-spent, spent-begins, only-passed, is-passed}
@@ -41,7 +41,7 @@ module _ (file : List ℕ) (launch : Launch) (e : fileLaunch file ≡ accepted l
   abbrev outcome : Outcome
   outcome = launchOutcome launch
 
-  demand : Demand3 (launch .table) (launch .threads) (launch .cells) (launch .limit) outcome (run .state .steps) (run .state .cells)
+  demand : Demand3 (launch .table) (sizesOf launch) (launch .cells) (launch .limit) outcome (run .state .steps) (run .state .cells)
   demand = launch-demand3 file launch e
 
   has-passed : beginsWith "verdict=passed" (launchReport launch) ≡ true → outcome .verdict ≡ Passed
@@ -77,7 +77,7 @@ module _ (file : List ℕ) (launch : Launch) (e : fileLaunch file ≡ accepted l
   exactly : beginsWith "verdict=spent" (launchReport launch) ≡ false → beginsWith "verdict=passed" (launchReport launch) ≡ true ↔ RunsEndWell launch
   exactly b = let iff = demand .exactly (unspent b) in (λ q. iff .0 (has-passed q), λ r. says-passed (iff .1 r))
 
-  counted : numbersAt "barriers" (launchReport launch) ≡ some (length (countedIn launch)) ∷ []
+  counted : numbersAt "barriers" (launchReport launch) ≡ some (countedInAll (countedIn launch)) ∷ []
   unfolding launchReport
   counted = barriers-read outcome (run .state .steps) (run .state .cells) ∙ ap (λ n. some n ∷ []) (sym (demand .counted))
 
@@ -124,7 +124,7 @@ module _ (file : List ℕ) where
             printed-for (λ r. beginsWith "verdict=spent" r ≡ false → beginsWith "verdict=passed" r ≡ true ↔ RunsEndWell launch) file launch e
             (exactly file launch e);
         counted = λ launch e.
-            printed-for (λ r. numbersAt "barriers" r ≡ some (length (countedIn launch)) ∷ []) file launch e (counted file launch e);
+            printed-for (λ r. numbersAt "barriers" r ≡ some (countedInAll (countedIn launch)) ∷ []) file launch e (counted file launch e);
         spent = λ launch e.
             printed-for (λ r. beginsWith "verdict=spent" r ≡ true → numbersAt "rows" r ≡ some (launch .limit) ∷ []) file launch e (spent file launch e);
       }

@@ -20,7 +20,7 @@ NoLoop op = (x y : ℕ) → ifLoop op x y ≡ y
 pub plain-no-loop : (op : Op) → role op ≡ plain → NoLoop op
 unfolding ifLoop role
 plain-no-loop (CALC c) e x y = refl
-plain-no-loop (MEM m) e x y = refl
+plain-no-loop (MEM p m) e x y = refl
 plain-no-loop IF e x y = refl
 plain-no-loop ELSE e x y = refl
 plain-no-loop ENDIF e x y = refl

@@ -9,7 +9,7 @@ use Rattle.spec.specs.TableCheck.{tableRefusal}
 -- The first number for a WHILE, the second for every other row.
 unfoldable pub ifLoop : Op → ℕ → ℕ → ℕ
 ifLoop (CALC c) x y = y
-ifLoop (MEM m) x y = y
+ifLoop (MEM p m) x y = y
 ifLoop IF x y = y
 ifLoop ELSE x y = y
 ifLoop ENDIF x y = y

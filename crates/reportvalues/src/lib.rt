@@ -25,6 +25,13 @@ fn details(verdict: Verdict, row: u32) -> Details
             kind: Value::Kind(kind),
             at: Value::Number(at),
         },
+        Verdict::GroupRace(thread, _, kind, at) => Details {
+            row: Value::Number(row),
+            thread: Value::Number(thread),
+            other: Value::Hyphen,
+            kind: Value::Kind(kind),
+            at: Value::Number(at),
+        },
         Verdict::Outside(thread, at) => Details {
             row: Value::Number(row),
             thread: Value::Number(thread),

@@ -13,16 +13,17 @@ use Rattle.spec.specs.declared.Verdict.{Verdict}
 use Rattle.spec.specs.declared.Verdict.the-variants.{Passed, Spent}
 use Rattle.spec.specs.declared.Outcome.{Outcome}
 use Rattle.spec.specs.Mask.{Mask, maskWord, members}
-use Rattle.spec.specs.Op.{Op, CALC, MEM, IF, ELSE, ENDIF, WHILE, ENDWHILE, BARRIER, UNKNOWN, opOf}
+use Rattle.spec.specs.Op.{Op, CALC, OWN, MEM, IF, ELSE, ENDIF, WHILE, ENDWHILE, BARRIER, UNKNOWN, opOf}
 use Rattle.spec.specs.Table.{Table, Row, rowsOf, opening, role, rowAt, openBefore, openedBy, innermost, Fits, rowOf}
-use Rattle.spec.specs.Shape.{Shape, shapeOf}
-use Rattle.spec.specs.LockStep.{LockState, Step, continues, stops, topOpener, runRow, LockResult, resultOf, runFrom, initialState, lockstep, outcomeOf}
+use Rattle.spec.specs.Shape.{Shape, oneGroup}
+use Rattle.spec.specs.LockStep.{LockState, Step, continues, stops, topOpener, runRow, LockResult, resultOf, runFrom, initialState, outcomeOf}
 use Rattle.spec.specs.LockStep.{advance, countSteps, endifRow, pop, topMask}
+use Rattle.spec.specs.LaunchRun.{lockstep}
 use Rattle.spec.specs.Steps.{allStepped}
 use Rattle.spec.specs.Banks.{conflictCost}
 use Rattle.spec.specs.Intervals.{Interval, Intervals, usedCells, rowCost, allOf, started, withRow, behind, intervalsAfter, intervalsFrom, recordsOf, intervalRecords}
 use Rattle.spec.specs.Entries.{over}
-use Rattle.spec.specs.Threads.{Group, machine, initialGroup}
+use Rattle.spec.specs.Threads.{Group, machine}
 use Rattle.spec.specs.Runs.{after}
 use Rattle.spec.proofs.StepLaws.{all-stepped-size}
 use Rattle.spec.proofs.Laws.{lt-or-le, row-bytes, rows-length, role-while, top-cons, byte-if, byte-else, byte-endif, byte-while, byte-endwhile, byte-barrier}
@@ -31,7 +32,8 @@ use Rattle.allruns.proofs.Nesting.{isWhile}
 use Rattle.allruns.proofs.Simulation.{Frame}
 use Rattle.allruns.proofs.Rows.{Sim, Framed, fresh, again, savedOf, openersOf, framed-fresh, RowDone}
 use Rattle.allruns.proofs.BarrierRow.{row-done}
-use Rattle.allruns.proofs.LockRun.{start-sim}
+use Rattle.allruns.proofs.LockRun.{firstGroup, start-sim}
+use Rattle.allruns.proofs.OneGroup.{one-lockstep, one-records}
 use Rattle.allruns.proofs.Counts.{Leaves, leaves-row, grown}
 use Rattle.masks.proofs.Words.{word-all}
 use Rattle.layout.specs.declared.State.{State}
@@ -49,13 +51,12 @@ use Rattle.stepcounts.proofs.Tallies.{tally-start, tally-room, tally-row, tally
 use Rattle.banks.specs.Counting.{AllCells, Older}
 use Rattle.banks.specs.Remembering.{Memo}
 use Rattle.banks.proofs.Memory.{memo-start}
-use Rattle.spec.proofs.UsedCells.{used-below}
 use Rattle.intervals.specs.Records.{inUse, begun, ended, released, recordsAfter, costsUpTo, RecordAsks, EndAsks}
 use Rattle.intervals.proofs.Ledger.{Ledger, ledger-start, ledger-asks, ledger-row, ledger-release, ledger-words, ledger-conflicts, ledger-ends}
 use Rattle.step.specs.Recording.{RowRecorded, cellDue}
 use Rattle.step.proofs.Tables.{row-inside, row-here, compute-op, mem-op}
 use Rattle.run.proofs.RowBytes.{row-asks}
-use Rattle.run.proofs.Recording.{intervals-start, intervals-row, intervals-end, intervals-spent, release-free, grown-one, plain-free, used-are, last}
+use Rattle.run.proofs.Recording.{intervals-start, intervals-row, intervals-end, intervals-spent, release-free, grown-one, plain-free, used-are, own-below, last}
 use Rattle.run.proofs.Recording.{all-cells, row-went, row-stopped, behind-none, behind-more, after-none, after-more}
 
 -- Between two rows: the code's state stands for some state of the lock-step run, which is simulated by the threads' machine, and from which the rest of the run
@@ -66,7 +67,7 @@ pub record Going (table : List ℕ) (n limit : ℕ) (cells₀ lent : List ℕ) (
   pub group : Group
   pub sim : Sim (rowsOf table) (shapeBy n cells₀) here frames group
   pub rep : Represents n here s regs cells log saved openers
-  pub same : runFrom (rowsOf table) (shapeBy n cells₀) (limit - s .rows) here ≡ lockstep (rowsOf table) n cells₀ limit
+  pub same : runFrom (rowsOf table) (shapeBy n cells₀) (limit - s .rows) here ≡ lockstep (rowsOf table) (oneGroup n cells₀) cells₀ limit
   pub tally : Tally here s counts
   pub every : length (here .steps) ≡ n
   pub rows-most : s .rows ≤ limit
@@ -74,7 +75,7 @@ pub record Going (table : List ℕ) (n limit : ℕ) (cells₀ lent : List ℕ) (
   pub barriers-few : s .barriers ≤ s .rows
   pub older : Older (s .rows + 1) stamps
   pub remembered : Memo memo
-  pub ledger : Ledger (intervalRecords (rowsOf table) n cells₀ limit) lent (intervalsFrom (rowsOf table) (shapeBy n cells₀) (limit - s .rows) here)
+  pub ledger : Ledger (intervalRecords (rowsOf table) (oneGroup n cells₀) cells₀ limit) lent (intervalsFrom (rowsOf table) (shapeBy n cells₀) (limit - s .rows) here)
       (s .barriers) (s .rows) records
 
 start-regs : (n : ℕ) → n ≤ 32 → Regs n (replicate n (replicate 16 0)) (replicate 512 0)
@@ -90,12 +91,12 @@ start-regs n l =
 go-fresh : (table ends : List ℕ) (n limit m : ℕ) (cells log lent : List ℕ) → Runnable table ends → n ≤ 32 → m ≡ 2 ^ n - 1
     → length log ≡ logPerCell * length cells → recordsLent ≤ length lent → (log′ records : List ℕ) → log′ ≡ replicate (length log) 0 → records ≡ begun 0 0 0 lent
     → Going table n limit cells lent (startState m) (replicate 512 0) cells log′ (replicate 8 0) (replicate 8 0) (replicate 32 0) (replicate 1024 0) (replicate 544 0) records
-unfolding initialState lockstep shapeOf intervalRecords
+unfolding initialState
 go-fresh table ends n limit m cells log lent A l em el eb log′ records ez er =
     record {
-      here = initialState n cells;
+      here = initialState (oneGroup n cells) cells;
       frames = [];
-      group = initialGroup (rowsOf table) (shapeOf n cells) cells;
+      group = firstGroup (rowsOf table) (shapeBy n cells) cells;
       sim = start-sim (rowsOf table) (well-formed (rowsOf table) (A .accepted)) n cells;
       rep = record {
         memory = record {
@@ -115,16 +116,18 @@ go-fresh table ends n limit m cells log lent A l em el eb log′ records ez er =
         barriers-is = refl;
         reach-is = zeros-empty 0 (length cells) (length log) log′ ez;
       };
-      same = ap (λ k. runFrom (rowsOf table) (shapeBy n cells) k (initialState n cells)) (let z : limit - 0 ≡ limit = omega arith in z);
-      tally = tally-start (initialState n cells) _ n refl refl;
+      same = ap (λ k. runFrom (rowsOf table) (shapeBy n cells) k (initialState (oneGroup n cells) cells)) (let z : limit - 0 ≡ limit = omega arith in z)
+          ∙ sym (one-lockstep (rowsOf table) n cells limit);
+      tally = tally-start (initialState (oneGroup n cells) cells) _ n refl refl;
       every = length-replicate {A = ℕ} n 0;
       rows-most = omega arith;
       since-few = omega arith;
       barriers-few = omega arith;
       older = record { size = length-replicate {A = ℕ} 1024 0; below = λ i h. let z = getD-replicate {A = ℕ} 1024 i 0 0 h in omega arith };
       remembered = memo-start;
-      ledger = ledger-start _ lent _ records eb er (intervals-start (rowsOf table) (shapeBy n cells) (limit - 0) (initialState n cells))
-          (ap (λ k. recordsOf 1024 (allOf (intervalsFrom (rowsOf table) (shapeBy n cells) k (initialState n cells)))) (let z : limit ≡ limit - 0 = omega arith in z));
+      ledger = ledger-start _ lent _ records eb er (intervals-start (rowsOf table) (shapeBy n cells) (limit - 0) (initialState (oneGroup n cells) cells))
+          (one-records (rowsOf table) n cells limit
+          ∙ ap (λ k. recordsOf 1024 (allOf (intervalsFrom (rowsOf table) (shapeBy n cells) k (initialState (oneGroup n cells) cells)))) (let z : limit ≡ limit - 0 = omega arith in z));
     }
 
 pub go-start : (table ends : List ℕ) (n limit : ℕ) (cells log lent : List ℕ) (s : State) → Runnable table ends → n ≤ 32 → s ≡ startState (2 ^ n - 1)
@@ -289,7 +292,7 @@ module _ (n k d a b : ℕ) (asks : RowAsks k d a b) (T : Table) (L : Shape) (x :
 
       by : (k < 16) ⊎ (16 ≤ k) → (k < 32) ⊎ (32 ≤ k) → Who (opOf k)
       by (inl h) q = let c = compute-op k (asks .computes h .known) (asks .computes h .small) in plain (CALC (c .0)) (c .1) (omega arith) refl
-      by (inr h) (inl l) = let m = mem-op k h (asks .accesses h l .0) in plain (MEM (m .0)) (m .1) l refl
+      by (inr h) (inl l) = let m = mem-op k h (asks .accesses h l .0) in plain (MEM OWN (m .0)) (m .1) l refl
       by (inr h) (inr l) = construct l
 
 module _ (table ends : List ℕ) (n limit : ℕ) (cells₀ lent : List ℕ) (s : State) (regs cells log saved openers counts stamps memo records : List ℕ)
@@ -316,7 +319,7 @@ module _ (table ends : List ℕ) (n limit : ℕ) (cells₀ lent : List ℕ) (s :
 
   -- the records of the whole run, and the intervals from here on
   abbrev whole : List Interval
-  whole = intervalRecords T n cells₀ limit
+  whole = intervalRecords T (oneGroup n cells₀) cells₀ limit
 
   abbrev rest : Intervals
   rest = intervalsFrom T L (limit - s .rows) (G .here)
@@ -325,11 +328,11 @@ module _ (table ends : List ℕ) (n limit : ℕ) (cells₀ lent : List ℕ) (s :
   abbrev Ends : Verdict → Type 0
   Ends v = (r : Outcome) (records′ counts′ : List ℕ) → r ≡ endedAs v s (costsUpTo (inUse (s .barriers) + 1) records′)
       → records′ ≡ ended (inUse (s .barriers)) (s .rows) records → Added (s .mask) (s .since) counts counts′
-      → RunIs (lockstep T n cells₀ limit) whole lent r cells log records′ counts′
+      → RunIs (lockstep T (oneGroup n cells₀) cells₀ limit) whole lent r cells log records′ counts′
 
-  go-end : (v : Verdict) → record { verdict = v; state = G .here } ≡ lockstep T n cells₀ limit → rest ≡ started (G .here .row) → Ends v
+  go-end : (v : Verdict) → record { verdict = v; state = G .here } ≡ lockstep T (oneGroup n cells₀) cells₀ limit → rest ≡ started (G .here .row) → Ends v
   go-end v eo er r records′ counts′ e w C =
-      ran-is n (lockstep T n cells₀ limit) whole lent rest v (G .here) s regs cells log saved openers records eo (G .rep) (G .ledger) (G .here .row) er r counts′ records′ e w
+      ran-is n (lockstep T (oneGroup n cells₀) cells₀ limit) whole lent rest v (G .here) s regs cells log saved openers records eo (G .rep) (G .ledger) (G .here .row) er r counts′ records′ e w
       (tally-end (G .here) s counts (G .tally) counts′ C threads-few)
 
   at-end : length table / 4 ≤ s .row → length T ≤ G .here .row
@@ -448,7 +451,7 @@ module _ (table ends : List ℕ) (n limit : ℕ) (cells₀ lent : List ℕ) (s :
     left : limit - s .rows ≡ suc (limit - (s .rows + 1))
     left = omega (arith, G .rows-most)
 
-    came : resultOf done (runFrom T L (limit - (s .rows + 1))) ≡ lockstep T n cells₀ limit
+    came : resultOf done (runFrom T L (limit - (s .rows + 1))) ≡ lockstep T (oneGroup n cells₀) cells₀ limit
     came = sym (ap (λ j. runFrom T L j (G .here)) left ∙ run-row T L (limit - (s .rows + 1)) (G .here) (at-row inside)) ∙ G .same
 
     sims : RowDone T L (G .here) (G .group) done
@@ -470,7 +473,7 @@ module _ (table ends : List ℕ) (n limit : ℕ) (cells₀ lent : List ℕ) (s :
         (K : RowRecorded (getD table (s .row * 4) 0) n (cellDue table s regs) s r records records′ stamps′ memo′) where
       stepped : After n done r regs′ cells′ log′ saved′ openers′
       stepped =
-          subst (λ k. After n (runRow T (record { threads = n; cells = k }) (rowAt T (G .here .row)) (G .here) (rowAt T (G .here .row) .op)) r regs′
+          subst (λ k. After n (runRow T (record { threads = n; cells = k; groups = 1; global = 0; group = 0 }) (rowAt T (G .here .row)) (G .here) (rowAt T (G .here .row) .op)) r regs′
           cells′ log′ saved′ openers′) len
           (S .done (G .here) (G .rep))
 
@@ -512,7 +515,7 @@ module _ (table ends : List ℕ) (n limit : ℕ) (cells₀ lent : List ℕ) (s :
               (ap (λ y. y .d) x) (ap (λ y. y .a) x) (m .0) (m .1) in
               let went = sym (ap (runRow T L (rowAt T (G .here .row)) (G .here)) (row-byte ∙ m .1)) ∙ d in
               K .access h l s′ e (G .here .enabled) (G .rep .enabled-is) (G .rep .enabled-size)
-              (subst AllCells used (all-cells (length cells₀) few-cells (usedCells (m .0) (rowAt T (G .here .row)) (G .here)) (used-below T L (rowAt T (G .here .row)) (G .here) z (m .0) went)))
+              (subst AllCells used (all-cells (length cells₀) few-cells (usedCells (m .0) (rowAt T (G .here .row)) (G .here)) (own-below T L (rowAt T (G .here .row)) (G .here) z (m .0) went)))
               ∙ ap conflictCost (sym used)
               ∙ sym (ap (rowCost (rowAt T (G .here .row)) (G .here)) (m .1) ∙ (unfold rowCost in refl))
 
@@ -576,7 +579,7 @@ module _ (table ends : List ℕ) (n limit : ℕ) (cells₀ lent : List ℕ) (s :
           one = subst (Counts s) e (S .counts)
 
           by : (o : Step) → done ≡ o → After n o r regs′ cells′ log′ saved′ openers′ → RowDone T L (G .here) (G .group) o
-              → resultOf o (runFrom T L (limit - (s .rows + 1))) ≡ lockstep T n cells₀ limit
+              → resultOf o (runFrom T L (limit - (s .rows + 1))) ≡ lockstep T (oneGroup n cells₀) cells₀ limit
               → Going table n limit cells₀ lent s′ regs′ cells′ log′ saved′ openers′ counts′ stamps′ memo′ records′
           by (stops v z) d (u, f, R) W q = let y : _≡_ {A = ℕ} 0 1 = cc in absurd (omega arith)
           by (continues z) d (u, f, R) W q =
@@ -667,17 +670,17 @@ module _ (table ends : List ℕ) (n limit : ℕ) (cells₀ lent : List ℕ) (s :
 
           go-stop : (q : Outcome) (counts₂ records₂ : List ℕ) → q ≡ endedAs v s′ (costsUpTo (inUse (s′ .barriers) + 1) records₂)
               → records₂ ≡ ended (inUse (s′ .barriers)) (s′ .rows) records′ → Added (s′ .mask) (s′ .since) counts₁ counts₂
-              → RunIs (lockstep T n cells₀ limit) whole lent q cells′ log′ records₂ counts₂
+              → RunIs (lockstep T (oneGroup n cells₀) cells₀ limit) whole lent q cells′ log′ records₂ counts₂
           go-stop q counts₂ records₂ eq er D =
               let z = stopped .0 in
-              let c : record { verdict = v; state = z } ≡ lockstep T n cells₀ limit =
+              let c : record { verdict = v; state = z } ≡ lockstep T (oneGroup n cells₀) cells₀ limit =
               (unfold resultOf in (sym (ap (λ o. resultOf o (runFrom T L (limit - (s .rows + 1)))) (stopped .1)) ∙ came)) in
-              ran-is n (lockstep T n cells₀ limit) whole lent rest v z s′ regs′ cells′ log′ saved′ openers′ records′ c (stopped .2) ledger-stop (G .here .row) stopped-rest
+              ran-is n (lockstep T (oneGroup n cells₀) cells₀ limit) whole lent rest v z s′ regs′ cells′ log′ saved′ openers′ records′ c (stopped .2) ledger-stop (G .here .row) stopped-rest
               q counts₂ records₂ eq er
               (tally-stop (G .here) s counts (G .tally) (G .rep .enabled-is) enabled-few threads-few v z acted counts₁ counts₂ before
               (subst₂ (λ m k. Added m k counts₁ counts₂) (left-uncounted .0) (left-uncounted .1) D))
 
-        pub go-stops : limit ≤ 1000000 → recordsLent ≤ length records′ → Stops (lockstep T n cells₀ limit) whole lent v s′ cells′ log′ counts′ records′
+        pub go-stops : limit ≤ 1000000 → recordsLent ≤ length records′ → Stops (lockstep T (oneGroup n cells₀) cells₀ limit) whole lent v s′ cells′ log′ counts′ records′
         go-stops l h =
             record {
               row = go-stop-row;

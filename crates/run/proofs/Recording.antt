@@ -12,14 +12,15 @@ use lib.ListN.{length, getD}
 use Rattle.spec.specs.declared.Verdict.{Verdict}
 use Rattle.spec.specs.declared.Outcome.{Outcome}
 use Rattle.spec.specs.Mask.{Mask, members, membersFrom}
-use Rattle.spec.specs.Op.{Op, CALC, Mem, MEM, IF, ELSE, ENDIF, WHILE, ENDWHILE, BARRIER, UNKNOWN, opOf}
+use Rattle.spec.specs.Op.{Op, CALC, OWN, Mem, MEM, IF, ELSE, ENDIF, WHILE, ENDWHILE, BARRIER, UNKNOWN, opOf}
 use Rattle.spec.specs.Table.{Table, Row, rowAt, cellByte}
-use Rattle.spec.specs.Shape.{Shape}
+use Rattle.spec.specs.Shape.{Shape, oneGroup, bound}
 use Rattle.spec.specs.LockStep.{LockState, LockResult, Step, continues, stops, reg, runRow}
 use Rattle.spec.specs.Intervals.{Intervals, usedCells, rowCost, allOf, started, withRow, behind, intervalsAfter, intervalsFrom, recordsOf, intervalRecords, recordWords}
 use Rattle.spec.proofs.Laws.{map-members, byte-if, byte-else, byte-endif, byte-while, byte-endwhile, byte-barrier}
-use Rattle.spec.proofs.UsedCells.{Below}
+use Rattle.spec.proofs.UsedCells.{Below, used-below}
 use Rattle.banks.specs.Counting.{AllCells}
+use Rattle.allruns.proofs.OneGroup.{one-records}
 use Rattle.allruns.proofs.Counts.{passes, passedAt, grown}
 use Rattle.accesslog.proofs.LogTests.{mem-load, mem-store, mem-add, which}
 use Rattle.layout.specs.Memory.{Memory, cellIn}
@@ -73,7 +74,7 @@ row-stopped k s z v f = refl
 pub release-free : (x : Row) (s : LockState) (o : Op) → s .barriers < grown s o → rowCost x s o ≡ 0
 unfolding rowCost grown passedAt passes
 release-free x s (CALC c) h = refl
-release-free x s (MEM m) h = absurd (omega arith)
+release-free x s (MEM p m) h = absurd (omega arith)
 release-free x s IF h = refl
 release-free x s ELSE h = refl
 release-free x s ENDIF h = refl
@@ -118,8 +119,13 @@ all-cells k h [] b = tt
 all-cells k h (c ∷ cs) b = (let l = b .0 in omega arith, all-cells k h cs (b .1))
 
 -- The cells that a row of accesses uses, by its bytes and the registers.
+-- The numbers that a finished row of own accesses used are below the count of own cells.
+pub own-below : (T : Table) (L : Shape) (x : Row) (s z : LockState) (m : Mem) → runRow T L x s (MEM OWN m) ≡ continues z → Below (L .cells) (usedCells m x s)
+unfolding bound
+own-below T L x s z m e = used-below T L x s z OWN m e
+
 pub used-are : (n : ℕ) (s : LockState) (regs cells log : List ℕ) → Memory n s regs cells log → length (s .enabled) ≡ n → (x : Row) (k d a : ℕ)
-    → 16 ≤ k → k ≤ 18 → d < 16 → a < 16 → x .d ≡ d → x .a ≡ a → (m : Mem) → opOf k ≡ MEM m
+    → 16 ≤ k → k ≤ 18 → d < 16 → a < 16 → x .d ≡ d → x .a ≡ a → (m : Mem) → opOf k ≡ MEM OWN m
     → usedCells m x s ≡ map (cellIn k d a regs) (members (s .enabled))
 unfolding usedCells members reg cellIn
 used-are n s regs cells log M size x k d a low high hd ha ed ea m o = map-members _ _ 0 (s .enabled) (λ t l h. each t h)
@@ -158,15 +164,15 @@ unfolding recordsAfter
 after-more cost s r records h = rw (lt-ltb (s .barriers) (r .barriers) h) refl
 
 -- There is a record, so the words of the first one, with which the run began, are written over.
-some-words : (T : Table) (n : ℕ) (cells : List ℕ) (limit : ℕ) → 3 ≤ length (recordWords (intervalRecords T n cells limit))
-unfolding intervalRecords recordsOf allOf recordWords
-some-words T n cells limit = omega arith
+some-words : (T : Table) (n : ℕ) (cells : List ℕ) (limit : ℕ) → 3 ≤ length (recordWords (intervalRecords T (oneGroup n cells) cells limit))
+unfolding recordsOf allOf recordWords
+some-words T n cells limit = rw (one-records T n cells limit) (omega arith)
 
 pub ran-lent : (o : LockResult) (T : Table) (n : ℕ) (cells₀ : List ℕ) (limit : ℕ) (lent begun-with : List ℕ) (r : Outcome) (cells log records counts : List ℕ)
-    → begun-with ≡ begun 0 0 0 lent → RunIs o (intervalRecords T n cells₀ limit) begun-with r cells log records counts
-    → RunIs o (intervalRecords T n cells₀ limit) lent r cells log records counts
+    → begun-with ≡ begun 0 0 0 lent → RunIs o (intervalRecords T (oneGroup n cells₀) cells₀ limit) begun-with r cells log records counts
+    → RunIs o (intervalRecords T (oneGroup n cells₀) cells₀ limit) lent r cells log records counts
 ran-lent o T n cells₀ limit lent begun-with r cells log records counts e R =
-    let w = recordWords (intervalRecords T n cells₀ limit) in
+    let w = recordWords (intervalRecords T (oneGroup n cells₀) cells₀ limit) in
     record {
       outcome-is = R .outcome-is;
       cells-are = R .cells-are;

@@ -4,7 +4,8 @@ ghost use Prim.Native.Nat.{_+_, _-_, _*_, _^_, _≤_};
 ghost use lib.ListN.{length};
 ghost use Rattle.spec.specs.Limits.{logPerCell, recordsLent};
 ghost use Rattle.spec.specs.Table.{rowsOf};
-ghost use Rattle.spec.specs.LockStep.{lockstep};
+ghost use Rattle.spec.specs.Shape.{oneGroup};
+ghost use Rattle.spec.specs.LaunchRun.{lockstep};
 ghost use Rattle.layout.specs.Running.{Runnable, RunIs, startState, endedAs};
 ghost use Rattle.layout.specs.Counting.{Roomy, Added};
 ghost use Rattle.spec.specs.Intervals.{intervalRecords};
@@ -62,8 +63,8 @@ pub fn run(
 ) -> spec::Outcome
     requires { ⌜ Runnable (now table) (now ends) × (1 ≤ n) × (n ≤ 32) × (limit ≤ 1000000)
         × (length (now log) ≡ logPerCell * length (now cells)) × (length (now cells) ≤ 1024) × (recordsLent ≤ length (now records)) ⌝ }
-    ensures { λ r. ⌜ RunIs (lockstep (rowsOf (now (table .entry))) n (now (cells .entry)) limit)
-        (intervalRecords (rowsOf (now (table .entry))) n (now (cells .entry)) limit) (now (records .entry)) r
+    ensures { λ r. ⌜ RunIs (lockstep (rowsOf (now (table .entry))) (oneGroup n (now (cells .entry))) (now (cells .entry)) limit)
+        (intervalRecords (rowsOf (now (table .entry))) (oneGroup n (now (cells .entry))) (now (cells .entry)) limit) (now (records .entry)) r
         (now (cells .exit)) (now (log .exit)) (now (records .exit)) (now (counts .exit)) ⌝ }
 {
     let count = table.len() / 4;

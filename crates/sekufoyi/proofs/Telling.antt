@@ -10,6 +10,7 @@ use Rattle.spec.specs.declared.Answer.{Answer}
 use Rattle.spec.specs.declared.Answer.the-variants.{Refused, Ran}
 use Rattle.refusals.specs.Words.{refusalWords}
 use Rattle.spec.specs.Table.{rowsOf}
+use Rattle.spec.specs.Shape.{oneGroup}
 use Rattle.spec.specs.Demands.{BareDemand3}
 use Rattle.answerwords.specs.Codes.{wordCount, outcomeWords, ranIn, outcomeIn, whyIn, RanDemand3}
 use Rattle.answerwords.proofs.Back.{words-demand}
@@ -21,7 +22,7 @@ refusal-runs table threads limit cells outcome left counts e = absurd (false≢t
 pub run-runs : (table : List ℕ) (threads limit : ℕ) (cells left counts : List ℕ) (told : Answer) (o : Outcome) (ws : List ℕ) → told ≡ Ran o
     → ws ≡ outcomeWords o → BareDemand3 table threads limit cells told left counts → RanDemand3 table threads limit cells true ws left counts
 run-runs table threads limit cells left counts told o ws q w d e =
-    rw w (words-demand (rowsOf table) threads cells limit o (take threads counts) left (subst (λ a. BareDemand3 table threads limit cells a left counts) q d))
+    rw w (words-demand (rowsOf table) (oneGroup threads cells) cells limit o (take threads counts) left (subst (λ a. BareDemand3 table threads limit cells a left counts) q d))
 
 module _ (answer told : Answer) (e : told ≡ answer) where
   pub refusal-told : (why : Refusal) (ws : List ℕ) → told ≡ Refused why → ws ≡ refusalWords why

@@ -4,7 +4,7 @@ use mathlib.Core.List.{List, [], _∷_, map}
 use mathlib.Core.Bool.{Bool, true, false}
 use Prim.Native.Nat.{ℕ}
 use lib.ListN.{replicate}
-use Rattle.spec.specs.Access.{Kind, load, store, atomicAdd, conflict}
+use Rattle.spec.specs.Access.{Kind, load, store, atomicAdd, conflict, groupConflict}
 use Rattle.spec.specs.Log.{Log, emptyLog, logged, conflictMask}
 use Rattle.spec.specs.Mask.{any}
 use Rattle.spec.specs.Threads.{AccessRecord, emptyRecord, recorded, races}
@@ -56,6 +56,17 @@ truth =
 pub by-rule : map (λ p. conflict (record { cell = p .cell; kind = p .later }) (record { cell = 3; kind = p .earlier })) pairs ≡ truth
 unfolding computing pairs truth
 by-rule = refl
+
+-- Between groups the same, but that stores of one value conflict as well: the fourth, the seventeenth and the twenty-first pair.
+unfoldable pub groupTruth : List Bool
+groupTruth =
+    false ∷ true ∷ true ∷ true ∷ true ∷ false
+    ∷ true ∷ true ∷ true ∷ true ∷ false ∷ false ∷ true ∷ true ∷ false ∷ false
+    ∷ true ∷ true ∷ true ∷ true ∷ true ∷ true ∷ true ∷ false ∷ []
+
+pub by-group-rule : map (λ p. groupConflict (record { cell = p .cell; kind = p .later }) (record { cell = 3; kind = p .earlier })) pairs ≡ groupTruth
+unfolding computing pairs groupTruth
+by-group-rule = refl
 
 -- The threads' machine: thread 0's access is recorded, and thread t makes the later one.
 unfoldable pub recordTest : ℕ → Pair → Bool

@@ -8,11 +8,13 @@ use lib.ListN.{getD, replicate}
 use Rattle.spec.specs.Answers.{Passed, Outcome}
 use Rattle.spec.specs.declared.Answer.the-variants as answer
 use Rattle.spec.specs.Table.{Table, rowOf}
-use Rattle.spec.specs.Threads.{Move, row, release}
+use Rattle.spec.specs.Shape.{Sizes, oneGroup}
+use Rattle.spec.specs.LaunchThreads.{Move}
 use Rattle.spec.specs.AllRuns.{CompleteRun, PassedSays, Demand3}
 use Rattle.spec.specs.LaunchFile.{Launch}
 use Rattle.spec.specs.Examples.{lines}
 use Rattle.spec.specs.Demands.{BareDemand3, PassedReport}
+use Rattle.spec.proofs.MachineRuns.{row, release}
 use Rattle.spec.proofs.Computing.{computing}
 
 -- Two threads, TID, BARRIER, and an IF that thread 1 goes into: 3 and 4 moves, and a release.
@@ -22,22 +24,25 @@ lopsided = rowOf 2 0 0 0 ∷ rowOf 37 0 0 0 ∷ rowOf 32 0 0 0 ∷ rowOf 1 1 5 0
 unfoldable pub itsMoves : List Move
 itsMoves = row 1 ∷ row 0 ∷ release ∷ row 1 ∷ row 0 ∷ row 1 ∷ row 0 ∷ row 1 ∷ []
 
-pub comes-to-its-end : CompleteRun lopsided 2 (9 ∷ []) itsMoves
+abbrev pub itsSizes : Sizes
+itsSizes = oneGroup 2 (9 ∷ [])
+
+pub comes-to-its-end : CompleteRun lopsided itsSizes (9 ∷ []) itsMoves
 unfolding computing lopsided itsMoves
 comes-to-its-end = ((refl, (refl, (refl, (refl, (refl, (refl, (refl, (refl, tt)))))))), refl)
 
 -- What 'passed' would say with other counts is not so: the two threads' counts interchanged, one too many of thread 1, one count for both, a count of
 -- a third thread, two barriers.
 abbrev pub Says : (steps : List ℕ) → (barriers : ℕ) → Type 0
-Says steps barriers = PassedSays lopsided 2 (9 ∷ []) steps barriers (9 ∷ []) ((9 ∷ []) ∷ [])
+Says steps barriers = PassedSays lopsided itsSizes (9 ∷ []) steps barriers (9 ∷ []) (((9 ∷ []) ∷ []) ∷ [])
 
 pub not-interchanged : Says (4 ∷ 3 ∷ []) 1 → ⊥
 unfolding computing itsMoves
-not-interchanged s = let wrong : _≡_ {A = ℕ} 3 4 = s .each 0 (omega arith) itsMoves comes-to-its-end in omega (arith, wrong)
+not-interchanged s = let wrong : _≡_ {A = ℕ} 3 4 = s .each 0 0 (omega arith) (omega arith) itsMoves comes-to-its-end in omega (arith, wrong)
 
 pub not-one-too-many : Says (3 ∷ 5 ∷ []) 1 → ⊥
 unfolding computing itsMoves
-not-one-too-many s = let wrong : _≡_ {A = ℕ} 4 5 = s .each 1 (omega arith) itsMoves comes-to-its-end in omega (arith, wrong)
+not-one-too-many s = let wrong : _≡_ {A = ℕ} 4 5 = s .each 0 1 (omega arith) (omega arith) itsMoves comes-to-its-end in omega (arith, wrong)
 
 pub not-for-both : Says (7 ∷ []) 1 → ⊥
 not-for-both s = let wrong : _≡_ {A = ℕ} 1 2 = s .every in omega (arith, wrong)
@@ -57,14 +62,14 @@ abbrev pub itsOutcome : Outcome
 itsOutcome = record { verdict = Passed; row = 5; rows = 5; barriers = 1; conflicts = 0 }
 
 pub counts-taken : BareDemand3 itsBytes 2 100 (9 ∷ []) (answer.Ran itsOutcome) (9 ∷ []) (3 ∷ 4 ∷ replicate 30 0)
-    → Demand3 lopsided 2 (9 ∷ []) 100 itsOutcome (3 ∷ 4 ∷ []) (9 ∷ [])
+    → Demand3 lopsided itsSizes (9 ∷ []) 100 itsOutcome (3 ∷ 4 ∷ []) (9 ∷ [])
 unfolding computing lopsided itsBytes
 counts-taken d = d
 
 -- Its `passed` speaks of them.
-pub not-interchanged-in-hand : Demand3 lopsided 2 (9 ∷ []) 100 itsOutcome (4 ∷ 3 ∷ []) (9 ∷ []) → ⊥
+pub not-interchanged-in-hand : Demand3 lopsided itsSizes (9 ∷ []) 100 itsOutcome (4 ∷ 3 ∷ []) (9 ∷ []) → ⊥
 unfolding computing itsMoves
-not-interchanged-in-hand d = let wrong : _≡_ {A = ℕ} 3 4 = d .passed refl .each 0 (omega arith) itsMoves comes-to-its-end in omega (arith, wrong)
+not-interchanged-in-hand d = let wrong : _≡_ {A = ℕ} 3 4 = d .passed refl .each 0 0 (omega arith) (omega arith) itsMoves comes-to-its-end in omega (arith, wrong)
 
 -- In a report they are the `steps=` lines, in their order.
 unfoldable pub itsLaunch : Launch
@@ -78,7 +83,7 @@ firstNumber (some n ∷ ns) = n
 pub not-interchanged-in-lines :
     PassedReport itsLaunch (lines "verdict=passed/row=-/thread=-/other=-/kind=-/at=-/rows=5/steps=4/steps=3/barriers=1/conflicts=0/cell=9/end=report") → ⊥
 unfolding computing itsMoves itsLaunch firstNumber
-not-interchanged-in-lines r = by (r .steps) (ap firstNumber (r .stepsLines)) (r .says .each 0 (omega arith) itsMoves comes-to-its-end)
+not-interchanged-in-lines r = by (r .steps) (ap firstNumber (r .stepsLines)) (r .says .each 0 0 (omega arith) (omega arith) itsMoves comes-to-its-end)
   where
     by : (steps : List ℕ) → 4 ≡ firstNumber (map some steps) → 3 ≡ getD steps 0 0 → ⊥
     by [] e wrong = omega (arith, wrong)

@@ -5,7 +5,7 @@ use mathlib.Core.Bool.{true, false}
 use Prim.Native.Nat.{ℕ, zero, suc, _+_, _-_, _≤_, min}
 use native.Mathlib.Omega.{arith}
 use lib.ListN.{length, length-map}
-use Rattle.spec.specs.Op.{Op, CALC, MEM, IF, ELSE, ENDIF, WHILE, ENDWHILE, BARRIER, UNKNOWN}
+use Rattle.spec.specs.Op.{Op, CALC, OWN, GLOBAL, MEM, IF, ELSE, ENDIF, WHILE, ENDWHILE, BARRIER, UNKNOWN}
 use Rattle.spec.specs.Table.{Row}
 use Rattle.spec.specs.Mask.{Mask, members, membersFrom}
 use Rattle.spec.specs.Steps.{sum}
@@ -50,9 +50,10 @@ members-size k (true ∷ m) = omega (arith, members-size (suc k) m)
 pub row-cost : (x : Row) (s : LockState) (o : Op) → rowCost x s o ≤ length (s .enabled) - 1
 unfolding rowCost usedCells members
 row-cost x s (CALC c) = omega arith
-row-cost x s (MEM m) =
+row-cost x s (MEM OWN m) =
     let h : length (usedCells m x s) ≤ length (s .enabled) = simp length-map (members-size 0 (s .enabled)) in
     omega (arith, cost-bound (usedCells m x s))
+row-cost x s (MEM GLOBAL m) = omega arith
 row-cost x s IF = omega arith
 row-cost x s ELSE = omega arith
 row-cost x s ENDIF = omega arith

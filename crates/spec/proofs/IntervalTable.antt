@@ -7,10 +7,12 @@ use lib.ListN.{length, take, drop, replicate}
 use Rattle.spec.specs.Answers.{Answer, Passed, Race, WriteWrite, Outside, Diverged, Spent, LogLength, RecordsLength}
 use Rattle.spec.specs.declared.Answer.the-variants as answer
 use Rattle.spec.specs.declared.Subject.the-variants as subject
-use Rattle.spec.specs.Op.{LOAD, STORE, ATOMICADD, opOf}
+use Rattle.spec.specs.Op.{GLOBAL, MEM, LOAD, STORE, ATOMICADD, opOf}
 use Rattle.spec.specs.Table.{Table, rowOf}
 use Rattle.spec.specs.Mask.{Mask}
+use Rattle.spec.specs.Shape.{oneGroup}
 use Rattle.spec.specs.Log.{emptyLog}
+use Rattle.spec.specs.GroupLog.{emptyGroupLog}
 use Rattle.spec.specs.LockStep.{LockState}
 use Rattle.spec.specs.Banks.{different, inBank, mostInBank, conflictCost}
 use Rattle.spec.specs.Intervals.{Interval, usedCells, rowCost, together, recordsOf, intervalRecords, recordWords, conflictsOf}
@@ -73,6 +75,7 @@ fourThreads m =
       regs = (9 ∷ 0 ∷ 0 ∷ 5 ∷ []) ∷ (9 ∷ 16 ∷ 1 ∷ 5 ∷ []) ∷ (9 ∷ 32 ∷ 2 ∷ 21 ∷ []) ∷ (9 ∷ 48 ∷ 3 ∷ 37 ∷ []) ∷ [];
       cells = replicate 64 7;
       log = emptyLog 4 64;
+      groupLog = emptyGroupLog 1 64;
       rows = 3;
       steps = replicate 4 3;
       barriers = 0;
@@ -94,6 +97,11 @@ row-costs = refl
 pub costing-ops : map (λ op. rowCost (rowOf op 1 1 1) (fourThreads (replicate 4 true)) (opOf op)) (bytesFrom 0 256) ≡ replicate 16 0 ++ (3 ∷ 3 ∷ 3 ∷ replicate 237 0)
 unfolding computing bytesFrom fourThreads
 costing-ops = refl
+
+-- Nor do global cells cost, however they are accessed.
+pub global-costs : map (λ m. rowCost (rowOf 0 1 1 0) (fourThreads (replicate 4 true)) (MEM GLOBAL m)) (LOAD ∷ STORE ∷ ATOMICADD ∷ []) ≡ 0 ∷ 0 ∷ 0 ∷ []
+unfolding computing fourThreads
+global-costs = refl
 
 -- Only enabled threads: all but thread 1, threads 2 and 3, thread 0, nobody.
 pub enabled-costs : map (λ m. rowCost (rowOf 17 1 2 0) (fourThreads m) (opOf 17))
@@ -118,7 +126,7 @@ threeApart =
     ∷ rowOf 16 3 2 0
     ∷ []
 
-pub record-by-record : map (λ k. recordWords (intervalRecords threeApart 3 (replicate 33 7) k)) (bytesFrom 0 13) ≡
+pub record-by-record : map (λ k. recordWords (intervalRecords threeApart (oneGroup 3 (replicate 33 7)) (replicate 33 7) k)) (bytesFrom 0 13) ≡
     (0 ∷ 0 ∷ 0 ∷ [])
     ∷ (0 ∷ 1 ∷ 0 ∷ [])
     ∷ (0 ∷ 2 ∷ 0 ∷ [])

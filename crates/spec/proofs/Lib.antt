@@ -17,8 +17,10 @@ pub mod LogTable
 pub mod Worked
 pub mod IntervalTable
 pub mod LockStepTable
+pub mod GroupTable
 pub mod MachineRuns
 pub mod ThreadMoves
+pub mod GroupMoves
 pub mod DemandTable
 pub mod TextTable
 pub mod FileTable

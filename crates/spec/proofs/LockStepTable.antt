@@ -6,7 +6,9 @@ use lib.ListN.{take}
 use Rattle.spec.specs.Table.{Table, rowOf}
 use Rattle.spec.specs.Mask.{maskWord}
 use Rattle.spec.specs.Steps.{stepped, allStepped, sum}
-use Rattle.spec.specs.LockStep.{Saved, LockState, lockstep, countedBarriers}
+use Rattle.spec.specs.Shape.{oneGroup}
+use Rattle.spec.specs.LockStep.{Saved, LockState}
+use Rattle.spec.specs.LaunchRun.{lockstep, countedBarriers}
 use Rattle.spec.proofs.OpTable.{bytesFrom}
 use Rattle.spec.proofs.Computing.{computing}
 
@@ -66,7 +68,7 @@ unfoldable pub numbersOf : LockState → List ℕ
 numbersOf s = s .row ∷ maskWord (s .enabled) ∷ s .rows ∷ (s .steps ++ (s .barriers ∷ savedNumbers (s .saved)))
 
 -- Three threads. The state after no row, one row, two rows and so on to the end.
-pub row-by-row : map (λ k. numbersOf (lockstep winding 3 (7 ∷ 7 ∷ 7 ∷ []) k .state)) (bytesFrom 0 29) ≡
+pub row-by-row : map (λ k. numbersOf (lockstep winding (oneGroup 3 (7 ∷ 7 ∷ 7 ∷ [])) (7 ∷ 7 ∷ 7 ∷ []) k .state)) (bytesFrom 0 29) ≡
     (0 ∷ 7 ∷ 0 ∷ 0 ∷ 0 ∷ 0 ∷ 0 ∷ [])
     ∷ (1 ∷ 7 ∷ 1 ∷ 1 ∷ 1 ∷ 1 ∷ 0 ∷ [])
     ∷ (2 ∷ 7 ∷ 2 ∷ 2 ∷ 2 ∷ 2 ∷ 0 ∷ [])
@@ -101,7 +103,7 @@ unfolding computing bytesFrom winding savedNumbers numbersOf
 row-by-row = refl
 
 -- Each thread's registers 0 to 3 at the end.
-pub registers-at-the-end : map (take 4) (lockstep winding 3 (7 ∷ 7 ∷ 7 ∷ []) 100 .state .regs) ≡
+pub registers-at-the-end : map (take 4) (lockstep winding (oneGroup 3 (7 ∷ 7 ∷ 7 ∷ [])) (7 ∷ 7 ∷ 7 ∷ []) 100 .state .regs) ≡
     (0 ∷ 1 ∷ 0 ∷ 0 ∷ []) ∷ (0 ∷ 1 ∷ 0 ∷ 1 ∷ []) ∷ (0 ∷ 1 ∷ 0 ∷ 2 ∷ []) ∷ []
 unfolding computing winding
 registers-at-the-end = refl
@@ -121,18 +123,19 @@ circling =
     ∷ rowOf 37 0 0 0
     ∷ []
 
--- The cells just before each counted barrier: of all three, of those within a limit, of none where the limit comes before the first.
-pub cells-at-barriers : map (countedBarriers circling 2 (9 ∷ 9 ∷ [])) (100 ∷ 13 ∷ 7 ∷ 6 ∷ 0 ∷ []) ≡
-    ((2 ∷ 3 ∷ []) ∷ (1 ∷ 2 ∷ []) ∷ (1 ∷ 2 ∷ []) ∷ []) ∷ ((2 ∷ 3 ∷ []) ∷ (1 ∷ 2 ∷ []) ∷ []) ∷ ((2 ∷ 3 ∷ []) ∷ []) ∷ [] ∷ [] ∷ []
+-- The cells of the one group just before each counted barrier: of all three, of those within a limit, of none where the limit comes before the first.
+pub cells-at-barriers : map (countedBarriers circling (oneGroup 2 (9 ∷ 9 ∷ [])) (9 ∷ 9 ∷ [])) (100 ∷ 13 ∷ 7 ∷ 6 ∷ 0 ∷ []) ≡
+    map (λ bs. bs ∷ [])
+    (((2 ∷ 3 ∷ []) ∷ (1 ∷ 2 ∷ []) ∷ (1 ∷ 2 ∷ []) ∷ []) ∷ ((2 ∷ 3 ∷ []) ∷ (1 ∷ 2 ∷ []) ∷ []) ∷ ((2 ∷ 3 ∷ []) ∷ []) ∷ [] ∷ [] ∷ [])
 unfolding computing circling
 cells-at-barriers = refl
 
 -- A BARRIER counts neither where nobody comes to it nor where the run diverges; one before a race stays counted.
 pub barriers-not-counted :
-    countedBarriers (rowOf 32 0 0 0 ∷ rowOf 37 0 0 0 ∷ rowOf 34 0 0 0 ∷ []) 2 (9 ∷ []) 10
-    ∷ countedBarriers (rowOf 2 0 0 0 ∷ rowOf 32 0 0 0 ∷ rowOf 37 0 0 0 ∷ rowOf 34 0 0 0 ∷ rowOf 37 0 0 0 ∷ []) 2 (9 ∷ []) 10
-    ∷ countedBarriers (rowOf 37 0 0 0 ∷ rowOf 2 1 0 0 ∷ rowOf 17 0 1 0 ∷ rowOf 37 0 0 0 ∷ []) 2 (9 ∷ []) 10
+    countedBarriers (rowOf 32 0 0 0 ∷ rowOf 37 0 0 0 ∷ rowOf 34 0 0 0 ∷ []) (oneGroup 2 (9 ∷ [])) (9 ∷ []) 10
+    ∷ countedBarriers (rowOf 2 0 0 0 ∷ rowOf 32 0 0 0 ∷ rowOf 37 0 0 0 ∷ rowOf 34 0 0 0 ∷ rowOf 37 0 0 0 ∷ []) (oneGroup 2 (9 ∷ [])) (9 ∷ []) 10
+    ∷ countedBarriers (rowOf 37 0 0 0 ∷ rowOf 2 1 0 0 ∷ rowOf 17 0 1 0 ∷ rowOf 37 0 0 0 ∷ []) (oneGroup 2 (9 ∷ [])) (9 ∷ []) 10
     ∷ []
-    ≡ [] ∷ [] ∷ ((9 ∷ []) ∷ []) ∷ []
+    ≡ ([] ∷ []) ∷ ([] ∷ []) ∷ (((9 ∷ []) ∷ []) ∷ []) ∷ []
 unfolding computing
 barriers-not-counted = refl

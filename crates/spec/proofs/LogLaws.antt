@@ -1,10 +1,12 @@
 -- Laws of the log, once for all modes. Assumes nothing.
-use mathlib.Core.Path.{_≡_, refl, sym, _∙_}
+use mathlib.Core.Path.{_≡_, refl, sym, _∙_, ap, ap₂}
 use mathlib.Core.List.{List, [], _∷_, map}
 use mathlib.Core.Bool.{Bool, true, false, cond, not}
-use Prim.Native.Nat.{ℕ, zero, suc}
+use Prim.Native.Nat.{ℕ, zero, suc, _+_, _<_}
+use native.Mathlib.Omega.{arith}
 use lib.ListN.{length, getD, replicate, length-map}
 use Rattle.spec.specs.Access.{Kind, load, store, atomicAdd, valueOf, Mode, reads, writes, adds, mode, agree}
+use Rattle.spec.specs.Lists.{mapWhere}
 use Rattle.spec.specs.Mask.{Mask, union}
 use Rattle.spec.specs.Log.{Log, masksOf, emptyLog, nobody, cleared, withThread, unequal, logged, conflicting, testedMask}
 use Rattle.spec.proofs.Laws.{union-size}
@@ -40,21 +42,38 @@ masks-logged G c t (atomicAdd v) reads = refl
 masks-logged G c t (atomicAdd v) writes = refl
 masks-logged G c t (atomicAdd v) adds = refl
 
-pub masks-cleared : (G : Log) (m : Mode) → masksOf (cleared G) m ≡ map nobody (masksOf G m)
+pub masks-cleared : (p : ℕ → Bool) (G : Log) (m : Mode) → masksOf (cleared p G) m ≡ mapWhere p nobody 0 (masksOf G m)
 unfolding masksOf cleared
-masks-cleared G reads = refl
-masks-cleared G writes = refl
-masks-cleared G adds = refl
+masks-cleared p G reads = refl
+masks-cleared p G writes = refl
+masks-cleared p G adds = refl
 
 -- Sizes of masks.
 pub nobody-size : (m : Mask) → length (nobody m) ≡ length m
 unfolding nobody
 nobody-size m = length-map m (λ b. false)
 
-pub wiped-size : (ms : List Mask) (c : ℕ) → length (getD (map nobody ms) c []) ≡ length (getD ms c [])
-wiped-size [] c = refl
-wiped-size (m ∷ ms) zero = nobody-size m
-wiped-size (m ∷ ms) (suc c) = wiped-size ms c
+-- What a change of the elements at some places comes to.
+pub where-size : {A : Type 0} (p : ℕ → Bool) (f : A → A) (i : ℕ) (xs : List A) → length (mapWhere p f i xs) ≡ length xs
+unfolding mapWhere
+where-size p f i [] = refl
+where-size p f i (x ∷ xs) = ap suc (where-size p f (suc i) xs)
+
+pub where-at : {A : Type 0} (p : ℕ → Bool) (f : A → A) (i : ℕ) (xs : List A) (j : ℕ) (d : A) → j < length xs
+    → getD (mapWhere p f i xs) j d ≡ cond (p (i + j)) (f (getD xs j d)) (getD xs j d)
+unfolding mapWhere
+where-at p f i [] j d l = absurd (omega arith)
+where-at p f i (x ∷ xs) zero d l = let z : i ≡ i + 0 = omega arith in ap (λ k. cond (p k) (f x) x) z
+where-at p f i (x ∷ xs) (suc j) d l =
+    where-at p f (suc i) xs j d (omega arith)
+    ∙ ap (λ k. cond (p k) (f (getD xs j d)) (getD xs j d)) (let z : suc i + j ≡ i + suc j = omega arith in z)
+
+pub where-all : {A : Type 0} (p : ℕ → Bool) (f : A → A) (i : ℕ) (xs : List A) → ((j : ℕ) → j < length xs → p (i + j) ≡ true) → mapWhere p f i xs ≡ map f xs
+unfolding mapWhere
+where-all p f i [] h = refl
+where-all p f i (x ∷ xs) h =
+    ap₂ _∷_ (ap (λ b. cond b (f x) x) (ap p (let z : i ≡ i + 0 = omega arith in z) ∙ h 0 (omega arith)))
+    (where-all p f (suc i) xs (λ j l. ap p (let z : suc i + j ≡ i + suc j = omega arith in z) ∙ h (suc j) (omega arith)))
 
 module _ (G : Log) (c : ℕ) (x : Kind) (n : ℕ) (sizes : (m : Mode) → length (getD (masksOf G m) c []) ≡ n) where
   conflicting-size : (m : Mode) → length (conflicting G c m x) ≡ n

@@ -1,14 +1,15 @@
 -- The access rules and the log, computed: what an access leaves, whom it enters, whom it meets. Assumes nothing.
 use mathlib.Core.Path.{_≡_, refl}
-use mathlib.Core.List.{List, [], _∷_, map}
+use mathlib.Core.List.{List, [], _∷_, _++_, map}
 use mathlib.Core.Bool.{Bool, true, false}
-use Prim.Native.Nat.{ℕ}
+use Prim.Native.Nat.{ℕ, suc}
+use lib.Dec.{eqb, leb}
 use lib.ListN.{replicate}
 use Rattle.spec.specs.Answers.{Verdict, Race, ReadWrite, WriteRead, WriteWrite, ReadAdd, AddRead, WriteAdd, AddWrite}
-use Rattle.spec.specs.Lists.{joined}
-use Rattle.spec.specs.Op.{LOAD, STORE, ATOMICADD}
+use Rattle.spec.specs.Lists.{joined, mapWhere, lastOf}
+use Rattle.spec.specs.Op.{OWN, GLOBAL, LOAD, STORE, ATOMICADD}
 use Rattle.spec.specs.Table.{rowOf, cellByte, kindOf}
-use Rattle.spec.specs.Shape.{shapeOf, total, bound, address}
+use Rattle.spec.specs.Shape.{Shape, oneGroup, shapeOf, total, bound, address, isGlobal, isOwn, reaches}
 use Rattle.spec.specs.Access.{Kind, load, store, atomicAdd, valueOf, reads, writes, adds, mode, agree, cellAfter, registersAfter}
 use Rattle.spec.specs.Mask.{Mask, maskWord}
 use Rattle.spec.specs.Log.{Log, masksOf, markWord, logKinds, logWords, emptyLog, nobody, cleared, cellCleared, cellsCleared}
@@ -67,22 +68,65 @@ unfolding computing
 agreeing = refl
 
 -- Two threads and three cells.
-pub shape : let L = shapeOf 2 (7 ∷ 8 ∷ 9 ∷ []) in L .threads ∷ L .cells ∷ total L ∷ [] ≡ 2 ∷ 3 ∷ 3 ∷ []
+pub shape : let L = shapeOf (oneGroup 2 (7 ∷ 8 ∷ 9 ∷ [])) 0 in
+    L .threads ∷ L .cells ∷ L .groups ∷ L .global ∷ L .group ∷ total L ∷ [] ≡ 2 ∷ 3 ∷ 1 ∷ 0 ∷ 0 ∷ 3 ∷ []
 unfolding computing
 shape = refl
 
-pub reached : let L = shapeOf 2 (7 ∷ 8 ∷ 9 ∷ []) in
-    map (bound L) (LOAD ∷ STORE ∷ ATOMICADD ∷ []) ∷ (address L LOAD 1 ∷ address L STORE 2 ∷ address L ATOMICADD 0 ∷ address L ATOMICADD 2 ∷ []) ∷ [] ≡
-    (3 ∷ 3 ∷ 3 ∷ []) ∷ (1 ∷ 2 ∷ 0 ∷ 2 ∷ []) ∷ []
+pub reached : let L = shapeOf (oneGroup 2 (7 ∷ 8 ∷ 9 ∷ [])) 0 in map (bound L) (OWN ∷ GLOBAL ∷ []) ∷ map (address L OWN) (1 ∷ 2 ∷ 0 ∷ []) ∷ [] ≡
+    (3 ∷ 0 ∷ []) ∷ (1 ∷ 2 ∷ 0 ∷ []) ∷ []
 unfolding computing
 reached = refl
+
+-- Three groups of two threads with four cells each, and two global cells: the own cells stand at 0 to 3, 4 to 7 and 8 to 11, the global ones at 12 and 13.
+unfoldable pub ofThree : ℕ → Shape
+ofThree g = shapeOf (record { threads = 2; cells = 4; groups = 3; global = 2 }) g
+
+pub three-shapes : map (λ g. let L = ofThree g in L .threads ∷ L .cells ∷ L .groups ∷ L .global ∷ L .group ∷ total L ∷ []) (0 ∷ 1 ∷ 2 ∷ []) ≡
+    (2 ∷ 4 ∷ 3 ∷ 2 ∷ 0 ∷ 14 ∷ []) ∷ (2 ∷ 4 ∷ 3 ∷ 2 ∷ 1 ∷ 14 ∷ []) ∷ (2 ∷ 4 ∷ 3 ∷ 2 ∷ 2 ∷ 14 ∷ []) ∷ []
+unfolding computing ofThree
+three-shapes = refl
+
+-- Whatever the group, four cells can be named as own ones and two as global ones. Where own cells 0 and 3, and global cells 0 and 1, stand.
+pub three-bounds : map (λ g. map (bound (ofThree g)) (OWN ∷ GLOBAL ∷ [])) (0 ∷ 1 ∷ 2 ∷ []) ≡ replicate 3 (4 ∷ 2 ∷ [])
+unfolding computing ofThree
+three-bounds = refl
+
+pub three-addresses : map (λ g. let L = ofThree g in address L OWN 0 ∷ address L OWN 3 ∷ address L GLOBAL 0 ∷ address L GLOBAL 1 ∷ []) (0 ∷ 1 ∷ 2 ∷ []) ≡
+    (0 ∷ 3 ∷ 12 ∷ 13 ∷ []) ∷ (4 ∷ 7 ∷ 12 ∷ 13 ∷ []) ∷ (8 ∷ 11 ∷ 12 ∷ 13 ∷ []) ∷ []
+unfolding computing ofThree
+three-addresses = refl
+
+-- The first and the last place of each part.
+unfoldable pub edges : List ℕ
+edges = 0 ∷ 3 ∷ 4 ∷ 7 ∷ 8 ∷ 11 ∷ 12 ∷ 13 ∷ []
+
+unfoldable pub globalEdges : List Bool
+globalEdges = false ∷ false ∷ false ∷ false ∷ false ∷ false ∷ true ∷ true ∷ []
+
+pub global-places : map (λ g. map (isGlobal (ofThree g)) edges) (0 ∷ 1 ∷ 2 ∷ []) ≡ replicate 3 globalEdges
+unfolding computing ofThree edges globalEdges
+global-places = refl
+
+pub own-places : map (λ g. map (isOwn (ofThree g)) edges) (0 ∷ 1 ∷ 2 ∷ []) ≡
+    (true ∷ true ∷ replicate 6 false) ∷ (false ∷ false ∷ true ∷ true ∷ replicate 4 false) ∷ (replicate 4 false ++ (true ∷ true ∷ false ∷ false ∷ [])) ∷ []
+unfolding computing ofThree edges
+own-places = refl
+
+pub places-in-reach : map (λ g. map (reaches (ofThree g)) edges) (0 ∷ 1 ∷ 2 ∷ []) ≡
+    (true ∷ true ∷ replicate 4 false ++ replicate 2 true)
+    ∷ (false ∷ false ∷ true ∷ true ∷ false ∷ false ∷ true ∷ true ∷ [])
+    ∷ (replicate 4 false ++ replicate 4 true)
+    ∷ []
+unfolding computing ofThree edges
+places-in-reach = refl
 
 -- Three threads and two cells: threads 0 and 2 load cell 1, thread 2 stores 9 there as well, and thread 1 stores 8 to cell 0.
 unfoldable pub someLog : Log
 someLog = logged (logged (logged (logged (emptyLog 3 2) 1 0 load) 1 2 load) 1 2 (store 9)) 0 1 (store 8)
 
 -- All readers, then all writers, all adders, all first values, all marks. Every thread that read is kept; nobody enters another mask; clearing clears all.
-pub log-words : logWords (emptyLog 3 2) ∷ logWords (logged (emptyLog 3 2) 0 1 load) ∷ logWords someLog ∷ logWords (cleared someLog) ∷ [] ≡
+pub log-words : logWords (emptyLog 3 2) ∷ logWords (logged (emptyLog 3 2) 0 1 load) ∷ logWords someLog ∷ logWords (cleared (λ i. true) someLog) ∷ [] ≡
     replicate 10 0 ∷ (2 ∷ replicate 9 0) ∷ (0 ∷ 5 ∷ 2 ∷ 4 ∷ 0 ∷ 0 ∷ 8 ∷ 9 ∷ 0 ∷ 0 ∷ []) ∷ replicate 10 0 ∷ []
 unfolding computing someLog
 log-words = refl
@@ -100,6 +144,21 @@ pub joined-lists : joined {A = ℕ} ((4 ∷ 5 ∷ []) ∷ [] ∷ (6 ∷ []) ∷ 
     (4 ∷ 5 ∷ 6 ∷ 7 ∷ 8 ∷ []) ∷ [] ∷ [] ∷ []
 unfolding computing
 joined-lists = refl
+
+-- A change of the elements at some places, counted from 4 on; the last of a list.
+pub changed-somewhere :
+    mapWhere (λ i. eqb i 5) suc 4 (10 ∷ 20 ∷ 30 ∷ [])
+    ∷ mapWhere (λ i. leb 5 i) suc 4 (10 ∷ 20 ∷ 30 ∷ [])
+    ∷ mapWhere (λ i. false) suc 4 (10 ∷ 20 ∷ 30 ∷ [])
+    ∷ mapWhere (λ i. true) suc 4 []
+    ∷ []
+    ≡ (10 ∷ 21 ∷ 30 ∷ []) ∷ (10 ∷ 21 ∷ 31 ∷ []) ∷ (10 ∷ 20 ∷ 30 ∷ []) ∷ [] ∷ []
+unfolding computing
+changed-somewhere = refl
+
+pub lasts : map {B = ℕ} (lastOf 7) ([] ∷ (8 ∷ []) ∷ (8 ∷ 9 ∷ []) ∷ (8 ∷ 9 ∷ 5 ∷ []) ∷ []) ≡ 7 ∷ 8 ∷ 9 ∷ 5 ∷ []
+unfolding computing
+lasts = refl
 
 -- The walk over three cells with readers 1, 2, 3, writers 4, 5, 6, adders 7, 8, 9, values 10, 11, 12 and marks 13, 14, 15: after none, one, two and
 -- three turns, and after more than that.
@@ -133,7 +192,7 @@ pub walked-few :
     ∷ cellsCleared 1 1 (replicate 5 7)
     ∷ cellsCleared 2 1 (logWords someLog)
     ∷ cellsCleared 2 2 (logWords someLog)
-    ∷ logWords (cleared someLog)
+    ∷ logWords (cleared (λ i. true) someLog)
     ∷ cellsCleared 0 1 []
     ∷ [] ≡
     replicate 5 7
@@ -153,7 +212,7 @@ pub adds-logged :
     ∷ logged (logged (emptyLog 3 2) 1 0 (atomicAdd 9)) 1 2 (atomicAdd 0)
     ∷ logged someLog 1 1 (atomicAdd 9)
     ∷ logged (logged (logged someLog 1 1 (atomicAdd 9)) 1 1 load) 0 0 (store 8)
-    ∷ cleared (logged someLog 1 1 (atomicAdd 9))
+    ∷ cleared (λ i. true) (logged someLog 1 1 (atomicAdd 9))
     ∷ [])
     ≡ (0 ∷ 0 ∷ 0 ∷ 0 ∷ 2 ∷ replicate 5 0)
     ∷ (0 ∷ 0 ∷ 0 ∷ 0 ∷ 0 ∷ 5 ∷ replicate 4 0)
@@ -213,7 +272,7 @@ unfoldable pub someKinds : List Kind
 someKinds = load ∷ store 9 ∷ store 8 ∷ atomicAdd 9 ∷ []
 
 pub every-log-words : map logWords
-    (everyLog ∷ everyMarked true ∷ cleared (everyMarked true) ∷ logged everyLog 0 7 (atomicAdd 9) ∷ logged (everyMarked true) 0 7 (store 8) ∷ [])
+    (everyLog ∷ everyMarked true ∷ cleared (λ i. true) (everyMarked true) ∷ logged everyLog 0 7 (atomicAdd 9) ∷ logged (everyMarked true) 0 7 (store 8) ∷ [])
     ≡ (0 ∷ 170 ∷ 0 ∷ 204 ∷ 0 ∷ 240 ∷ 0 ∷ 9 ∷ 0 ∷ 0 ∷ [])
     ∷ (0 ∷ 170 ∷ 0 ∷ 204 ∷ 0 ∷ 240 ∷ 0 ∷ 9 ∷ 0 ∷ 1 ∷ [])
     ∷ replicate 10 0
@@ -222,6 +281,15 @@ pub every-log-words : map logWords
     ∷ []
 unfolding computing everyMarked everyLog
 every-log-words = refl
+
+-- Cleared at cell 0, at cell 1 and nowhere, where thread 7 has stored 8 to cell 0.
+pub cleared-somewhere : map (λ p. logWords (cleared p (logged (everyMarked true) 0 7 (store 8)))) ((λ i. eqb i 0) ∷ (λ i. eqb i 1) ∷ (λ i. false) ∷ []) ≡
+    (0 ∷ 170 ∷ 0 ∷ 204 ∷ 0 ∷ 240 ∷ 0 ∷ 9 ∷ 0 ∷ 1 ∷ [])
+    ∷ (0 ∷ 0 ∷ 128 ∷ 0 ∷ 0 ∷ 0 ∷ 8 ∷ 0 ∷ 0 ∷ 0 ∷ [])
+    ∷ (0 ∷ 170 ∷ 128 ∷ 204 ∷ 0 ∷ 240 ∷ 8 ∷ 9 ∷ 0 ∷ 1 ∷ [])
+    ∷ []
+unfolding computing everyMarked
+cleared-somewhere = refl
 
 pub masks-by-mode : map (λ m. map maskWord (masksOf everyLog m)) (reads ∷ writes ∷ adds ∷ []) ≡ (0 ∷ 170 ∷ []) ∷ (0 ∷ 204 ∷ []) ∷ (0 ∷ 240 ∷ []) ∷ []
 unfolding computing everyMarked everyLog
@@ -299,7 +367,10 @@ stoppedWith (continues s) = []
 stoppedWith (stops v s) = v ∷ []
 
 unfoldable pub third : Kind → Log → List Verdict
-third k G = let s = initialState 3 (7 ∷ []) in stoppedWith (tryAccess (update s (s .regs) (s .cells) G (s .steps)) 2 4 0 k)
+third k G =
+    let Z = oneGroup 3 (7 ∷ []) in
+    let s = initialState Z (7 ∷ []) in
+    stoppedWith (tryAccess (shapeOf Z 0) OWN (update s (s .regs) (s .cells) G (s .steps)) 2 4 0 k)
 
 pub third-adds : map (third (atomicAdd 9)) lowerAgrees ≡ (Race 2 1 ReadAdd 0 ∷ []) ∷ (Race 2 1 WriteAdd 0 ∷ []) ∷ (Race 2 0 ReadAdd 0 ∷ []) ∷ (Race 2 0 ReadAdd 0 ∷ []) ∷ []
 unfolding computing lowerAgrees stoppedWith third
@@ -382,11 +453,11 @@ unfolding computing storing
 unequal-elsewhere = refl
 
 -- Cleared, every one is as if nothing had been stored: all its words are 0, and a store of 6 is the first.
-pub stores-cleared : map (λ G. logWords (cleared G)) storing ≡ replicate 13 (replicate 10 0)
+pub stores-cleared : map (λ G. logWords (cleared (λ i. true) G)) storing ≡ replicate 13 (replicate 10 0)
 unfolding computing storing
 stores-cleared = refl
 
-pub stores-behind : map (λ G. logWords (logged (cleared G) 1 1 (store 6))) storing ≡ replicate 13 (0 ∷ 0 ∷ 0 ∷ 2 ∷ 0 ∷ 0 ∷ 0 ∷ 6 ∷ 0 ∷ 0 ∷ [])
+pub stores-behind : map (λ G. logWords (logged (cleared (λ i. true) G) 1 1 (store 6))) storing ≡ replicate 13 (0 ∷ 0 ∷ 0 ∷ 2 ∷ 0 ∷ 0 ∷ 0 ∷ 6 ∷ 0 ∷ 0 ∷ [])
 unfolding computing storing
 stores-behind = refl
 

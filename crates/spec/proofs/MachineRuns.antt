@@ -1,14 +1,27 @@
--- Runs of the threads' own machine, computed move by move. Assumes nothing.
+-- Runs of the threads' own machine, of one group, computed move by move. Assumes nothing.
 use mathlib.Core.Path.{_≡_, refl}
 use mathlib.Core.List.{List, [], _∷_, _++_}
 use mathlib.Core.Bool.{Bool, true, false, _&&_}
 use Prim.Native.Nat.{ℕ}
 use lib.ListN.{replicate}
 use Rattle.spec.specs.Table.{Table, rowOf}
-use Rattle.spec.specs.Shape.{Shape, shapeOf}
-use Rattle.spec.specs.Threads.{Group, Move, row, release, next, possible, atEnd, threadCount, anyBelow}
-use Rattle.spec.specs.AllRuns.{startOfRuns, leaves, cellsAtReleases}
+use Rattle.spec.specs.Shape.{Sizes, oneGroup}
+use Rattle.spec.specs.Threads as own
+use Rattle.spec.specs.Threads.{Group, anyBelow}
+use Rattle.spec.specs.LaunchThreads.{Groups, view, Move, ofGroup, next, possible, atEnd, initialGroups}
+use Rattle.spec.specs.AllRuns as all
+use Rattle.spec.specs.AllRuns.{cellsAtReleases}
 use Rattle.spec.proofs.Computing.{computing}
+
+-- A launch of one group: its moves, and the group as a list of moves leaves it.
+abbrev pub row : ℕ → Move
+row t = ofGroup 0 (own.row t)
+
+abbrev pub release : Move
+release = ofGroup 0 own.release
+
+abbrev pub leaves : Table → ℕ → List ℕ → List Move → Group
+leaves T n cells ms = view (oneGroup n cells) (all.leaves T (oneGroup n cells) cells ms) 0
 
 -- What a list of moves comes to: whether each is possible where it is made, and what holds afterwards.
 pub record Played : Type 0 where
@@ -20,21 +33,22 @@ pub record Played : Type 0 where
   pub cells : List ℕ
   pub atReleases : List (List ℕ)
 
-unfoldable pub isRun : Table → Shape → Group → List Move → Bool
-isRun T L g [] = true
-isRun T L g (m ∷ ms) = possible T L g m && isRun T L (next T L g m) ms
+unfoldable pub isRun : Table → Sizes → Groups → List Move → Bool
+isRun T Z S [] = true
+isRun T Z S (m ∷ ms) = possible T Z S m && isRun T Z (next T Z S m) ms
 
 unfoldable pub played : Table → ℕ → List ℕ → List Move → Played
 played T n cells ms =
-    let g = leaves T n cells ms in
+    let Z = oneGroup n cells in
+    let S = all.leaves T Z cells ms in
     record {
-      allPossible = isRun T (shapeOf n cells) (startOfRuns T n cells) ms;
-      ended = atEnd T g;
-      bad = g .bad;
-      mayMove = anyBelow (threadCount g) (λ t. possible T (shapeOf n cells) g (row t));
-      mayRelease = possible T (shapeOf n cells) g release;
-      cells = g .cells;
-      atReleases = cellsAtReleases T n cells ms;
+      allPossible = isRun T Z (initialGroups T Z cells) ms;
+      ended = atEnd T S;
+      bad = S .bad;
+      mayMove = anyBelow n (λ t. possible T Z S (row t));
+      mayRelease = possible T Z S release;
+      cells = S .cells;
+      atReleases = cellsAtReleases T Z cells 0 ms;
     }
 
 -- The tables of P1, of P2 and of the two-loop barrier, and a LOAD outside.

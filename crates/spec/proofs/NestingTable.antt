@@ -3,7 +3,7 @@ use mathlib.Core.Path.{_≡_, refl}
 use mathlib.Core.List.{List, [], _∷_, _++_, map}
 use Prim.Native.Nat.{ℕ}
 use lib.ListN.{replicate}
-use Rattle.spec.specs.Op.{Op, CALC, MEM, SET, LOAD, IF, ELSE, ENDIF, WHILE, ENDWHILE, BARRIER, UNKNOWN}
+use Rattle.spec.specs.Op.{Op, CALC, OWN, GLOBAL, MEM, SET, LOAD, STORE, ATOMICADD, IF, ELSE, ENDIF, WHILE, ENDWHILE, BARRIER, UNKNOWN}
 use Rattle.spec.specs.Table.{Table, Row, rowOf, rowAt, role, plain, opening, dividing, closing, openBefore, endOf, elseOf, startOf, innermost}
 use Rattle.spec.specs.Grammar.{Body, empty, plainRow, construct, Construct, ifEnd, ifElse, while, bodyRows, bodyDepth}
 use Rattle.spec.specs.TableCheck.{tableRefusal}
@@ -163,8 +163,8 @@ pub innermost-ops : map (λ r. innermost nested (openBefore nested r)) (0 ∷ 1 
 unfolding computing bytesFrom withOps nested
 innermost-ops = refl
 
-pub roles : map role (CALC SET ∷ MEM LOAD ∷ IF ∷ ELSE ∷ ENDIF ∷ WHILE ∷ ENDWHILE ∷ BARRIER ∷ UNKNOWN ∷ []) ≡
-    plain ∷ plain ∷ opening ∷ dividing ∷ closing ∷ opening ∷ closing ∷ plain ∷ plain ∷ []
+pub roles : map role (CALC SET ∷ MEM OWN LOAD ∷ MEM GLOBAL STORE ∷ IF ∷ ELSE ∷ ENDIF ∷ WHILE ∷ ENDWHILE ∷ BARRIER ∷ UNKNOWN ∷ []) ≡
+    plain ∷ plain ∷ plain ∷ opening ∷ dividing ∷ closing ∷ opening ∷ closing ∷ plain ∷ plain ∷ []
 unfolding computing
 roles = refl
 
@@ -180,6 +180,35 @@ no-row = refl
 -- Bodies of the grammar, their rows and their depth.
 unfoldable pub bare : Op → Row
 bare o = record { op = o; d = 0; a = 0; b = 0 }
+
+-- Global accesses are plain rows: known, allowed in every construct and at every depth, opening and closing nothing.
+unfoldable pub amongGlobal : Table
+amongGlobal =
+    bare IF
+    ∷ bare (MEM GLOBAL LOAD)
+    ∷ bare ELSE
+    ∷ bare (MEM GLOBAL STORE)
+    ∷ bare WHILE
+    ∷ bare (MEM GLOBAL ATOMICADD)
+    ∷ bare ENDWHILE
+    ∷ bare ENDIF
+    ∷ []
+
+pub global-rows : map (λ t. toldAs (tableRefusal t))
+    (amongGlobal
+    ∷ (withOps (replicate 8 32) ++ (bare (MEM GLOBAL LOAD) ∷ withOps (replicate 8 34)))
+    ∷ (withOps (replicate 8 32) ++ (bare (MEM GLOBAL LOAD) ∷ withOps (32 ∷ [])))
+    ∷ (withOps (32 ∷ 35 ∷ []) ++ (bare (MEM GLOBAL STORE) ∷ []))
+    ∷ (withOps (34 ∷ []) ++ (bare (MEM GLOBAL STORE) ∷ []))
+    ∷ [])
+    ≡ (0, 0) ∷ (0, 0) ∷ (6, 9) ∷ (7, 1) ∷ (5, 0) ∷ []
+unfolding computing orZero toldAs withOps bare amongGlobal
+global-rows = refl
+
+-- Where IF and ELSE go, the end of the loop and its start, over such rows.
+pub over-global-rows : elseOf amongGlobal 0 ∷ endOf amongGlobal 0 ∷ endOf amongGlobal 2 ∷ endOf amongGlobal 4 ∷ startOf amongGlobal 6 ∷ [] ≡ 3 ∷ 7 ∷ 7 ∷ 6 ∷ 4 ∷ []
+unfolding computing withOps bare amongGlobal
+over-global-rows = refl
 
 -- WHILE ENDWHILE; IF body ENDIF; IF body ELSE body ENDIF.
 unfoldable pub aLoop : Body → Construct

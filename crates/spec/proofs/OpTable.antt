@@ -3,9 +3,9 @@ use mathlib.Core.Path.{_≡_, refl}
 use mathlib.Core.List.{List, [], _∷_, _++_, map}
 use Prim.Native.Nat.{ℕ, zero, suc}
 use lib.ListN.{length, replicate}
-use Rattle.spec.specs.Op.{CALC, MEM, IF, ELSE, ENDIF, WHILE, ENDWHILE, BARRIER, UNKNOWN, opOf}
+use Rattle.spec.specs.Op.{CALC, OWN, GLOBAL, MEM, IF, ELSE, ENDIF, WHILE, ENDWHILE, BARRIER, UNKNOWN, opOf}
 use Rattle.spec.specs.Op.{SET, TID, COUNT, ADD, SUB, MUL, AND, OR, XOR, SHR, SAR, EQ, LT, SLT, LOAD, STORE, ATOMICADD}
-use Rattle.spec.specs.Op.{setForm, dForm, dabForm, daForm, aForm, noForm, unknownForm, opTable, formOf}
+use Rattle.spec.specs.Op.{setForm, dForm, dabForm, daForm, aForm, noForm, unknownForm, opTable, form, formOf}
 use Rattle.spec.proofs.Computing.{computing}
 
 unfoldable pub bytesFrom : ℕ → ℕ → List ℕ
@@ -28,7 +28,13 @@ op-table-size = refl
 pub ops : map opOf (bytesFrom 0 257) ≡
     UNKNOWN
     ∷ map CALC (SET ∷ TID ∷ COUNT ∷ ADD ∷ SUB ∷ MUL ∷ AND ∷ OR ∷ XOR ∷ SHR ∷ SAR ∷ EQ ∷ LT ∷ SLT ∷ [])
-    ++ (UNKNOWN ∷ MEM LOAD ∷ MEM STORE ∷ MEM ATOMICADD ∷ replicate 13 UNKNOWN)
+    ++ (UNKNOWN ∷ MEM OWN LOAD ∷ MEM OWN STORE ∷ MEM OWN ATOMICADD ∷ replicate 13 UNKNOWN)
     ++ (IF ∷ ELSE ∷ ENDIF ∷ WHILE ∷ ENDWHILE ∷ BARRIER ∷ replicate 219 UNKNOWN)
 unfolding computing bytesFrom
 ops = refl
+
+-- Accesses have one form, wherever their cells are.
+pub forms-of-accesses :
+    map (λ m. form (MEM OWN m)) (LOAD ∷ STORE ∷ ATOMICADD ∷ []) ++ map (λ m. form (MEM GLOBAL m)) (LOAD ∷ STORE ∷ ATOMICADD ∷ []) ≡ replicate 6 daForm
+unfolding computing
+forms-of-accesses = refl

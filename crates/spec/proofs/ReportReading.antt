@@ -5,7 +5,7 @@ use mathlib.Core.Bool.{true, false}
 use mathlib.Core.Option.{none, some}
 use Prim.Native.Nat.{ℕ}
 use lib.ListN.{take}
-use Rattle.spec.specs.Answers.{Verdict, Passed, Race, Outside, Diverged, Spent, WriteWrite, Subject}
+use Rattle.spec.specs.Answers.{Verdict, Passed, Race, GroupRace, Outside, Diverged, Spent, WriteWrite, Subject}
 use Rattle.spec.specs.declared.Subject.the-variants as subject
 use Rattle.spec.specs.Text.{text}
 use Rattle.spec.specs.Examples.{lines}
@@ -42,8 +42,9 @@ unfoldable pub ending : Verdict → Subject
 ending v = subject.Ran (record { verdict = v; row = 1; rows = 1; barriers = 1; conflicts = 1 })
 
 pub passing-subjects : map hasPassed
-    (ending Passed ∷ ending (Race 1 0 WriteWrite 0) ∷ ending (Outside 1 1) ∷ ending (Diverged 1 1) ∷ ending Spent ∷ subject.Refused 1 1 ∷ [])
-    ≡ true ∷ false ∷ false ∷ false ∷ false ∷ false ∷ []
+    (ending Passed ∷ ending (Race 1 0 WriteWrite 0) ∷ ending (GroupRace 1 0 WriteWrite 0) ∷ ending (Outside 1 1) ∷ ending (Diverged 1 1) ∷ ending Spent
+    ∷ subject.Refused 1 1 ∷ [])
+    ≡ true ∷ false ∷ false ∷ false ∷ false ∷ false ∷ false ∷ []
 unfolding computing ending
 passing-subjects = refl
 

@@ -2,7 +2,7 @@
 use mathlib.Core.Path.{_≡_, refl}
 use mathlib.Core.List.{List, [], _∷_, map}
 use Prim.Native.Nat.{ℕ}
-use Rattle.spec.specs.Answers.{Verdict, Passed, Race, Outside, Diverged, Spent, Subject}
+use Rattle.spec.specs.Answers.{Verdict, Passed, Race, GroupRace, Outside, Diverged, Spent, Subject}
 use Rattle.spec.specs.Answers.{ReadWrite, WriteRead, WriteWrite, ReadAdd, AddRead, WriteAdd, AddWrite}
 use Rattle.spec.specs.declared.Subject.the-variants as subject
 use Rattle.spec.specs.Report.{kindText, reportOf, refusalReport}
@@ -33,6 +33,12 @@ pub run-reports : map (λ v. reportOf (stopped v) someSteps someCells)
     ∷ []
 unfolding computing stopped someSteps someCells
 run-reports = refl
+
+-- A race with another group names no other thread.
+pub group-race-report : reportOf (stopped (GroupRace 2 1 WriteRead 5)) (9 ∷ []) (7 ∷ []) ≡
+    lines "verdict=race/row=11/thread=2/other=-/kind=wr/at=5/rows=12/steps=9/barriers=14/conflicts=105/cell=7/end=report"
+unfolding computing stopped
+group-race-report = refl
 
 -- The other's letter first: r it read, w it wrote, a it added.
 pub kind-texts : map kindText (ReadWrite ∷ WriteRead ∷ WriteWrite ∷ ReadAdd ∷ AddRead ∷ WriteAdd ∷ AddWrite ∷ []) ≡

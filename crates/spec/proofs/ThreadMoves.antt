@@ -5,17 +5,19 @@ use mathlib.Core.Bool.{Bool, true, false}
 use Prim.Native.Nat.{ℕ, zero, suc, _+_}
 use lib.ListN.{length, getD, take, replicate}
 use Rattle.spec.specs.Access.{load, store, atomicAdd}
-use Rattle.spec.specs.Op.{CALC, SET, MEM, LOAD, IF, ELSE, ENDIF, WHILE, ENDWHILE, BARRIER, UNKNOWN}
+use Rattle.spec.specs.Op.{CALC, SET, OWN, GLOBAL, MEM, LOAD, STORE, IF, ELSE, ENDIF, WHILE, ENDWHILE, BARRIER, UNKNOWN}
 use Rattle.spec.specs.Table.{Table, rowOf}
-use Rattle.spec.specs.Shape.{Shape, shapeOf}
-use Rattle.spec.specs.Threads.{Thread, Group, Move, row, release, next, possible, atEnd, atOneBarrier, isBarrier, noThread, emptyRecord}
-use Rattle.spec.specs.Threads.{initialGroup, machine}
+use Rattle.spec.specs.Shape.{Sizes, Shape, oneGroup, shapeOf}
+use Rattle.spec.specs.Threads as own
+use Rattle.spec.specs.Threads.{Thread, Group, atOneBarrier, isBarrier, noThread, emptyRecord, machine}
+use Rattle.spec.specs.LaunchThreads.{Groups, view, Move, next, possible, atEnd, initialGroups}
 use Rattle.spec.specs.Runs.{Machine, Run, many, after, shownTo}
 use Rattle.spec.specs.Steps.{sum}
-use Rattle.spec.specs.LockStep.{lockstep}
-use Rattle.spec.specs.AllRuns.{startOfRuns, leaves, isMoveOf, isRelease}
+use Rattle.spec.specs.LaunchRun.{lockstep}
+use Rattle.spec.specs.AllRuns as all
+use Rattle.spec.specs.AllRuns.{isMoveOf, isRelease}
 use Rattle.spec.proofs.LockStepTable.{winding, circling}
-use Rattle.spec.proofs.MachineRuns.{isRun, played, of, racing, meeting, straying}
+use Rattle.spec.proofs.MachineRuns.{row, release, leaves, isRun, played, of, racing, meeting, straying}
 use Rattle.spec.proofs.Computing.{computing}
 
 -- Thread t's row, and its counts of the loops at rows p and q.
@@ -23,12 +25,12 @@ unfoldable pub place : ℕ → ℕ → ℕ → Group → List ℕ
 place t p q g = let th = getD (g .threads) t noThread in th .row ∷ getD (th .loops) p 0 ∷ getD (th .loops) q 0 ∷ []
 
 -- What is seen after each of these moves.
-unfoldable pub trail : Table → Shape → (Group → List ℕ) → Group → List Move → List (List ℕ)
-trail T L see g [] = []
-trail T L see g (m ∷ ms) = let h = next T L g m in see h ∷ trail T L see h ms
+unfoldable pub trail : Table → Sizes → (Group → List ℕ) → Groups → List Move → List (List ℕ)
+trail T Z see S [] = []
+trail T Z see S (m ∷ ms) = let h = next T Z S m in see (view Z h 0) ∷ trail T Z see h ms
 
 unfoldable pub alone : Table → (n t p q moves : ℕ) → List (List ℕ)
-alone T n t p q moves = trail T (shapeOf n (7 ∷ 7 ∷ 7 ∷ [])) (place t p q) (startOfRuns T n (7 ∷ 7 ∷ 7 ∷ [])) (of moves t)
+alone T n t p q moves = let Z = oneGroup n (7 ∷ 7 ∷ 7 ∷ []) in trail T Z (place t p q) (initialGroups T Z (7 ∷ 7 ∷ 7 ∷ [])) (of moves t)
 
 -- Thread 0 of `winding`: IF false goes behind ELSE; in there IF true, and ELSE to ENDIF; the second loop twice; then it waits at the BARRIER.
 pub thread-0 : alone winding 3 0 3 13 17 ≡
@@ -97,8 +99,9 @@ record-emptied = refl
 -- Which of threads 0, 1, 2 and 3 may move, whether a release may be made, and whether the run has come to its end.
 unfoldable pub may : Table → ℕ → List ℕ → List Move → List Bool
 may T n cells ms =
-    let g = leaves T n cells ms in
-    map (λ t. possible T (shapeOf n cells) g (row t)) (0 ∷ 1 ∷ 2 ∷ 3 ∷ []) ++ (possible T (shapeOf n cells) g release ∷ atEnd T g ∷ [])
+    let Z = oneGroup n cells in
+    let S = all.leaves T Z cells ms in
+    map (λ t. possible T Z S (row t)) (0 ∷ 1 ∷ 2 ∷ 3 ∷ []) ++ (possible T Z S release ∷ atEnd T S ∷ [])
 
 -- P2 of two threads; there are no threads 2 and 3. At the start; one waits; both wait; released; one at the end, so that none is ended; both.
 pub two-threads : map (may meeting 2 (1 ∷ 1 ∷ 1 ∷ []))
@@ -374,14 +377,17 @@ together = refl
 
 -- After a bad end nothing is possible, not even a release of threads that stand together, and threads at the table's end have not come to theirs.
 unfoldable pub groupOf : List Thread → Bool → Group
-groupOf threads bad = record { threads = threads; cells = 9 ∷ []; made = emptyRecord; bad = bad }
+groupOf threads bad = record { threads = threads; cells = 9 ∷ []; made = emptyRecord; ever = emptyRecord; barred = λ a. false; bad = bad }
+
+abbrev pub pair : Shape
+pair = shapeOf (oneGroup 2 (9 ∷ [])) 0
 
 pub nothing-after-bad : map
     (λ bad.
-    possible laterRound (shapeOf 2 (9 ∷ [])) (groupOf (standing 7 1 1 ∷ standing 7 1 1 ∷ []) bad) release
-    ∷ possible laterRound (shapeOf 2 (9 ∷ [])) (groupOf (standing 7 1 1 ∷ standing 6 1 1 ∷ []) bad) (row 1)
-    ∷ atEnd laterRound (groupOf (standing 12 0 0 ∷ standing 12 0 0 ∷ []) bad)
-    ∷ next laterRound (shapeOf 2 (9 ∷ [])) (groupOf (standing 7 1 1 ∷ standing 7 1 1 ∷ []) bad) release .bad
+    own.possible laterRound pair (groupOf (standing 7 1 1 ∷ standing 7 1 1 ∷ []) bad) own.release
+    ∷ own.possible laterRound pair (groupOf (standing 7 1 1 ∷ standing 6 1 1 ∷ []) bad) (own.row 1)
+    ∷ own.atEnd laterRound (groupOf (standing 12 0 0 ∷ standing 12 0 0 ∷ []) bad)
+    ∷ own.next laterRound pair (groupOf (standing 7 1 1 ∷ standing 7 1 1 ∷ []) bad) own.release .bad
     ∷ [])
     (false ∷ true ∷ [])
     ≡ (true ∷ true ∷ true ∷ false ∷ []) ∷ (false ∷ false ∷ false ∷ true ∷ []) ∷ []
@@ -389,13 +395,13 @@ unfolding computing laterRound standing groupOf
 nothing-after-bad = refl
 
 -- A run has come to its end when all threads are behind the last row, not at it.
-pub behind-the-last-row : map (λ r. atEnd laterRound (groupOf (standing 12 0 0 ∷ standing r 0 0 ∷ []) false)) (0 ∷ 11 ∷ 12 ∷ []) ≡ false ∷ false ∷ true ∷ []
+pub behind-the-last-row : map (λ r. own.atEnd laterRound (groupOf (standing 12 0 0 ∷ standing r 0 0 ∷ []) false)) (0 ∷ 11 ∷ 12 ∷ []) ≡ false ∷ false ∷ true ∷ []
 unfolding computing laterRound standing groupOf
 behind-the-last-row = refl
 
 -- BARRIER is the one row of which a release is made.
-pub barrier-rows : map isBarrier (CALC SET ∷ MEM LOAD ∷ IF ∷ ELSE ∷ ENDIF ∷ WHILE ∷ ENDWHILE ∷ BARRIER ∷ UNKNOWN ∷ []) ≡
-    false ∷ false ∷ false ∷ false ∷ false ∷ false ∷ false ∷ true ∷ false ∷ []
+pub barrier-rows : map isBarrier (CALC SET ∷ MEM OWN LOAD ∷ MEM GLOBAL STORE ∷ IF ∷ ELSE ∷ ENDIF ∷ WHILE ∷ ENDWHILE ∷ BARRIER ∷ UNKNOWN ∷ []) ≡
+    false ∷ false ∷ false ∷ false ∷ false ∷ false ∷ false ∷ false ∷ true ∷ false ∷ []
 unfolding computing
 barrier-rows = refl
 
@@ -419,7 +425,7 @@ unfolding computing
 releases-counted = refl
 
 -- Of the moves of threads 0, 1, 2 and a release, each thread has its own alone, and thread 3 has none.
-pub own-moves : map (λ t. map (isMoveOf t) (row 0 ∷ row 1 ∷ row 2 ∷ release ∷ [])) (0 ∷ 1 ∷ 2 ∷ 3 ∷ []) ≡
+pub own-moves : map (λ t. map (isMoveOf 0 t) (row 0 ∷ row 1 ∷ row 2 ∷ release ∷ [])) (0 ∷ 1 ∷ 2 ∷ 3 ∷ []) ≡
     (true ∷ false ∷ false ∷ false ∷ [])
     ∷ (false ∷ true ∷ false ∷ false ∷ [])
     ∷ (false ∷ false ∷ true ∷ false ∷ [])
@@ -454,9 +460,9 @@ winding-runs = refl
 
 -- In both each thread makes as many moves as it has steps in lock step: 17, 12 and 15.
 unfoldable pub movesOfEach : List Move → List ℕ
-movesOfEach ms = map (λ t. many (isMoveOf t) ms) (0 ∷ 1 ∷ 2 ∷ [])
+movesOfEach ms = map (λ t. many (isMoveOf 0 t) ms) (0 ∷ 1 ∷ 2 ∷ [])
 
-pub moves-are-steps : movesOfEach oneByOne ∷ movesOfEach turnAbout ∷ lockstep winding 3 (7 ∷ 7 ∷ 7 ∷ []) 100 .state .steps ∷ [] ≡
+pub moves-are-steps : movesOfEach oneByOne ∷ movesOfEach turnAbout ∷ lockstep winding (oneGroup 3 (7 ∷ 7 ∷ 7 ∷ [])) (7 ∷ 7 ∷ 7 ∷ []) 100 .state .steps ∷ [] ≡
     replicate 3 (17 ∷ 12 ∷ 15 ∷ [])
 unfolding computing of winding byTurns oneByOne turnAbout movesOfEach
 moves-are-steps = refl
@@ -471,17 +477,24 @@ unfoldable pub short : Table
 short = rowOf 2 0 0 0 ∷ rowOf 37 0 0 0 ∷ []
 
 abbrev pub single : Shape
-single = record { threads = 1; cells = 2 }
+single = record { threads = 1; cells = 2; groups = 1; global = 0; group = 0 }
 
-pub a-run : Run (machine short single) (initialGroup short single (5 ∷ 6 ∷ [])) (row 0 ∷ release ∷ [])
+abbrev pub atStart : Table → Group
+atStart T = leaves T 1 (5 ∷ 6 ∷ []) []
+
+pub a-run : Run (machine short single) (atStart short) (own.row 0 ∷ own.release ∷ [])
 unfolding computing short
 a-run = (refl, (refl, tt))
 
-pub its-end : machine short single .Ended (after (machine short single) (initialGroup short single (5 ∷ 6 ∷ [])) (row 0 ∷ release ∷ []))
+pub its-end : machine short single .Ended (after (machine short single) (atStart short) (own.row 0 ∷ own.release ∷ []))
 unfolding computing short
 its-end = refl
 
-pub a-bad-end : machine straying single .Bad (after (machine straying single) (initialGroup straying single (5 ∷ 6 ∷ [])) (row 0 ∷ row 0 ∷ []))
+pub its-cells : shownTo (machine short single) tt (atStart short) (own.row 0 ∷ own.release ∷ []) ≡ (5 ∷ 6 ∷ []) ∷ []
+unfolding computing short
+its-cells = refl
+
+pub a-bad-end : machine straying single .Bad (after (machine straying single) (atStart straying) (own.row 0 ∷ own.row 0 ∷ []))
 unfolding computing straying
 a-bad-end = refl
 

@@ -57,6 +57,10 @@ agree equal adds reads = false
 agree equal adds writes = false
 agree equal adds adds = true
 
--- The conflict of two accesses that different threads make.
+-- The conflict of two accesses that different threads of a group make.
 unfoldable pub conflict : Access → Access → Bool
 conflict x y = eqb (x .cell) (y .cell) && not (agree (eqb (valueOf (x .kind)) (valueOf (y .kind))) (mode (x .kind)) (mode (y .kind)))
+
+-- Item 7: that of two accesses of a global cell by threads of different groups. Equal stores conflict too.
+unfoldable pub groupConflict : Access → Access → Bool
+groupConflict x y = eqb (x .cell) (y .cell) && not (agree false (mode (x .kind)) (mode (y .kind)))

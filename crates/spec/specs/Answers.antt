@@ -6,7 +6,7 @@ use mathlib.Core.List.{List, [], _∷_}
 pub use Rattle.spec.specs.declared.AccessKind.{AccessKind}
 pub use Rattle.spec.specs.declared.AccessKind.the-variants.{ReadWrite, WriteRead, WriteWrite, ReadAdd, AddRead, WriteAdd, AddWrite}
 pub use Rattle.spec.specs.declared.Verdict.{Verdict}
-pub use Rattle.spec.specs.declared.Verdict.the-variants.{Passed, Race, Outside, Diverged, Spent}
+pub use Rattle.spec.specs.declared.Verdict.the-variants.{Passed, Race, GroupRace, Outside, Diverged, Spent}
 pub use Rattle.spec.specs.declared.Outcome.{Outcome}
 pub use Rattle.spec.specs.declared.Refusal.{Refusal}
 pub use Rattle.spec.specs.declared.Refusal.the-variants.{TableLength, TooManyRows, UnknownOp, BadOperand, Misplaced, TooDeep, LeftOpen}
@@ -90,3 +90,12 @@ orElse (some r) y = some r
 unfoldable pub first : List (Option Refusal) → Option Refusal
 first [] = none
 first (x ∷ xs) = orElse x (first xs)
+
+-- Whether a verdict is passed.
+unfoldable pub isPassed : Verdict → Bool
+isPassed Passed = true
+isPassed (Race thread other kind at) = false
+isPassed (GroupRace thread group kind at) = false
+isPassed (Outside thread at) = false
+isPassed (Diverged thread other) = false
+isPassed Spent = false

@@ -5,28 +5,29 @@ use mathlib.Core.List.{List, [], _∷_, map}
 use mathlib.Core.Bool.{true, false}
 use mathlib.Core.Option.{some}
 use Prim.Native.Nat.{ℕ, _<_}
-use lib.ListN.{length, take}
+use lib.ListN.{take}
 use Rattle.spec.specs.Answers.{Answer, Written}
 use Rattle.spec.specs.declared.Answer.the-variants as answer
 use Rattle.spec.specs.declared.Written.the-variants as written
 use Rattle.spec.specs.Table.{rowsOf}
-use Rattle.spec.specs.LockStep.{countedBarriers}
-use Rattle.spec.specs.AllRuns.{EveryRunEndsWell, PassedSays, Demand3}
+use Rattle.spec.specs.Shape.{oneGroup}
+use Rattle.spec.specs.LaunchRun.{countedBarriers}
+use Rattle.spec.specs.AllRuns.{EveryRunEndsWell, countedInAll, PassedSays, Demand3}
 use Rattle.spec.specs.LaunchFile.{Launch, accepted, fileLaunch}
 use Rattle.spec.specs.Reading.{beginsWith, numbersAt, Readable}
-use Rattle.spec.specs.Entries.{subjectOf}
+use Rattle.spec.specs.Entries.{sizesOf, subjectOf}
 
 -- Of a bare launch: of the outcome that it answers, and of the cells and the step counts as the call leaves them. A refusal speaks of no run.
 abbrev pub BareDemand3 : (table : List ℕ) → (threads limit : ℕ) → (lentCells : List ℕ) → Answer → (left counts : List ℕ) → Type 0
 BareDemand3 table threads limit lentCells (answer.Refused why) left counts = Unit {0}
-BareDemand3 table threads limit lentCells (answer.Ran o) left counts = Demand3 (rowsOf table) threads lentCells limit o (take threads counts) left
+BareDemand3 table threads limit lentCells (answer.Ran o) left counts = Demand3 (rowsOf table) (oneGroup threads lentCells) lentCells limit o (take threads counts) left
 
--- Every run of a launch ends well; the cells at its counted barriers.
+-- Every run of a launch ends well; each group's own cells at its counted barriers.
 abbrev pub RunsEndWell : Launch → Type 0
-RunsEndWell launch = EveryRunEndsWell (launch .table) (launch .threads) (launch .cells)
+RunsEndWell launch = EveryRunEndsWell (launch .table) (sizesOf launch) (launch .cells)
 
-abbrev pub countedIn : Launch → List (List ℕ)
-countedIn launch = countedBarriers (launch .table) (launch .threads) (launch .cells) (launch .limit)
+abbrev pub countedIn : Launch → List (List (List ℕ))
+countedIn launch = countedBarriers (launch .table) (sizesOf launch) (launch .cells) (launch .limit)
 
 -- What a report that begins with `verdict=passed` says of its launch: every run ends well, and what its own lines say is what every run comes to.
 pub record PassedReport (launch : Launch) (report : List ℕ) : Type 0 where
@@ -37,7 +38,7 @@ pub record PassedReport (launch : Launch) (report : List ℕ) : Type 0 where
   pub barriersLine : numbersAt "barriers" report ≡ some barriers ∷ []
   pub cellLines : numbersAt "cell" report ≡ map some final
   pub runs : RunsEndWell launch
-  pub says : PassedSays (launch .table) (launch .threads) (launch .cells) steps barriers final (countedIn launch)
+  pub says : PassedSays (launch .table) (sizesOf launch) (launch .cells) steps barriers final (countedIn launch)
 
 -- Of the bytes of a file's report.
 pub record ReportDemand3 (file report : List ℕ) : Type 0 where
@@ -47,7 +48,7 @@ pub record ReportDemand3 (file report : List ℕ) : Type 0 where
   pub exactly : (launch : Launch) → fileLaunch file ≡ accepted launch → beginsWith "verdict=spent" report ≡ false
       → beginsWith "verdict=passed" report ≡ true ↔ RunsEndWell launch
   -- there are as many counted barriers as the `barriers=` line says, and spent is said only where the `rows=` line says the limit
-  pub counted : (launch : Launch) → fileLaunch file ≡ accepted launch → numbersAt "barriers" report ≡ some (length (countedIn launch)) ∷ []
+  pub counted : (launch : Launch) → fileLaunch file ≡ accepted launch → numbersAt "barriers" report ≡ some (countedInAll (countedIn launch)) ∷ []
   pub spent : (launch : Launch) → fileLaunch file ≡ accepted launch → beginsWith "verdict=spent" report ≡ true
       → numbersAt "rows" report ≡ some (launch .limit) ∷ []
 

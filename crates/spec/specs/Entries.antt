@@ -15,7 +15,9 @@ use Rattle.spec.specs.declared.Subject.the-variants as subject
 use Rattle.spec.specs.Table.{rowsOf}
 use Rattle.spec.specs.TableCheck.{tableRefusal}
 use Rattle.spec.specs.Log.{logWords}
-use Rattle.spec.specs.LockStep.{LockResult, lockstep, outcomeOf}
+use Rattle.spec.specs.Shape.{Sizes, oneGroup}
+use Rattle.spec.specs.LockStep.{LockResult, outcomeOf}
+use Rattle.spec.specs.LaunchRun.{lockstep}
 use Rattle.spec.specs.Intervals.{Interval, intervalRecords, recordWords, conflictsOf}
 use Rattle.spec.specs.LaunchFile.{Launch, Checked, refused, accepted, unlessRefused, fileLaunch}
 use Rattle.spec.specs.Report.{runReport, refusalReport, reportOf}
@@ -53,11 +55,11 @@ bareRefusal table threads cells limit lentCells lentLog lentRecords =
 
 -- The run that an accepted bare launch makes: the lent cells are the launch's.
 unfoldable pub bareRun : (table : List ℕ) → (threads limit : ℕ) → (lentCells : List ℕ) → LockResult
-bareRun table threads limit lentCells = lockstep (rowsOf table) threads lentCells limit
+bareRun table threads limit lentCells = lockstep (rowsOf table) (oneGroup threads lentCells) lentCells limit
 
 -- The records of its intervals, and what it comes to.
 unfoldable pub bareIntervals : (table : List ℕ) → (threads limit : ℕ) → (lentCells : List ℕ) → List Interval
-bareIntervals table threads limit lentCells = intervalRecords (rowsOf table) threads lentCells limit
+bareIntervals table threads limit lentCells = intervalRecords (rowsOf table) (oneGroup threads lentCells) lentCells limit
 
 unfoldable pub bareOutcome : (table : List ℕ) → (threads limit : ℕ) → (lentCells : List ℕ) → Outcome
 bareOutcome table threads limit lentCells =
@@ -145,11 +147,14 @@ checkedRefusal (refused r) = some r
 checkedRefusal (accepted launch) = none
 
 -- The run of an accepted launch, its intervals, what it comes to, and its report.
+abbrev pub sizesOf : Launch → Sizes
+sizesOf launch = oneGroup (launch .threads) (launch .cells)
+
 unfoldable pub launchRun : Launch → LockResult
-launchRun launch = lockstep (launch .table) (launch .threads) (launch .cells) (launch .limit)
+launchRun launch = lockstep (launch .table) (sizesOf launch) (launch .cells) (launch .limit)
 
 unfoldable pub launchIntervals : Launch → List Interval
-launchIntervals launch = intervalRecords (launch .table) (launch .threads) (launch .cells) (launch .limit)
+launchIntervals launch = intervalRecords (launch .table) (sizesOf launch) (launch .cells) (launch .limit)
 
 unfoldable pub launchOutcome : Launch → Outcome
 launchOutcome launch = outcomeOf (launchRun launch) (conflictsOf (launchIntervals launch))

@@ -5,13 +5,15 @@ use Prim.Native.Nat.{ℕ, zero, suc, _+_, _-_}
 use lib.Dec.{leb, ltb}
 use lib.ListN.{length}
 use Rattle.spec.specs.Limits.{maxRecords}
-use Rattle.spec.specs.Op.{Op, CALC, Mem, MEM, IF, ELSE, ENDIF, WHILE, ENDWHILE, BARRIER, UNKNOWN}
+use Rattle.spec.specs.Op.{Op, CALC, OWN, GLOBAL, Mem, MEM, IF, ELSE, ENDIF, WHILE, ENDWHILE, BARRIER, UNKNOWN}
 use Rattle.spec.specs.Table.{Table, Row, rowAt, cellByte}
-use Rattle.spec.specs.Shape.{Shape, shapeOf}
+use Rattle.spec.specs.Lists.{joined}
+use Rattle.spec.specs.Shape.{Sizes, Shape}
 use Rattle.spec.specs.Mask.{members}
 use Rattle.spec.specs.Steps.{sum}
 use Rattle.spec.specs.Banks.{conflictCost}
-use Rattle.spec.specs.LockStep.{LockState, Step, continues, stops, initialState, reg, runRow}
+use Rattle.spec.specs.LockStep.{LockState, Step, continues, stops, reg, runRow}
+use Rattle.spec.specs.LaunchRun.{rowsLeft, groupRuns}
 
 -- The row due at its start, which is the number of rows at the table's end; the rows run in it; what they cost.
 pub record Interval : Type 0 where
@@ -23,10 +25,11 @@ pub record Interval : Type 0 where
 unfoldable pub usedCells : Mem → Row → LockState → List ℕ
 usedCells m x s = map (λ t. reg s t (cellByte m x)) (members (s .enabled))
 
--- What a row costs that is finished. Only LOAD, STORE and ATOMIC ADD use cells.
+-- What a row costs that is finished. Only LOAD, STORE and ATOMIC ADD use cells; item 7: global cells cost nothing.
 unfoldable pub rowCost : Row → LockState → Op → ℕ
 rowCost x s (CALC c) = 0
-rowCost x s (MEM m) = conflictCost (usedCells m x s)
+rowCost x s (MEM OWN m) = conflictCost (usedCells m x s)
+rowCost x s (MEM GLOBAL m) = 0
 rowCost x s IF = 0
 rowCost x s ELSE = 0
 rowCost x s ENDIF = 0
@@ -81,9 +84,10 @@ recordsOf k [] = []
 recordsOf zero (i ∷ is) = together i is ∷ []
 recordsOf (suc k) (i ∷ is) = i ∷ recordsOf k is
 
--- The records of a launch: n threads, these cells, at most `limit` rows. The first interval starts at the launch.
-unfoldable pub intervalRecords : Table → (n : ℕ) → (cells : List ℕ) → (limit : ℕ) → List Interval
-intervalRecords T n cells limit = recordsOf (maxRecords - 1) (allOf (intervalsFrom T (shapeOf n cells) limit (initialState n cells)))
+-- The records of a launch. An interval starts at the launch, at each release and, item 7, with each later group.
+unfoldable pub intervalRecords : Table → Sizes → (cells : List ℕ) → (limit : ℕ) → List Interval
+intervalRecords T Z cells limit =
+    recordsOf (maxRecords - 1) (joined (map (λ u. allOf (intervalsFrom T (u .shape) (rowsLeft limit u) (u .start))) (groupRuns T Z cells limit)))
 
 -- Three words a record.
 unfoldable pub recordWords : List Interval → List ℕ

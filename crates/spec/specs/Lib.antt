@@ -10,12 +10,15 @@ pub mod TableCheck
 pub mod Mask
 pub mod Shape
 pub mod Log
+pub mod GroupLog
 pub mod Steps
 pub mod LockStep
+pub mod LaunchRun
 pub mod Banks
 pub mod Intervals
 pub mod Runs
 pub mod Threads
+pub mod LaunchThreads
 pub mod AllRuns
 pub mod Text
 pub mod LaunchFile
@@ -29,4 +32,5 @@ pub mod ShiftExamples
 pub mod StepExamples
 pub mod ConflictExamples
 pub mod StoreExamples
+pub mod GroupExamples
 pub mod Demands

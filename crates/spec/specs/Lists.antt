@@ -1,7 +1,7 @@
 -- Tests on lists, and lists put together. Assumes nothing.
 use mathlib.Core.List.{List, [], _∷_, _++_}
-use mathlib.Core.Bool.{Bool, true, false, _&&_, _||_}
-use Prim.Native.Nat.{ℕ}
+use mathlib.Core.Bool.{Bool, true, false, cond, _&&_, _||_}
+use Prim.Native.Nat.{ℕ, suc}
 use lib.Dec.{eqb}
 
 -- Some element passes the test; every element does.
@@ -23,3 +23,13 @@ equalList (x ∷ xs) (y ∷ ys) = eqb x y && equalList xs ys
 unfoldable pub joined : {A : Type 0} → List (List A) → List A
 joined [] = []
 joined (xs ∷ xss) = xs ++ joined xss
+
+-- From place i on, f of the elements at whose place p holds; the others as they are.
+unfoldable pub mapWhere : {A : Type 0} → (p : ℕ → Bool) → (A → A) → (i : ℕ) → List A → List A
+mapWhere p f i [] = []
+mapWhere p f i (x ∷ xs) = cond (p i) (f x) x ∷ mapWhere p f (suc i) xs
+
+-- The last element; d where there is none.
+unfoldable pub lastOf : {A : Type 0} → (d : A) → List A → A
+lastOf d [] = d
+lastOf d (x ∷ xs) = lastOf x xs

@@ -1,17 +1,18 @@
--- The lock-step run: predicated execution of all threads at one row. "The lock-step run". Assumes nothing.
+-- The lock-step run of a group: predicated execution of all its threads at one row. "The lock-step run"; item 7. Assumes nothing.
 use mathlib.Core.List.{List, [], _∷_, _++_, map}
 use mathlib.Core.Bool.{true, false, cond, not}
 use Prim.Native.Nat.{ℕ, zero, suc}
 use lib.Dec.{eqb, leb, ltb}
 use lib.ListN.{length, getD, set, replicate}
 use Rattle.spec.specs.Limits.{registers}
-use Rattle.spec.specs.Answers.{Verdict, Passed, Race, Outside, Diverged, Spent, Outcome}
+use Rattle.spec.specs.Answers.{Verdict, Passed, Race, GroupRace, Outside, Diverged, Spent, Outcome}
 use Rattle.spec.specs.Access.{Kind, cellAfter, registersAfter}
-use Rattle.spec.specs.Op.{Op, CALC, Mem, MEM, IF, ELSE, ENDIF, WHILE, ENDWHILE, BARRIER, UNKNOWN, value}
+use Rattle.spec.specs.Op.{Op, CALC, Space, OWN, GLOBAL, Mem, MEM, IF, ELSE, ENDIF, WHILE, ENDWHILE, BARRIER, UNKNOWN, value}
 use Rattle.spec.specs.Table.{Table, Row, rowAt, cellByte, kindOf, endOf}
-use Rattle.spec.specs.Shape.{Shape, shapeOf, bound, address}
+use Rattle.spec.specs.Shape.{Sizes, Shape, bound, address, reaches}
 use Rattle.spec.specs.Mask.{Mask, members, any, full, minus, lowest, holding}
 use Rattle.spec.specs.Log.{Log, emptyLog, cleared, logged, conflictMask, raceKind}
+use Rattle.spec.specs.GroupLog.{GroupLog, emptyGroupLog, groupLogged, groupConflictMask, groupRaceKind}
 use Rattle.spec.specs.Steps.{stepped, allStepped}
 
 -- The mask saved for an open construct, with the construct's row: that of its IF or WHILE, or of its ELSE once that is behind.
@@ -19,7 +20,8 @@ pub record Saved : Type 0 where
   pub opener : ℕ
   pub mask : Mask
 
--- The state: `saved` has the innermost construct first, `regs` has each thread's registers, `steps` each thread's count of steps.
+-- The state: `saved` has the innermost construct first, `regs` has each thread's registers, `steps` each thread's count of steps. Threads are those of
+-- the group that runs; cells and log are the launch's, and `rows` and `barriers` count for all groups.
 pub record LockState : Type 0 where
   pub row : ℕ
   pub enabled : Mask
@@ -27,22 +29,24 @@ pub record LockState : Type 0 where
   pub regs : List (List ℕ)
   pub cells : List ℕ
   pub log : Log
+  pub groupLog : GroupLog
   pub rows : ℕ
   pub steps : List ℕ
   pub barriers : ℕ
 
 -- Start: row 0, all threads enabled, registers and log zero, counts 0.
-unfoldable pub initialState : ℕ → List ℕ → LockState
-initialState n cells =
+unfoldable pub initialState : Sizes → List ℕ → LockState
+initialState Z cells =
     record {
       row = 0;
-      enabled = replicate n true;
+      enabled = replicate (Z .threads) true;
       saved = [];
-      regs = replicate n (replicate registers 0);
+      regs = replicate (Z .threads) (replicate registers 0);
       cells = cells;
-      log = emptyLog n (length cells);
+      log = emptyLog (Z .threads) (length cells);
+      groupLog = emptyGroupLog (Z .groups) (length cells);
       rows = 0;
-      steps = replicate n 0;
+      steps = replicate (Z .threads) 0;
       barriers = 0;
     }
 
@@ -70,6 +74,7 @@ advance r m saved s =
       regs = s .regs;
       cells = s .cells;
       log = s .log;
+      groupLog = s .groupLog;
       rows = suc (s .rows);
       steps = s .steps;
       barriers = s .barriers;
@@ -85,6 +90,7 @@ update s regs cells log steps =
       regs = regs;
       cells = cells;
       log = log;
+      groupLog = s .groupLog;
       rows = s .rows;
       steps = steps;
       barriers = s .barriers;
@@ -101,25 +107,52 @@ setReg s t d v = update s (set (s .regs) t (set (getD (s .regs) t []) d v)) (s .
 unfoldable pub computeTurn : Row → (ℕ → ℕ → ℕ → ℕ) → LockState → ℕ → Step
 computeTurn x f s t = continues (setReg s t (x .d) (f t (reg s t (x .a)) (reg s t (x .b))))
 
--- Thread t's access of the cell at c, made and logged: one step.
-unfoldable pub madeAccess : LockState → (t d c : ℕ) → Kind → LockState
+-- Thread t's access of the cell at i, made and logged: one step.
+unfoldable pub madeAccess : LockState → (t d i : ℕ) → Kind → LockState
 unfolding update
-madeAccess s t d c k =
-    let old = getD (s .cells) c 0 in
-    update s (set (s .regs) t (registersAfter k d old (getD (s .regs) t []))) (set (s .cells) c (cellAfter k old)) (logged (s .log) c t k)
+madeAccess s t d i k =
+    let old = getD (s .cells) i 0 in
+    update s (set (s .regs) t (registersAfter k d old (getD (s .regs) t []))) (set (s .cells) i (cellAfter k old)) (logged (s .log) i t k)
     (stepped (s .steps) t)
 
--- It races where the conflict mask has a thread, and is then neither made nor logged; the lowest thread of the mask is named.
-unfoldable pub tryAccess : LockState → (t d c : ℕ) → Kind → Step
-tryAccess s t d c k =
-    let others = conflictMask (s .log) c t k in
-    cond (any others) (stops (Race t (lowest others) (raceKind (s .log) c (lowest others) k) c) s) (continues (madeAccess s t d c k))
+-- Item 7: an access of a global cell also enters its group.
+unfoldable pub enterGroup : Space → (g i : ℕ) → Kind → LockState → LockState
+enterGroup OWN g i k s = s
+enterGroup GLOBAL g i k s =
+    record {
+      row = s .row;
+      enabled = s .enabled;
+      saved = s .saved;
+      regs = s .regs;
+      cells = s .cells;
+      log = s .log;
+      groupLog = groupLogged (s .groupLog) i g k;
+      rows = s .rows;
+      steps = s .steps;
+      barriers = s .barriers;
+    }
+
+-- Item 7: the other groups that an access conflicts with. Own cells are out of their reach.
+unfoldable pub rivals : Space → LockState → (g i : ℕ) → Kind → Mask
+rivals OWN s g i k = []
+rivals GLOBAL s g i k = groupConflictMask (s .groupLog) i g k
+
+-- An access of cell c races where the conflict mask has a thread, or else the rivals have a group, and is then neither made nor logged; the lowest
+-- thread of its own group is named, or else the lowest group.
+unfoldable pub tryAccess : Shape → Space → LockState → (t d c : ℕ) → Kind → Step
+tryAccess L p s t d c k =
+    let i = address L p c in
+    let others = conflictMask (s .log) i t k in
+    let groups = rivals p s (L .group) i k in
+    cond (any others) (stops (Race t (lowest others) (raceKind (s .log) i (lowest others) k) c) s)
+    (cond (any groups) (stops (GroupRace t (lowest groups) (groupRaceKind (s .groupLog) i (lowest groups) k) c) s)
+    (continues (enterGroup p (L .group) i k (madeAccess s t d i k))))
 
 -- LOAD, STORE and ATOMIC ADD for thread t: a number not below the cell count is outside, which is told before a race.
-unfoldable pub accessTurn : Shape → Mem → Row → LockState → ℕ → Step
-accessTurn L m x s t =
+unfoldable pub accessTurn : Shape → Space → Mem → Row → LockState → ℕ → Step
+accessTurn L p m x s t =
     let c = reg s t (cellByte m x) in
-    cond (leb (bound L m) c) (stops (Outside t c) s) (tryAccess s t (x .d) (address L m c) (kindOf m (reg s t (x .a))))
+    cond (leb (bound L p) c) (stops (Outside t c) s) (tryAccess L p s t (x .d) c (kindOf m (reg s t (x .a))))
 
 -- Each enabled thread takes its turn, lowest first, and the run goes on at the next row.
 unfoldable pub forEnabled : (LockState → ℕ → Step) → LockState → Step
@@ -173,38 +206,39 @@ whileRow T x s = leaveOrStay T (countSteps (s .enabled) s) (savedAtWhile (s .row
 unfoldable pub endwhileRow : LockState → LockState
 endwhileRow s = advance (topOpener (s .saved)) (s .enabled) (s .saved) (countSteps (s .enabled) s)
 
--- All pass a BARRIER: the log is cleared and barriers grows by 1.
-unfoldable pub passBarrier : LockState → LockState
-passBarrier s =
+-- All pass a BARRIER: the log of the cells that they can name is cleared and barriers grows by 1. The group masks stay.
+unfoldable pub passBarrier : Shape → LockState → LockState
+passBarrier L s =
     record {
       row = suc (s .row);
       enabled = s .enabled;
       saved = s .saved;
       regs = s .regs;
       cells = s .cells;
-      log = cleared (s .log);
+      log = cleared (reaches L) (s .log);
+      groupLog = s .groupLog;
       rows = suc (s .rows);
       steps = s .steps;
       barriers = suc (s .barriers);
     }
 
 -- BARRIER adds no steps. Nobody enabled: nothing. All enabled: they pass. Else the run has diverged.
-unfoldable pub barrierRow : LockState → Step
-barrierRow s =
+unfoldable pub barrierRow : Shape → LockState → Step
+barrierRow L s =
     cond (any (s .enabled))
-    (cond (full (s .enabled)) (continues (passBarrier s)) (stops (Diverged (lowest (s .enabled)) (lowest (map not (s .enabled)))) s))
+    (cond (full (s .enabled)) (continues (passBarrier L s)) (stops (Diverged (lowest (s .enabled)) (lowest (map not (s .enabled)))) s))
     (continues (advance (suc (s .row)) (s .enabled) (s .saved) s))
 
 -- One row, by its op. UNKNOWN is never come to in a table that is accepted.
 unfoldable pub runRow : Table → Shape → Row → LockState → Op → Step
 runRow T L x s (CALC c) = forEnabled (computeTurn x (λ t p q. value c (L .threads) t (x .a) (x .b) p q)) s
-runRow T L x s (MEM m) = forEnabled (accessTurn L m x) s
+runRow T L x s (MEM p m) = forEnabled (accessTurn L p m x) s
 runRow T L x s IF = continues (ifRow x s)
 runRow T L x s ELSE = continues (elseRow s)
 runRow T L x s ENDIF = continues (endifRow s)
 runRow T L x s WHILE = continues (whileRow T x s)
 runRow T L x s ENDWHILE = continues (endwhileRow s)
-runRow T L x s BARRIER = barrierRow s
+runRow T L x s BARRIER = barrierRow L s
 runRow T L x s UNKNOWN = continues (advance (suc (s .row)) (s .enabled) (s .saved) s)
 
 -- How a run ended: its verdict and the state as it then stands.
@@ -225,16 +259,12 @@ runFrom T L (suc left) s =
       | false ↦ resultOf (runRow T L (rowAt T (s .row)) s (rowAt T (s .row) .op)) (runFrom T L left)
     ]
 
--- The lock-step run of a launch: n threads, these cells, at most `limit` rows.
-unfoldable pub lockstep : Table → (n : ℕ) → (cells : List ℕ) → (limit : ℕ) → LockResult
-lockstep T n cells limit = runFrom T (shapeOf n cells) limit (initialState n cells)
-
 -- What a report says of it beside the steps and the cells, `conflicts` being what its rows cost. The row is where it stopped; for spent, the row due.
 unfoldable pub outcomeOf : LockResult → (conflicts : ℕ) → Outcome
 outcomeOf o conflicts =
     record { verdict = o .verdict; row = o .state .row; rows = o .state .rows; barriers = o .state .barriers; conflicts = conflicts }
 
--- The counted barriers, BARRIER rows at which barriers grows: the cells just before each, in their order.
+-- The counted barriers of a group, BARRIER rows at which barriers grows: the cells just before each, in their order.
 unfoldable pub countedAt : (before after : LockState) → List (List ℕ)
 countedAt s z = cond (ltb (s .barriers) (z .barriers)) (s .cells ∷ []) []
 
@@ -249,6 +279,3 @@ countedFrom T L (suc left) s =
       | true ↦ []
       | false ↦ countedAfter s (runRow T L (rowAt T (s .row)) s (rowAt T (s .row) .op)) (countedFrom T L left)
     ]
-
-unfoldable pub countedBarriers : Table → (n : ℕ) → (cells : List ℕ) → (limit : ℕ) → List (List ℕ)
-countedBarriers T n cells limit = countedFrom T (shapeOf n cells) limit (initialState n cells)

@@ -7,7 +7,7 @@ use Prim.Native.Nat.{ℕ, suc, _%_}
 use lib.Dec.{eqb, ltb}
 use lib.ListN.{getD, set, replicate}
 use Rattle.spec.specs.Answers.{AccessKind, ReadWrite, WriteRead, WriteWrite, ReadAdd, AddRead, WriteAdd, AddWrite}
-use Rattle.spec.specs.Lists.{joined}
+use Rattle.spec.specs.Lists.{joined, mapWhere}
 use Rattle.spec.specs.Mask.{Mask, maskWord, has, any, union}
 use Rattle.spec.specs.Access.{Kind, load, store, atomicAdd, valueOf, Mode, reads, writes, adds, mode, agree}
 
@@ -45,15 +45,15 @@ emptyLog n cells =
 unfoldable pub nobody : Mask → Mask
 nobody m = map (λ b. false) m
 
--- At a barrier all masks are cleared, and the values and marks with them.
-unfoldable pub cleared : Log → Log
-cleared G =
+-- The masks of the cells for which p holds are cleared, and their values and marks with them; the other cells keep theirs.
+unfoldable pub cleared : (p : ℕ → Bool) → Log → Log
+cleared p G =
     record {
-      readers = map nobody (G .readers);
-      writers = map nobody (G .writers);
-      adders = map nobody (G .adders);
-      values = map (λ v. 0) (G .values);
-      marks = map (λ b. false) (G .marks);
+      readers = mapWhere p nobody 0 (G .readers);
+      writers = mapWhere p nobody 0 (G .writers);
+      adders = mapWhere p nobody 0 (G .adders);
+      values = mapWhere p (λ v. 0) 0 (G .values);
+      marks = mapWhere p (λ b. false) 0 (G .marks);
     }
 
 -- Word j of the log of k cells is one of cell j % k, since each kind has one word a cell. From word j on, the words of cells for which p holds are 0,
@@ -111,8 +111,12 @@ testedMask G c k = union (conflicting G c writes k) (union (conflicting G c adds
 unfoldable pub conflictMask : Log → (c t : ℕ) → Kind → Mask
 conflictMask G c t k = set (testedMask G c k) t false
 
--- The kind of a race with thread u, the other's letter first: of the modes by which u conflicts with the access, w before a before r.
+-- The kind of a race, the other's letter first: of the modes by which the other conflicts with the access, w before a before r.
+unfoldable pub shownKind : (wrote added : Bool) → Mode → AccessKind
+shownKind wrote added reads = cond wrote WriteRead AddRead
+shownKind wrote added writes = cond wrote WriteWrite (cond added AddWrite ReadWrite)
+shownKind wrote added adds = cond wrote WriteAdd ReadAdd
+
+-- The kind of a race with thread u.
 unfoldable pub raceKind : Log → (c u : ℕ) → Kind → AccessKind
-raceKind G c u load = cond (has (conflicting G c writes load) u) WriteRead AddRead
-raceKind G c u (store v) = cond (has (conflicting G c writes (store v)) u) WriteWrite (cond (has (conflicting G c adds (store v)) u) AddWrite ReadWrite)
-raceKind G c u (atomicAdd v) = cond (has (conflicting G c writes (atomicAdd v)) u) WriteAdd ReadAdd
+raceKind G c u k = shownKind (has (conflicting G c writes k) u) (has (conflicting G c adds k) u) (mode k)

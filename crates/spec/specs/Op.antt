@@ -12,14 +12,18 @@ use Rattle.spec.specs.Word.{add, sub, mul, shr, sar, equal, less, signed
 pub data Calc : Type 0 where
   SET TID COUNT ADD SUB MUL AND OR XOR SHR SAR EQ LT SLT : Calc
 
--- Ops that access a cell.
+-- Where an access has its cell: among those of its group, or among the global ones. Item 7.
+pub data Space : Type 0 where
+  OWN GLOBAL : Space
+
+-- What it does there.
 pub data Mem : Type 0 where
   LOAD STORE ATOMICADD : Mem
 
 -- UNKNOWN stands for every byte that is no op. A table that has one is refused, so no run comes to it.
 pub data Op : Type 0 where
   CALC : Calc → Op
-  MEM : Mem → Op
+  MEM : Space → Mem → Op
   IF ELSE ENDIF WHILE ENDWHILE BARRIER UNKNOWN : Op
 
 -- The op of each of the 256 byte values.
@@ -27,7 +31,7 @@ unfoldable pub opTable : List Op
 opTable =
     UNKNOWN ∷ CALC SET ∷ CALC TID ∷ CALC COUNT ∷ CALC ADD ∷ CALC SUB ∷ CALC MUL ∷ CALC AND
     ∷ CALC OR ∷ CALC XOR ∷ CALC SHR ∷ CALC SAR ∷ CALC EQ ∷ CALC LT ∷ CALC SLT ∷ UNKNOWN
-    ∷ MEM LOAD ∷ MEM STORE ∷ MEM ATOMICADD ∷ replicate 13 UNKNOWN
+    ∷ MEM OWN LOAD ∷ MEM OWN STORE ∷ MEM OWN ATOMICADD ∷ replicate 13 UNKNOWN
     ++ (IF ∷ ELSE ∷ ENDIF ∷ WHILE ∷ ENDWHILE ∷ BARRIER ∷ replicate 218 UNKNOWN)
 
 unfoldable pub opOf : ℕ → Op
@@ -52,9 +56,7 @@ form (CALC SAR) = dabForm
 form (CALC EQ) = dabForm
 form (CALC LT) = dabForm
 form (CALC SLT) = dabForm
-form (MEM LOAD) = daForm
-form (MEM STORE) = daForm
-form (MEM ATOMICADD) = daForm
+form (MEM p m) = daForm
 form IF = aForm
 form ELSE = noForm
 form ENDIF = noForm

@@ -1,13 +1,13 @@
 -- A report read from its bytes, line by line, as a loader reads it. "The launch file and the report". Assumes nothing.
 use mathlib.Core.Path.{_≡_}
 use mathlib.Core.List.{List, [], _∷_, _++_}
-use mathlib.Core.Bool.{Bool, true, false, cond, _&&_}
+use mathlib.Core.Bool.{Bool, false, cond, _&&_}
 use mathlib.Core.Option.{Option, none, some}
 use Prim.Native.Nat.{ℕ, _<_}
 use Prim.Native.String.{String}
 use lib.Dec.{eqb}
 use lib.ListN.{length, take}
-use Rattle.spec.specs.Answers.{Verdict, Passed, Race, Outside, Diverged, Spent, Subject}
+use Rattle.spec.specs.Answers.{Subject, isPassed}
 use Rattle.spec.specs.declared.Subject.the-variants as subject
 use Rattle.spec.specs.Lists.{anyOf, equalList}
 use Rattle.spec.specs.Text.{text, newline, equals, isNumber, digitsValue, Halves, splitAt}
@@ -58,13 +58,6 @@ pub record EndsOnce (report : List ℕ) : Type 0 where
   pub whole : (k : ℕ) → k < length report → hasLine "end=report" (take k report) ≡ false
 
 -- Whether it is a run that has passed.
-unfoldable pub isPassed : Verdict → Bool
-isPassed Passed = true
-isPassed (Race thread other kind at) = false
-isPassed (Outside thread at) = false
-isPassed (Diverged thread other) = false
-isPassed Spent = false
-
 unfoldable pub hasPassed : Subject → Bool
 hasPassed (subject.Ran o) = isPassed (o .verdict)
 hasPassed (subject.Refused number place) = false

@@ -3,7 +3,7 @@ use mathlib.Core.List.{List, [], _∷_, _++_, map}
 use Prim.Native.Nat.{ℕ}
 use Prim.Native.String.{String}
 use Rattle.spec.specs.Answers.{AccessKind, ReadWrite, WriteRead, WriteWrite, ReadAdd, AddRead, WriteAdd, AddWrite}
-use Rattle.spec.specs.Answers.{Verdict, Passed, Race, Outside, Diverged, Spent, Outcome, Subject, Value, Details}
+use Rattle.spec.specs.Answers.{Verdict, Passed, Race, GroupRace, Outside, Diverged, Spent, Outcome, Subject, Value, Details}
 use Rattle.spec.specs.declared.Subject.the-variants as subject
 use Rattle.spec.specs.declared.Value.the-variants as value
 use Rattle.spec.specs.Text.{text, newline, equals, hyphen, decimal}
@@ -12,6 +12,7 @@ use Rattle.spec.specs.Text.{text, newline, equals, hyphen, decimal}
 unfoldable pub verdictText : Verdict → List ℕ
 verdictText Passed = text "passed"
 verdictText (Race thread other kind at) = text "race"
+verdictText (GroupRace thread group kind at) = text "race"
 verdictText (Outside thread at) = text "outside"
 verdictText (Diverged thread other) = text "diverged"
 verdictText Spent = text "spent"
@@ -61,6 +62,7 @@ details row thread other kind at = record { row = row; thread = thread; other = 
 unfoldable pub detailsOf : Verdict → (row : ℕ) → Details
 detailsOf Passed row = details value.Hyphen value.Hyphen value.Hyphen value.Hyphen value.Hyphen
 detailsOf (Race thread other kind at) row = details (value.Number row) (value.Number thread) (value.Number other) (value.Kind kind) (value.Number at)
+detailsOf (GroupRace thread group kind at) row = details (value.Number row) (value.Number thread) value.Hyphen (value.Kind kind) (value.Number at)
 detailsOf (Outside thread at) row = details (value.Number row) (value.Number thread) value.Hyphen value.Hyphen (value.Number at)
 detailsOf (Diverged thread other) row = details (value.Number row) (value.Number thread) (value.Number other) value.Hyphen value.Hyphen
 detailsOf Spent row = details (value.Number row) value.Hyphen value.Hyphen value.Hyphen value.Hyphen

@@ -53,7 +53,7 @@ pub data Role : Type 0 where
 
 unfoldable pub role : Op → Role
 role (CALC c) = plain
-role (MEM m) = plain
+role (MEM p m) = plain
 role IF = opening
 role ELSE = dividing
 role ENDIF = closing
@@ -93,7 +93,7 @@ endOf T r = scan false (drop (suc r) T) 0 (suc r)
 -- Where the IF of row r goes if it is false: the row after its ELSE, or its ENDIF where it has no ELSE.
 unfoldable pub pastElse : Op → ℕ → ℕ
 pastElse (CALC c) r = r
-pastElse (MEM m) r = r
+pastElse (MEM p m) r = r
 pastElse IF r = r
 pastElse ELSE r = suc r
 pastElse ENDIF r = r
@@ -117,7 +117,7 @@ innermost T (o ∷ os) = rowAt T o .op
 -- A row is known, and where it is an ELSE or an end it fits the innermost open construct.
 abbrev pub Fits : Op → (innermost : Op) → Type 0
 Fits (CALC c) i = Unit {0}
-Fits (MEM m) i = Unit {0}
+Fits (MEM p m) i = Unit {0}
 Fits IF i = Unit {0}
 Fits ELSE i = i ≡ IF
 Fits ENDIF i = (i ≡ IF) ⊎ (i ≡ ELSE)

@@ -22,7 +22,7 @@ opener (inLoop o) = o
 -- 3: the op is known.
 unfoldable pub isKnown : Op → Bool
 isKnown (CALC c) = true
-isKnown (MEM m) = true
+isKnown (MEM p m) = true
 isKnown IF = true
 isKnown ELSE = true
 isKnown ENDIF = true
@@ -52,7 +52,7 @@ endwhileFits (inLoop o ∷ os) = true
 
 unfoldable pub fits : Op → List Open → Bool
 fits (CALC c) os = true
-fits (MEM m) os = true
+fits (MEM p m) os = true
 fits IF os = true
 fits ELSE os = elseFits os
 fits ENDIF os = endifFits os
@@ -64,7 +64,7 @@ fits UNKNOWN os = true
 -- 6: an IF or a WHILE opens at most the eighth construct.
 unfoldable pub shallow : Op → List Open → Bool
 shallow (CALC c) os = true
-shallow (MEM m) os = true
+shallow (MEM p m) os = true
 shallow IF os = ltb (length os) maxNesting
 shallow ELSE os = true
 shallow ENDIF os = true
@@ -80,7 +80,7 @@ divided (o ∷ os) = inElse (opener o) ∷ os
 
 unfoldable pub openAfter : Op → ℕ → List Open → List Open
 openAfter (CALC c) r os = os
-openAfter (MEM m) r os = os
+openAfter (MEM p m) r os = os
 openAfter IF r os = inThen r ∷ os
 openAfter ELSE r os = divided os
 openAfter ENDIF r os = tail os

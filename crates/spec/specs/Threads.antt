@@ -1,5 +1,5 @@
--- The threads' own machine: each thread has its row, registers and loop counts, and any thread may make the next move. "The threads' own machine".
--- Assumes nothing.
+-- The threads' own machine, of one group: each thread has its row, registers and loop counts, and any thread may make the next move.
+-- "The threads' own machine"; item 7. Assumes nothing.
 use mathlib.Core.Path.{_≡_}
 use mathlib.Core.List.{List, [], _∷_, _++_, map}
 use mathlib.Core.Bool.{Bool, true, false, cond, not, _&&_, _||_}
@@ -9,7 +9,7 @@ use lib.ListN.{length, getD, set, replicate}
 use Rattle.spec.specs.Limits.{registers}
 use Rattle.spec.specs.Access.{Kind, Access, cellAfter, registersAfter, conflict}
 use Rattle.spec.specs.Lists.{anyOf, every, equalList}
-use Rattle.spec.specs.Op.{Op, CALC, Mem, MEM, IF, ELSE, ENDIF, WHILE, ENDWHILE, BARRIER, UNKNOWN, value}
+use Rattle.spec.specs.Op.{Op, CALC, Space, MEM, IF, ELSE, ENDIF, WHILE, ENDWHILE, BARRIER, UNKNOWN, value}
 use Rattle.spec.specs.Table.{Table, Row, rowAt, cellByte, kindOf, endOf, elseOf, startOf}
 use Rattle.spec.specs.Shape.{Shape, bound, address}
 use Rattle.spec.specs.Runs.{Machine}
@@ -32,7 +32,7 @@ unfoldable pub put : Thread → (d v : ℕ) → Thread
 put th d v = record { row = suc (th .row); regs = set (th .regs) d v; loops = th .loops }
 
 -- What a thread's row does, alone: it waits (BARRIER, and the table's end), it goes on as another thread state, it reaches outside the cells,
--- or it accesses cell c by kind k, d being the row's byte d.
+-- or it accesses the cell that stands at c by kind k, d being the row's byte d.
 pub data Effect : Type 0 where
   waits : Effect
   goes : Thread → Effect
@@ -40,8 +40,8 @@ pub data Effect : Type 0 where
   accesses : (c : ℕ) (k : Kind) (d : ℕ) → Effect
 
 -- An access of the cell with this number: outside where the number is not below the cell count.
-unfoldable pub reach : Shape → Mem → ℕ → Kind → ℕ → Effect
-reach L m c k d = cond (ltb c (bound L m)) (accesses (address L m c) k d) strays
+unfoldable pub reach : Shape → Space → ℕ → Kind → ℕ → Effect
+reach L p c k d = cond (ltb c (bound L p)) (accesses (address L p c) k d) strays
 
 -- IF false goes to the row after ELSE, or to ENDIF where there is none.
 unfoldable pub onIf : Table → Thread → ℕ → Thread
@@ -56,7 +56,7 @@ onWhile T th (suc v) = record { row = suc (th .row); regs = th .regs; loops = se
 -- The row's effect, by its op. ELSE goes to ENDIF; ENDIF to the next row; ENDWHILE to its WHILE. UNKNOWN is never come to in a table that is accepted.
 unfoldable pub effectOf : Table → Shape → ℕ → Thread → Row → Op → Effect
 effectOf T L t th x (CALC c) = goes (put th (x .d) (value c (L .threads) t (x .a) (x .b) (reg th (x .a)) (reg th (x .b))))
-effectOf T L t th x (MEM m) = reach L m (reg th (cellByte m x)) (kindOf m (reg th (x .a))) (x .d)
+effectOf T L t th x (MEM p m) = reach L p (reg th (cellByte m x)) (kindOf m (reg th (x .a))) (x .d)
 effectOf T L t th x IF = goes (onIf T th (reg th (x .a)))
 effectOf T L t th x ELSE = goes (goto th (endOf T (th .row)))
 effectOf T L t th x ENDIF = goes (goto th (suc (th .row)))
@@ -68,7 +68,7 @@ effectOf T L t th x UNKNOWN = waits
 unfoldable pub effect : Table → Shape → ℕ → Thread → Effect
 effect T L t th = cond (ltb (th .row) (length T)) (effectOf T L t th (rowAt T (th .row)) (rowAt T (th .row) .op)) waits
 
--- The access record: each thread's accesses since the last release, the newest first.
+-- An access record: each thread's accesses, the newest first.
 abbrev pub AccessRecord : Type 0
 AccessRecord = ℕ → List Access
 
@@ -87,22 +87,19 @@ anyBelow (suc n) p = p n || anyBelow n p
 unfoldable pub races : ℕ → AccessRecord → ℕ → Access → Bool
 races n R t x = anyBelow n (λ u. not (eqb u t) && anyOf (conflict x) (R u))
 
--- The threads of a launch with their cells and access record; `bad` once a run has ended badly.
+-- A group: its threads, the launch's cells, the accesses since the group's last release and all since the launch, and which accesses conflict with one
+-- that another group has made; `bad` once a run has ended badly.
 pub record Group : Type 0 where
   pub threads : List Thread
   pub cells : List ℕ
   pub made : AccessRecord
+  pub ever : AccessRecord
+  pub barred : Access → Bool
   pub bad : Bool
 
--- At the start the cells are the launch's, the record is empty, and each thread is at row 0 with registers 0.
-unfoldable pub initialGroup : Table → Shape → List ℕ → Group
-initialGroup T L cells =
-    record {
-      threads = replicate (L .threads) (record { row = 0; regs = replicate registers 0; loops = replicate (length T) 0 });
-      cells = cells;
-      made = emptyRecord;
-      bad = false;
-    }
+-- At the start each thread is at row 0 with registers 0.
+unfoldable pub initialThreads : Table → (n : ℕ) → List Thread
+initialThreads T n = replicate n (record { row = 0; regs = replicate registers 0; loops = replicate (length T) 0 })
 
 unfoldable pub noThread : Thread
 noThread = record { row = 0; regs = []; loops = [] }
@@ -126,14 +123,14 @@ isOutside (goes th) = false
 isOutside strays = true
 isOutside (accesses c k d) = false
 
--- A move ends the run badly: an access outside the cells, or a race.
+-- A move ends the run badly: an access outside the cells, a race with a thread of the group, or one with another group.
 unfoldable pub endsBadly : Group → ℕ → Effect → Bool
-endsBadly s t x = isOutside x || anyOf (races (threadCount s) (s .made) t) (accessesOf x)
+endsBadly s t x = isOutside x || anyOf (λ a. races (threadCount s) (s .made) t a || s .barred a) (accessesOf x)
 
 unfoldable pub markBad : Group → Group
-markBad s = record { threads = s .threads; cells = s .cells; made = s .made; bad = true }
+markBad s = record { threads = s .threads; cells = s .cells; made = s .made; ever = s .ever; barred = s .barred; bad = true }
 
--- Otherwise the effect is made: on the thread, on the cells, and on the record.
+-- Otherwise the effect is made: on the thread, on the cells, and on the records.
 unfoldable pub threadAfter : Thread → List ℕ → Effect → Thread
 threadAfter th cells waits = th
 threadAfter th cells (goes h) = h
@@ -152,15 +149,25 @@ performed s t x =
       threads = set (s .threads) t (threadAfter (getD (s .threads) t noThread) (s .cells) x);
       cells = cellsAfter (s .cells) x;
       made = recorded (s .made) t (accessesOf x);
+      ever = recorded (s .ever) t (accessesOf x);
+      barred = s .barred;
       bad = s .bad;
     }
 
--- A release: all pass the BARRIER and the access record is emptied.
+-- A release: all pass the BARRIER and the accesses are forgotten as far as the own group goes.
 unfoldable pub pastBarrier : Thread → Thread
 pastBarrier th = goto th (suc (th .row))
 
 unfoldable pub released : Group → Group
-released s = record { threads = map pastBarrier (s .threads); cells = s .cells; made = emptyRecord; bad = s .bad }
+released s =
+    record {
+      threads = map pastBarrier (s .threads);
+      cells = s .cells;
+      made = emptyRecord;
+      ever = s .ever;
+      barred = s .barred;
+      bad = s .bad;
+    }
 
 -- A move is a thread's row or a release.
 pub data Move : Type 0 where
@@ -173,7 +180,7 @@ next T L s release = released s
 
 unfoldable pub isBarrier : Op → Bool
 isBarrier (CALC c) = false
-isBarrier (MEM m) = false
+isBarrier (MEM p m) = false
 isBarrier IF = false
 isBarrier ELSE = false
 isBarrier ENDIF = false

@@ -12,12 +12,14 @@ pub enum AccessKind {
 }
 
 // How a launch ended.
-// Race: the acting thread, the lowest conflicting one, the kind, the cell.
+// Race: the acting thread, the lowest conflicting one of its group, the kind, the cell.
+// GroupRace: the acting thread, the lowest other group that it conflicts with, the kind, the global cell.
 // Outside: the thread, the number that it used.
 // Diverged: the lowest enabled thread, the lowest one not enabled.
 pub enum Verdict {
     Passed,
     Race(u32, u32, AccessKind, u32),
+    GroupRace(u32, u32, AccessKind, u32),
     Outside(u32, u32),
     Diverged(u32, u32),
     Spent,

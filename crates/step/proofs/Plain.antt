@@ -3,7 +3,7 @@ use mathlib.Core.Path.{_≡_, sym, _∙_, ap, subst}
 use mathlib.Core.List.{List}
 use Prim.Native.Nat.{ℕ}
 use lib.ListN.{length}
-use Rattle.spec.specs.Op.{Calc, CALC, Mem, MEM, value}
+use Rattle.spec.specs.Op.{Calc, CALC, Space, Mem, MEM, value}
 use Rattle.spec.specs.Table.{Table, Row}
 use Rattle.spec.specs.Shape.{Shape}
 use Rattle.spec.specs.Mask.{members}
@@ -13,7 +13,7 @@ use Rattle.layout.specs.declared.Access.the-variants.{Done}
 use Rattle.layout.specs.declared.State.{State}
 use Rattle.layout.specs.declared.Next.{Next}
 use Rattle.layout.specs.declared.Next.the-variants as next
-use Rattle.layout.specs.Memory.{Did}
+use Rattle.layout.specs.Memory.{Did, shapeBy}
 use Rattle.layout.specs.Logging.{EmptyAbove}
 use Rattle.layout.specs.Represents.{Represents, After, movedOn, accessed}
 use Rattle.layout.proofs.PlainRows.{plain-after}
@@ -26,16 +26,16 @@ module _ (n : ℕ) (z : LockState) (s : State) (regs cells log saved openers : L
   row-after L f a r regs′ cells′ log′ q D E e =
       subst (λ o. After n o r regs′ cells′ log′ saved openers) (sym q) (plain-after n z s regs cells log saved openers R f a r regs′ cells′ log′ D E e)
 
-  pub compute-after : (k : ℕ) (c : Calc) (r : State) (regs′ : List ℕ) → x .op ≡ CALC c
+  pub compute-after : (c : Calc) (r : State) (regs′ : List ℕ) → x .op ≡ CALC c
       → Did n z (inTurn (computeTurn x (λ t p q. value c n t (x .a) (x .b) p q)) (members (z .enabled)) z) Done regs′ cells log → r ≡ movedOn s
-      → After n (runRow T (record { threads = n; cells = k }) x z (x .op)) (next.Go r) regs′ cells log saved openers
+      → After n (runRow T (shapeBy n cells) x z (x .op)) (next.Go r) regs′ cells log saved openers
   unfolding runRow
-  compute-after k c r regs′ q D e =
-      row-after (record { threads = n; cells = k }) (computeTurn x (λ t p q. value c n t (x .a) (x .b) p q)) Done (next.Go r) regs′ cells log
-      (ap (runRow T (record { threads = n; cells = k }) x z) q) D (R .reach-is) (ap next.Go e)
+  compute-after c r regs′ q D e =
+      row-after (shapeBy n cells) (computeTurn x (λ t p q. value c n t (x .a) (x .b) p q)) Done (next.Go r) regs′ cells log
+      (ap (runRow T (shapeBy n cells) x z) q) D (R .reach-is) (ap next.Go e)
 
-  pub access-after : (L : Shape) (m : Mem) (a : Access) (r : Next) (regs′ cells′ log′ : List ℕ) → x .op ≡ MEM m
-      → Did n z (inTurn (accessTurn L m x) (members (z .enabled)) z) a regs′ cells′ log′ → EmptyAbove (s .reach) (length cells′) log′ → r ≡ accessed s a
+  pub access-after : (L : Shape) (p : Space) (m : Mem) (a : Access) (r : Next) (regs′ cells′ log′ : List ℕ) → x .op ≡ MEM p m
+      → Did n z (inTurn (accessTurn L p m x) (members (z .enabled)) z) a regs′ cells′ log′ → EmptyAbove (s .reach) (length cells′) log′ → r ≡ accessed s a
       → After n (runRow T L x z (x .op)) r regs′ cells′ log′ saved openers
   unfolding runRow
-  access-after L m a r regs′ cells′ log′ q D E e = row-after L (accessTurn L m x) a r regs′ cells′ log′ (ap (runRow T L x z) q) D E e
+  access-after L p m a r regs′ cells′ log′ q D E e = row-after L (accessTurn L p m x) a r regs′ cells′ log′ (ap (runRow T L x z) q) D E e

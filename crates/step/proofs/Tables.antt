@@ -5,7 +5,7 @@ use Prim.Native.Nat.{ℕ, zero, suc, _+_, _*_, _<_, _≤_}
 use native.Mathlib.Omega.{arith}
 use native.Mathlib.Decide.{ℕ-discrete}
 use lib.ListN.{length, getD, drop}
-use Rattle.spec.specs.Op.{Calc, SET, TID, COUNT, ADD, SUB, MUL, AND, OR, XOR, SHR, SAR, EQ, LT, SLT, Op, CALC, Mem, MEM, LOAD, STORE, ATOMICADD, UNKNOWN, opOf, opTable}
+use Rattle.spec.specs.Op.{Calc, SET, TID, COUNT, ADD, SUB, MUL, AND, OR, XOR, SHR, SAR, EQ, LT, SLT, Op, CALC, Mem, OWN, MEM, LOAD, STORE, ATOMICADD, UNKNOWN, opOf, opTable}
 use Rattle.spec.specs.Table.{Row, rowOf, rowsOf, rowAt}
 use Rattle.spec.specs.LockStep.{LockState}
 use Rattle.spec.proofs.Laws.{rows-length, row-bytes}
@@ -53,11 +53,11 @@ compute-asks op d a b d′ a′ b′ ed ea eb A =
     }
 
 -- Ops 16 to 18 access a cell.
-pub mem-op : (k : ℕ) → 16 ≤ k → k ≤ 18 → (m : Mem) × (opOf k ≡ MEM m)
+pub mem-op : (k : ℕ) → 16 ≤ k → k ≤ 18 → (m : Mem) × (opOf k ≡ MEM OWN m)
 unfolding opOf opTable
 mem-op k h l = by (ℕ-discrete k 16) (ℕ-discrete k 17)
   where
-    by : Dec (k ≡ 16) → Dec (k ≡ 17) → (m : Mem) × (opOf k ≡ MEM m)
+    by : Dec (k ≡ 16) → Dec (k ≡ 17) → (m : Mem) × (opOf k ≡ MEM OWN m)
     by (yes e) d = (LOAD, ap opOf e)
     by (no n) (yes e) = (STORE, ap opOf e)
     by (no n) (no f) = (ATOMICADD, ap opOf (let z : k ≡ 18 = omega arith in z))

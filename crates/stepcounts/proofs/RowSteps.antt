@@ -5,15 +5,17 @@ use mathlib.Core.Bool.{Bool, true, false, cond, not}
 use Prim.Native.Nat.{ℕ, suc}
 use lib.Dec.{leb}
 use Rattle.spec.specs.declared.Verdict.{Verdict}
-use Rattle.spec.specs.declared.Verdict.the-variants.{Passed, Race, Outside, Diverged, Spent}
+use Rattle.spec.specs.declared.Verdict.the-variants.{Passed, Race, GroupRace, Outside, Diverged, Spent}
 use Rattle.spec.specs.Access.{Kind}
 use Rattle.spec.specs.Mask.{Mask, members, membersFrom, any, full, lowest}
 use Rattle.spec.specs.Log.{conflictMask, raceKind}
-use Rattle.spec.specs.Op.{Op, Calc, CALC, Mem, MEM, IF, ELSE, ENDIF, WHILE, ENDWHILE, BARRIER, UNKNOWN}
+use Rattle.spec.specs.GroupLog.{groupRaceKind}
+use Rattle.spec.specs.Op.{Op, Calc, CALC, Space, OWN, GLOBAL, Mem, MEM, IF, ELSE, ENDIF, WHILE, ENDWHILE, BARRIER, UNKNOWN}
 use Rattle.spec.specs.Shape.{Shape, bound, address}
 use Rattle.spec.specs.Table.{Table, Row, cellByte, kindOf}
 use Rattle.spec.specs.Steps.{stepped, allStepped}
-use Rattle.spec.specs.LockStep.{LockState, Step, continues, stops, andThen, inTurn, advance, setReg, computeTurn, madeAccess, tryAccess, accessTurn}
+use Rattle.spec.specs.LockStep.{LockState, Step, continues, stops, andThen, inTurn, advance, setReg, computeTurn, madeAccess, enterGroup}
+use Rattle.spec.specs.LockStep.{rivals, tryAccess, accessTurn}
 use Rattle.spec.specs.LockStep.{reg, forEnabled, countSteps, topMask, ifRow, elseRow, endifRow, leaveOrStay, whileRow, endwhileRow, passBarrier, barrierRow}
 use Rattle.spec.specs.LockStep.{runRow}
 
@@ -21,6 +23,7 @@ use Rattle.spec.specs.LockStep.{runRow}
 abbrev pub StopsAt : Verdict → ℕ → Type 0
 StopsAt Passed t = ⊥
 StopsAt (Race thread other kind at) t = thread ≡ t
+StopsAt (GroupRace thread group kind at) t = thread ≡ t
 StopsAt (Outside thread at) t = thread ≡ t
 StopsAt (Diverged thread other) t = ⊥
 StopsAt Spent t = ⊥
@@ -78,32 +81,42 @@ compute-one : (x : Row) (g : ℕ → ℕ → ℕ → ℕ) (s : LockState) (t : �
 unfolding computeTurn setReg
 compute-one x g s t = refl
 
-access-one : (L : Shape) (m : Mem) (x : Row) (s : LockState) (t : ℕ) → OneStep s t (accessTurn L m x s t)
+access-one : (L : Shape) (p : Space) (m : Mem) (x : Row) (s : LockState) (t : ℕ) → OneStep s t (accessTurn L p m x s t)
 unfolding accessTurn tryAccess
-access-one L m x s t = by (leb (bound L m) (reg s t (cellByte m x)))
+access-one L p m x s t = by (leb (bound L p) c) (any others) (any groups)
   where
     c : ℕ
-    c = address L m (reg s t (cellByte m x))
+    c = reg s t (cellByte m x)
+
+    i : ℕ
+    i = address L p c
 
     k : Kind
     k = kindOf m (reg s t (x .a))
 
     others : Mask
-    others = conflictMask (s .log) c t k
+    others = conflictMask (s .log) i t k
 
-    made : (b : Bool) → OneStep s t (cond b (stops (Race t (lowest others) (raceKind (s .log) c (lowest others) k) c) s) (continues (madeAccess s t (x .d) c k)))
-    made true = (refl, refl)
-    made false = unfold madeAccess in refl
+    groups : Mask
+    groups = rivals p s (L .group) i k
 
-    by : (b : Bool) → OneStep s t (cond b (stops (Outside t (reg s t (cellByte m x))) s)
-        (cond (any others) (stops (Race t (lowest others) (raceKind (s .log) c (lowest others) k) c) s) (continues (madeAccess s t (x .d) c k))))
-    by true = (refl, refl)
-    by false = made (any others)
+    entered : (p : Space) → enterGroup p (L .group) i k (madeAccess s t (x .d) i k) .steps ≡ stepped (s .steps) t
+    entered OWN = unfold enterGroup madeAccess in refl
+    entered GLOBAL = unfold enterGroup madeAccess in refl
+
+    by : (b o g : Bool) → OneStep s t (cond b (stops (Outside t c) s)
+        (cond o (stops (Race t (lowest others) (raceKind (s .log) i (lowest others) k) c) s)
+        (cond g (stops (GroupRace t (lowest groups) (groupRaceKind (s .groupLog) i (lowest groups) k) c) s)
+        (continues (enterGroup p (L .group) i k (madeAccess s t (x .d) i k))))))
+    by true o g = (refl, refl)
+    by false true g = (refl, refl)
+    by false false true = (refl, refl)
+    by false false false = entered p
 
 -- The threads that step in a row that goes on.
 unfoldable pub whoSteps : Op → LockState → Mask
 whoSteps (CALC c) s = s .enabled
-whoSteps (MEM m) s = s .enabled
+whoSteps (MEM p m) s = s .enabled
 whoSteps IF s = s .enabled
 whoSteps ELSE s = s .enabled
 whoSteps ENDIF s = topMask (s .saved)
@@ -116,6 +129,7 @@ whoSteps UNKNOWN s = []
 abbrev pub StoppedRow : LockState → Verdict → LockState → Type 0
 StoppedRow s Passed z = ⊥
 StoppedRow s (Race t o k c) z = Before (members (s .enabled)) s (Race t o k c) z
+StoppedRow s (GroupRace t h k c) z = Before (members (s .enabled)) s (GroupRace t h k c) z
 StoppedRow s (Outside t c) z = Before (members (s .enabled)) s (Outside t c) z
 StoppedRow s (Diverged t o) z = z .steps ≡ s .steps
 StoppedRow s Spent z = ⊥
@@ -127,6 +141,7 @@ RowSteps o s (stops v z) = StoppedRow s v z
 stopped-row : (s : LockState) (v : Verdict) (z : LockState) → Before (members (s .enabled)) s v z → StoppedRow s v z
 stopped-row s Passed z h = h .stopper
 stopped-row s (Race t o k c) z h = h
+stopped-row s (GroupRace t h k c) z b = b
 stopped-row s (Outside t c) z h = h
 stopped-row s (Diverged t o) z h = absurd (h .stopper)
 stopped-row s Spent z h = h .stopper
@@ -138,9 +153,9 @@ row-steps T L x s (CALC c) = by (forEnabled _ s) (enabled-turned _ (compute-one 
     by : (o : Step) → Turned (members (s .enabled)) s o → RowSteps (CALC c) s o
     by (continues z) h = h
     by (stops v z) h = stopped-row s v z h
-row-steps T L x s (MEM m) = by (forEnabled _ s) (enabled-turned _ (access-one L m x) s)
+row-steps T L x s (MEM p m) = by (forEnabled _ s) (enabled-turned _ (access-one L p m x) s)
   where
-    by : (o : Step) → Turned (members (s .enabled)) s o → RowSteps (MEM m) s o
+    by : (o : Step) → Turned (members (s .enabled)) s o → RowSteps (MEM p m) s o
     by (continues z) h = h
     by (stops v z) h = stopped-row s v z h
 row-steps T L x s IF = refl
@@ -155,7 +170,7 @@ row-steps T L x s WHILE = unfold leaveOrStay in (either (any _) _ _ refl refl)
 row-steps T L x s ENDWHILE = refl
 row-steps T L x s BARRIER = unfold barrierRow in (by (any (s .enabled)) (full (s .enabled)))
   where
-    by : (b c : Bool) → RowSteps BARRIER s (cond b (cond c (continues (passBarrier s)) (stops (Diverged (lowest (s .enabled)) (lowest (map not (s .enabled)))) s))
+    by : (b c : Bool) → RowSteps BARRIER s (cond b (cond c (continues (passBarrier L s)) (stops (Diverged (lowest (s .enabled)) (lowest (map not (s .enabled)))) s))
         (continues (advance (suc (s .row)) (s .enabled) (s .saved) s)))
     by true true = refl
     by true false = refl

@@ -51,6 +51,7 @@ pub fn stop(counts: &mut [u32; 32], v: spec::Verdict, mask: u32)
 {
     match v {
         spec::Verdict::Race(t, _, _, _) => add(counts, masks::below(mask, t), 1),
+        spec::Verdict::GroupRace(t, _, _, _) => add(counts, masks::below(mask, t), 1),
         spec::Verdict::Outside(t, _) => add(counts, masks::below(mask, t), 1),
         spec::Verdict::Passed => {}
         spec::Verdict::Diverged(_, _) => {}

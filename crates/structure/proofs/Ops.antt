@@ -41,7 +41,7 @@ part k a p = inside k (λ e. false≢true (sym a ∙ ap isAlone e)) p
 pub sort : (op : Op) → Sort op
 unfolding role fits shallow openAfter isKnown isAlone
 sort (CALC c) = outside (record { alone = refl; fitting = λ os. refl; flat = λ os. refl; keeping = λ r os. refl; known = λ n. refl; anywhere = λ k i. tt })
-sort (MEM m) = outside (record { alone = refl; fitting = λ os. refl; flat = λ os. refl; keeping = λ r os. refl; known = λ n. refl; anywhere = λ k i. tt })
+sort (MEM p m) = outside (record { alone = refl; fitting = λ os. refl; flat = λ os. refl; keeping = λ r os. refl; known = λ n. refl; anywhere = λ k i. tt })
 sort IF = part refl refl isIf
 sort ELSE = part refl refl isElse
 sort ENDIF = part refl refl isEndif

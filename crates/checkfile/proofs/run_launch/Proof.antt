@@ -3,7 +3,7 @@ use Rattle.spec.specs.Limits.{logPerCell}
 use Prim.Native.Nat.{_*_}
 use native.Mathlib.Omega.{arith}
 use borrow.Author.Needs.{needs}
-use lib.ListN.{length}
+use lib.ListN.{length, take}
 use Rattle.checkfile.proofs.Front.{front-length, as-long}
 use Rattle.checkfile.proofs.Running.{placed-length, counts-long, reported}
 use Rattle.checkfile.proofs.run_launch.Statement.{statement}
@@ -38,15 +38,19 @@ run-requires c κs =
 share-steps : tie.Need-array-share-prefix-steps
 share-steps c =
     let run = c .before .before .before .before .before .before .run in
-    let pre = c .before .before .before .before .before .before .before .before .before .before .before .before .before .before .before .before .before .before .before .before .before .pre in
-    omega (arith, counts-long _ _ _ _ _ _ _ _ _ pre _ (run .ensures), pre .fewThreads)
+    let at-place = c .before .before .before .before .before .before .before .before .before .before .before .before .before in
+    let start = at-place .before .before .before .before .before .before .before .before in
+    let pre = start .pre in
+    omega (arith, counts-long _ _ _ _ _ _ _ _ _ pre (take (length (start .args .words .now)) (at-place .place .last .1 .0)) (run .ensures), pre .fewThreads)
 
 steps-shared : tie.Need-slice-aggregate-write-report
 steps-shared c =
     let run = c .before .before .before .before .before .before .before .run in
-    let start = c .before .before .before .before .before .before .before .before .before .before .before .before .before .before .before .before .before .before .before .before .before .before in
+    let at-place = c .before .before .before .before .before .before .before .before .before .before .before .before .before .before in
+    let start = at-place .before .before .before .before .before .before .before .before in
     let pre = start .pre in
-    front-length (start .args .threads) _ (omega (arith, counts-long _ _ _ _ _ _ _ _ _ pre _ (run .ensures), pre .fewThreads))
+    front-length (start .args .threads) _
+    (omega (arith, counts-long _ _ _ _ _ _ _ _ _ pre (take (length (start .args .words .now)) (at-place .place .last .1 .0)) (run .ensures), pre .fewThreads))
 
 cells-shared : tie.Need-slice-aggregate-write-report-2
 cells-shared c =

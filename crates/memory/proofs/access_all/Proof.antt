@@ -3,7 +3,7 @@ use mathlib.Core.Path.{_≡_, refl, sym, ap, _∙_, subst}
 use Prim.Native.Nat.{ℕ, _+_, _-_, _^_, _≤_, _<_}
 use native.Mathlib.Omega.{arith}
 use lib.ListN.{length}
-use Rattle.spec.specs.Op.{Mem, MEM, opOf}
+use Rattle.spec.specs.Op.{OWN, Mem, MEM, opOf}
 use Rattle.spec.specs.Table.{Row}
 use Rattle.spec.specs.LockStep.{accessTurn}
 use Rattle.layout.specs.Memory.{KeptBut, shapeBy}
@@ -19,8 +19,8 @@ use Rattle.memory.proofs.access_all.Tie as tie
 abbrev Inv-loop : tie.InvT-loop
 Inv-loop regs₀ cells₀ log₀ n op d a t₀ bit₀ reach₀ regs cells log t bit reach =
     (t ≤ n) × (length cells ≡ length cells₀) × (length log ≡ length log₀)
-    × ((y : Mem) (x : Row) → opOf op ≡ MEM y → x .d ≡ d → x .a ≡ a
-    → Turns (accessTurn (shapeBy n cells₀) y x) n (2 ^ n - 1) regs₀ cells₀ log₀ t (2 ^ (n - t) - 1) regs cells log)
+    × ((y : Mem) (x : Row) → opOf op ≡ MEM OWN y → x .d ≡ d → x .a ≡ a
+    → Turns (accessTurn (shapeBy n cells₀) OWN y x) n (2 ^ n - 1) regs₀ cells₀ log₀ t (2 ^ (n - t) - 1) regs cells log)
     × (t < 32 → bit ≡ 2 ^ t) × KeptBut d n regs₀ regs × SameAbove reach (length cells₀) log₀ log
 
 abbrev μ-loop : tie.MeasureT-loop
@@ -35,7 +35,7 @@ loop-holds c =
       refl,
       λ y x o ed ea s e l M.
           let whole : args .n ≡ args .n - 0 = omega arith in
-          turn-start (accessTurn (shapeBy (args .n) memory) y x) (args .n) s (2 ^ (args .n - 0) - 1) (args .regs .now) memory (args .log .now)
+          turn-start (accessTurn (shapeBy (args .n) memory) OWN y x) (args .n) s (2 ^ (args .n - 0) - 1) (args .regs .now) memory (args .log .now)
           (ap (λ (k : ℕ). 2 ^ k - 1) (sym whole) ∙ e) l M,
       λ h. refl,
       λ i off. refl,
@@ -110,9 +110,9 @@ loop-again c =
       make .kept .1 .0 ∙ turn .inv .1,
       make .kept .1 .1 .0 ∙ turn .inv .2,
       λ y x o ed ea s e q M.
-          subst (λ m. Turning (accessTurn (shapeBy (args .n) memory) y x) (args .n) s (turn .t + 1) m (make .last .0) (make .last .1 .0)
+          subst (λ m. Turning (accessTurn (shapeBy (args .n) memory) OWN y x) (args .n) s (turn .t + 1) m (make .last .0) (make .last .1 .0)
           (make .last .1 .1 .0)) (left-less (args .n) (turn .t) some-left)
-          (turn-in (accessTurn (shapeBy (args .n) memory) y x) (args .n) s (turn .t) (2 ^ (args .n - turn .t) - 1) (turn .regs) (turn .cells) (turn .log)
+          (turn-in (accessTurn (shapeBy (args .n) memory) OWN y x) (args .n) s (turn .t) (2 ^ (args .n - turn .t) - 1) (turn .regs) (turn .cells) (turn .log)
           (turn .inv .3 y x o ed ea s e q M) (make .last .0) (make .last .1 .0) (make .last .1 .1 .0) some-left (left-odd (args .n) (turn .t) some-left)
           (turn-still (args .n) (turn .t) y x memory _ _ _ _ _ _ _ (turn .inv .1) (make .ensures .0 (args .n) y x o some-left ed ea))),
       next-bit (turn .t) (turn .bit) (turn .inv .4),
@@ -135,7 +135,7 @@ returns-2 c =
     let memory = args .cells .now in
     let none-left : 2 ^ (args .n - turn .t) - 1 ≡ 0 = ap (λ (k : ℕ). 2 ^ k - 1) (let z : args .n - turn .t ≡ 0 = omega (arith, c .loop-test .left) in z) in (
       λ all y x o ed ea s e q M.
-          turn-whole (accessTurn (shapeBy (args .n) memory) y x) (args .n) s (turn .t) (2 ^ (args .n - turn .t) - 1) (turn .regs) (turn .cells) (turn .log)
+          turn-whole (accessTurn (shapeBy (args .n) memory) OWN y x) (args .n) s (turn .t) (2 ^ (args .n - turn .t) - 1) (turn .regs) (turn .cells) (turn .log)
           (turn .inv .3 y x o ed ea s e q M) none-left,
       λ some. absurd (some refl),
       turn .inv .1,

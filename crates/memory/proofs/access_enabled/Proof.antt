@@ -4,7 +4,7 @@ use mathlib.Core.Logic.{⊎-elim}
 use Prim.Native.Nat.{ℕ, _+_, _-_, _^_, _≤_, _<_}
 use native.Mathlib.Omega.{arith}
 use lib.ListN.{length}
-use Rattle.spec.specs.Op.{Mem, MEM, opOf}
+use Rattle.spec.specs.Op.{OWN, Mem, MEM, opOf}
 use Rattle.spec.specs.Table.{Row}
 use Rattle.spec.specs.LockStep.{accessTurn}
 use Rattle.layout.specs.Memory.{KeptBut, shapeBy}
@@ -20,8 +20,8 @@ use Rattle.memory.proofs.access_enabled.Tie as tie
 abbrev Inv-loop : tie.InvT-loop
 Inv-loop regs₀ cells₀ log₀ n mask op d a m₀ t₀ bit₀ reach₀ regs cells log m t bit reach =
     (t ≤ n) × (m < 2 ^ (n - t)) × (length cells ≡ length cells₀) × (length log ≡ length log₀)
-    × ((y : Mem) (x : Row) → opOf op ≡ MEM y → x .d ≡ d → x .a ≡ a
-    → Turns (accessTurn (shapeBy n cells₀) y x) n mask regs₀ cells₀ log₀ t m regs cells log)
+    × ((y : Mem) (x : Row) → opOf op ≡ MEM OWN y → x .d ≡ d → x .a ≡ a
+    → Turns (accessTurn (shapeBy n cells₀) OWN y x) n mask regs₀ cells₀ log₀ t m regs cells log)
     × (t < 32 → bit ≡ 2 ^ t) × KeptBut d n regs₀ regs × SameAbove reach (length cells₀) log₀ log
 
 abbrev μ-loop : tie.MeasureT-loop
@@ -37,7 +37,7 @@ loop-holds c =
       refl,
       refl,
       λ y x o ed ea s e l M.
-          turn-start (accessTurn (shapeBy (args .n) memory) y x) (args .n) s (args .mask) (args .regs .now) memory (args .log .now) e l M,
+          turn-start (accessTurn (shapeBy (args .n) memory) OWN y x) (args .n) s (args .mask) (args .regs .now) memory (args .log .now) e l M,
       λ h. refl,
       λ i off. refl,
       λ j h. refl,
@@ -124,7 +124,7 @@ loop-again c =
       ap length (w .17) ∙ make .kept .1 .0 ∙ turn .inv .2,
       ap length (w .18) ∙ make .kept .1 .1 .0 ∙ turn .inv .3,
       λ y x o ed ea s e q M.
-          go-in (accessTurn (shapeBy (args .n) memory) y x) (args .n) s (turn .t) (turn .m) (turn .regs) (turn .cells) (turn .log)
+          go-in (accessTurn (shapeBy (args .n) memory) OWN y x) (args .n) s (turn .t) (turn .m) (turn .regs) (turn .cells) (turn .log)
           (turn .inv .4 y x o ed ea s e q M) (make .last .0) (make .last .1 .0) (make .last .1 .1 .0) _ _ _ some-left (w .0 .taken)
           (turn-still (args .n) (turn .t) y x memory _ _ _ _ _ _ _ (turn .inv .2) (make .ensures .0 (args .n) y x o some-left ed ea))
           (w .16) (w .17) (w .18),
@@ -141,7 +141,7 @@ loop-again c =
       ap length (w .2) ∙ turn .inv .2,
       ap length (w .3) ∙ turn .inv .3,
       λ y x o ed ea s e q M.
-          go-out (accessTurn (shapeBy (args .n) memory) y x) (args .n) s (turn .t) (turn .m) (turn .regs) (turn .cells) (turn .log)
+          go-out (accessTurn (shapeBy (args .n) memory) OWN y x) (args .n) s (turn .t) (turn .m) (turn .regs) (turn .cells) (turn .log)
           (turn .inv .4 y x o ed ea s e q M) _ _ _ some-left (w .0 .left) (w .1) (w .2) (w .3),
       next-bit (turn .t) (turn .bit) (turn .inv .5),
       subst (KeptBut (args .d) (args .n) (args .regs .now)) (sym (w .1)) (turn .inv .6),
@@ -161,7 +161,7 @@ returns-2 c =
     let args = c .before .before .before .before .args in
     let memory = args .cells .now in (
       λ all y x o ed ea s e q M.
-          turn-whole (accessTurn (shapeBy (args .n) memory) y x) (args .n) s (turn .t) (turn .m) (turn .regs) (turn .cells) (turn .log)
+          turn-whole (accessTurn (shapeBy (args .n) memory) OWN y x) (args .n) s (turn .t) (turn .m) (turn .regs) (turn .cells) (turn .log)
           (turn .inv .4 y x o ed ea s e q M) (c .loop-test .left),
       λ some. absurd (some refl),
       turn .inv .2,

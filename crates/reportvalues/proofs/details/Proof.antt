@@ -10,9 +10,10 @@ unfolding detailsOf report.details
 details-spec =
     tie.close
     (tie.spec
-    (λ c. search needs) (λ c. search needs) (λ c. search needs) (λ c. search needs) (λ c. search needs)
+    (λ c. search needs) (λ c. search needs) (λ c. search needs) (λ c. search needs) (λ c. search needs) (λ c. search needs)
     (λ c. rw (c .enum-told .given .1))
     (λ c. rw (c .before .verdict .given .1))
     (λ c. rw (c .before .verdict2 .given .1))
     (λ c. rw (c .before .verdict3 .given .1))
+    (λ c. rw (c .before .verdict4 .given .1))
     (λ c. rw (c .enum-told2 .given .1)))

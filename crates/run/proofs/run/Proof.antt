@@ -8,7 +8,8 @@ use lib.ListN.{length}
 use Rattle.spec.specs.Limits.{recordsLent}
 use Rattle.spec.specs.declared.Verdict.{Verdict}
 use Rattle.spec.specs.Table.{rowsOf}
-use Rattle.spec.specs.LockStep.{lockstep}
+use Rattle.spec.specs.Shape.{oneGroup}
+use Rattle.spec.specs.LaunchRun.{lockstep}
 use Rattle.spec.specs.Intervals.{intervalRecords}
 use Rattle.layout.specs.declared.State.{State}
 use Rattle.layout.specs.declared.Next.the-variants as next
@@ -97,7 +98,7 @@ returns c =
     let going = turn .inv .3 in
     let start = start-of at-turn in
     let args = start .args in
-    ran-lent _ _ _ _ _ _ _ _ _ _ _ _ (at-turn .before .before .before .before .before .launch .ensures)
+    ran-lent _ _ _ (args .cells .now) (args .limit) _ _ _ _ _ _ _ (at-turn .before .before .before .before .before .launch .ensures)
     (go-spent (args .table .now) (args .ends .now) (args .n) (args .limit) (args .cells .now) (at-turn .before .before .before .before .before .launch .last .0)
     (turn .s) (turn .regs) (turn .cells) (turn .log) (turn .saved) (turn .openers) (turn .counts) (turn .stamps) (turn .memo) (turn .records) going (start .pre .0)
     inside spent (ended .result) (ended .last .0) (ended .last .1 .0) (ended .ensures .0) (ended .ensures .1 .0) (ended .ensures .1 .1))
@@ -160,7 +161,7 @@ stops : (c : tie.After-step Inv-loop μ-loop) (v : Verdict) (s′ : State) → c
     let args = start .args in
     let left = c .step .last .1 .1 .1 .1 in
     let T = rowsOf (args .table .now) in
-    Stops (lockstep T (args .n) (args .cells .now) (args .limit)) (intervalRecords T (args .n) (args .cells .now) (args .limit)) (at-turn .before .before .before .before .before .launch .last .0)
+    Stops (lockstep T (oneGroup (args .n) (args .cells .now)) (args .cells .now) (args .limit)) (intervalRecords T (oneGroup (args .n) (args .cells .now)) (args .cells .now) (args .limit)) (at-turn .before .before .before .before .before .launch .last .0)
     v s′ (left .0) (left .1 .0) (left .1 .1 .1 .1 .0) (left .1 .1 .1 .1 .1 .1 .1 .0)
 stops c v s′ e =
     let step = c .step in
@@ -210,7 +211,8 @@ returns-2 c =
     let at-step = c .before .before .before .before .before .before .before .before .before .before .before .before .before .before .before .before in
     let S = stops at-step _ _ (c .before .before .before .before .before .before .before .before .v .given .1) in
     let at-turn = at-step .before .before .before .before .before .before .before .before .before .before .before .before .before .before in
-    ran-lent _ _ _ _ _ _ _ _ _ _ _ _ (at-turn .before .before .before .before .before .launch .ensures)
+    let args = start-of at-turn .args in
+    ran-lent _ _ _ (args .cells .now) (args .limit) _ _ _ _ _ _ _ (at-turn .before .before .before .before .before .launch .ensures)
     (S .ran (stop .last .0) (ended .last .1 .0) (ended .last .0) (ended .result) (stop .ensures) (ended .ensures .0) (ended .ensures .1 .0) (ended .ensures .1 .1))
 
 ended-requires-3 : tie.Need-ended-requires-3 Inv-loop μ-loop
@@ -249,7 +251,7 @@ returns-3 c =
     let going = turn .inv .3 in
     let start = start-of at-turn in
     let args = start .args in
-    ran-lent _ _ _ _ _ _ _ _ _ _ _ _ (at-turn .before .before .before .before .before .launch .ensures)
+    ran-lent _ _ _ (args .cells .now) (args .limit) _ _ _ _ _ _ _ (at-turn .before .before .before .before .before .launch .ensures)
     (go-passed (args .table .now) (args .ends .now) (args .n) (args .limit) (args .cells .now) (at-turn .before .before .before .before .before .launch .last .0)
     (turn .s) (turn .regs) (turn .cells) (turn .log) (turn .saved) (turn .openers) (turn .counts) (turn .stamps) (turn .memo) (turn .records) going (start .pre .0)
     at-end (ended .result) (ended .last .0) (ended .last .1 .0) (ended .ensures .0) (ended .ensures .1 .0) (ended .ensures .1 .1))

@@ -7,6 +7,7 @@ use Rattle.layout.specs.Memory.{shapeBy, cellIn}
 use Rattle.layout.specs.Logging.{EmptyAbove}
 use Rattle.layout.specs.Represents.{reached}
 use Rattle.layout.proofs.Reach.{empty-more, reach-more}
+use Rattle.spec.specs.Op.{OWN}
 use Rattle.step.proofs.Tables.{mem-op}
 use Rattle.stepcounts.proofs.NextCounts.{accessed-on}
 use Rattle.step.proofs.Plain.{access-after}
@@ -45,7 +46,7 @@ returns c =
         λ saved openers T x z q ed ea R.
             access-after (args .n) z state (args .regs .now) cells (args .log .now) saved openers
             (reach-more (args .n) z (args .s) (access-row .result .reach) (args .regs .now) cells (args .log .now) saved openers R) T x
-            (shapeBy (args .n) cells) (m .0)
+            (shapeBy (args .n) cells) OWN (m .0)
             (access-row .result .access) (after-access .result) (access-row .last .0) (access-row .last .1 .0)
             (access-row .last .1 .1 .0)
             (q ∙ m .1) (access-row .ensures .0 (m .0) x (m .1) ed ea z (R .enabled-is) (R .enabled-size) (R .memory))

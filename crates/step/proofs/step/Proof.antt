@@ -71,7 +71,7 @@ returns c =
         done = λ z R.
             let E = row-here table (args .n) z (args .s) regs cells log saved openers R (inside-row table (args .s .row) (start .pre .0 .inside)) in
             let x = rowAt (rowsOf table) (z .row) in
-            compute-after (args .n) z (args .s) regs cells log saved openers R (rowsOf table) x (length cells) (op .0)
+            compute-after (args .n) z (args .s) regs cells log saved openers R (rowsOf table) x (op .0)
             (c .moved .result) (compute-row .last .0) (ap (λ y. y .op) E ∙ op .1)
             (compute-did code (args .n) (args .s .mask) (d .result) (a .result) (b .result) regs
             (compute-asks _ _ _ _ _ _ _ (d .ensures .0) (a .ensures .0) (b .ensures .0) asks) (R .memory .regs-are .size) (op .0) (op .1) x
