@@ -162,7 +162,7 @@ module _ (n t : ℕ) (s : LockState) (regs cells log : List ℕ) (M : Memory n s
     abbrev turn : Step
     turn = accessTurn shape OWN m x s t
 
-    number-is : reg s t (cellByte m x) ≡ i
+    pub number-is : reg s t (cellByte m x) ≡ i
     unfolding cellByte
     number-is = by (which op p q)
       where
@@ -288,14 +288,17 @@ module _ (n t : ℕ) (s : LockState) (regs cells log : List ℕ) (M : Memory n s
               (unfold registersAfter in (kept-regs (λ z. omega arith)))
               (unfold cellAfter in (set-cell _ (λ z. omega arith) (cell-by-add op _ _ (λ z. omega arith))))
 
+      -- nobody is met
+      pub goes-turn : met ≡ bit → turn ≡ continues (madeAccess s t d i kind)
+      goes-turn z = let none : any others ≡ false = any-none others (sym ew ∙ omega (arith, z)) in inside ∙ rw none
+
       pub made-did : (regs′ cells′ log′ : List ℕ) → met ≡ bit → Transferred op (d * 32 + j) (a * 32 + j) i regs cells regs′ cells′
           → log′ ≡ enteredWords op v (length cells) i bit log → Did n s turn Done regs′ cells′ log′
       made-did regs′ cells′ log′ z T E =
           let G : LogIs n (length (s .cells)) (logged (s .log) i t kind) log′ =
           subst₂ (λ k g. LogIs n k (logged (s .log) i t kind) g) cells-size (sym (E ∙ ap (λ y. enteredWords op y (length cells) i bit log) value-is))
           (entered-means op (length cells) i log n (reg s t (x .a)) m (s .log) o p q l log-here (M .few) t bit h eb) in
-          let none : any others ≡ false = any-none others (sym ew ∙ omega (arith, z)) in
-          did (continues (madeAccess s t d i kind)) _ regs′ cells′ log′ (inside ∙ rw none)
+          did (continues (madeAccess s t d i kind)) _ regs′ cells′ log′ (goes-turn z)
           (record {
             answer = refl;
             memory = made regs′ cells′ log′ T G;

@@ -76,7 +76,7 @@ module _ (op k i : ℕ) where
 
 -- The words, where the code multiplies by no 0 and no 1, and a store's value among them.
 module _ (k i : ℕ) (log : List ℕ) where
-  word-reads : wordOf (rank reads) k i log ≡ getD log i 0
+  pub word-reads : wordOf (rank reads) k i log ≡ getD log i 0
   unfolding wordOf placeOf rank
   word-reads = ap (λ (z : ℕ). getD log z 0) (let e : 0 * k + i ≡ i = omega arith in e)
 

@@ -89,7 +89,7 @@ pub fn race_kind(
 }
 
 // Where the mask of cell i stands that an access by op enters.
-fn place(cells: usize, i: usize, op: u8) -> usize
+pub fn place(cells: usize, i: usize, op: u8) -> usize
     requires { ⌜ (16 ≤ op) × (op ≤ 18) × (cells ≤ 1024) × (i < cells) ⌝ }
     ensures { λ r. ⌜ r ≡ placeOf (rank (modeOf op)) cells i ⌝ }
 {

@@ -1,7 +1,14 @@
 pub mod Lists
+pub mod Parts
+pub mod Placed
+pub mod RowSizes
+pub mod OwnRows
 pub mod Buffers
 pub mod LogBuffer
+pub mod GroupBuffer
+pub mod GlobalTurn
 pub mod Reach
 pub mod Turning
+pub mod GlobalStates
 pub mod Saving
 pub mod PlainRows

@@ -29,7 +29,7 @@ use Rattle.layout.proofs.Lists.{map-set, Even, joined-size, joined-at, 
 use Rattle.layout.proofs.Buffers.{masks-set, mask-at}
 
 -- Masks without a thread.
-nobody-word : (m : Mask) → maskWord (nobody m) ≡ 0
+pub nobody-word : (m : Mask) → maskWord (nobody m) ≡ 0
 unfolding maskWord nobody
 nobody-word [] = refl
 nobody-word (b ∷ m) = omega (arith, nobody-word m)

@@ -1,0 +1,2 @@
+pub mod GlobalAccesses
+pub mod GlobalRows

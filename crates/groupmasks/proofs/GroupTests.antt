@@ -1,0 +1,91 @@
+-- The words that the code's functions on the group masks come to, by the op. Assumes nothing.
+use mathlib.Core.Path.{_≡_, refl, _∙_, ap, ap₂}
+use mathlib.Core.List.{List}
+use mathlib.Core.Bool.{Bool, true, false, cond}
+use Prim.Native.Nat.{ℕ, _+_, _-_, _*_, _<_}
+use native.Mathlib.Omega.{arith}
+use borrow.Author.Tests.{eq-eqb, ne-eqb}
+use lib.Bits.{bitAnd, bitOr, or-zero-l, or-zero-r}
+use lib.Dec.{eqb}
+use lib.ListN.{length, getD, set}
+use Rattle.spec.specs.declared.AccessKind.the-variants.{ReadWrite, WriteRead, WriteWrite, ReadAdd, AddRead, WriteAdd, AddWrite}
+use Rattle.spec.specs.Access.{Mode, reads, writes, adds, agree}
+use Rattle.spec.specs.Log.{shownKind}
+use Rattle.layout.specs.Logging.{modeOf, rank, placeOf, wordOf, hasBit, maskEntered}
+use Rattle.layout.specs.Shared.{GroupAsks, groupsMet, rivalsWord, groupKindWord}
+use Rattle.accesslog.proofs.LogTests.{word-reads, word-writes}
+
+-- The groups that an access meets: by a LOAD writers and adders, by a STORE all, by an ATOMIC ADD writers and readers.
+module _ (op k i bit : ℕ) (masks : List ℕ) where
+  abbrev beside : ℕ → ℕ
+  beside w = bitAnd w (4294967295 - bit)
+
+  abbrev writers : ℕ
+  writers = getD masks (k + i) 0
+
+  abbrev adders : ℕ
+  adders = getD masks (2 * k + i) 0
+
+  abbrev readers : ℕ
+  readers = getD masks i 0
+
+  adders-are : wordOf (rank adds) k i masks ≡ adders
+  unfolding wordOf placeOf rank
+  adders-are = refl
+
+  pub rivals-load : op ≡ 16 → rivalsWord op k i bit masks ≡ beside (bitOr writers adders)
+  unfolding rivalsWord groupsMet modeOf agree
+  rivals-load e = rw (eq-eqb op 16 e) (ap₂ (λ (w y : ℕ). beside (bitOr w y)) (word-writes k i masks) (or-zero-r (wordOf (rank adds) k i masks) ∙ adders-are))
+
+  pub rivals-store : op ≡ 17 → rivalsWord op k i bit masks ≡ beside (bitOr writers (bitOr adders readers))
+  unfolding rivalsWord groupsMet modeOf agree
+  rivals-store e =
+      rw (ne-eqb op 16 (λ z. omega arith), eq-eqb op 17 e)
+      (ap₂ (λ (w y : ℕ). beside (bitOr w y)) (word-writes k i masks) (ap₂ bitOr adders-are (word-reads k i masks)))
+
+  pub rivals-add : op ≡ 18 → rivalsWord op k i bit masks ≡ beside (bitOr writers readers)
+  unfolding rivalsWord groupsMet modeOf agree
+  rivals-add e =
+      rw (ne-eqb op 16 (λ z. omega arith), ne-eqb op 17 (λ z. omega arith))
+      (ap₂ (λ (w y : ℕ). beside (bitOr w y)) (word-writes k i masks) (or-zero-l (wordOf (rank reads) k i masks) ∙ word-reads k i masks))
+
+-- The kind of a race, by the op's tests and the other group's bits.
+pub kind-by : (op k i u : ℕ) (masks : List ℕ) (l s w b : Bool) → eqb op 16 ≡ l → eqb op 17 ≡ s → hasBit u (getD masks (k + i) 0) ≡ w
+    → hasBit u (getD masks (2 * k + i) 0) ≡ b
+    → groupKindWord op k i u masks ≡ cond l (cond w WriteRead AddRead) (cond s (cond w WriteWrite (cond b AddWrite ReadWrite)) (cond w WriteAdd ReadAdd))
+unfolding groupKindWord groupsMet modeOf
+kind-by op k i u masks l s w b el es ew eb = rw (el, es) (by l s)
+  where
+    wrote : ℕ
+    wrote = wordOf (rank writes) k i masks
+
+    added : ℕ
+    added = wordOf (rank adds) k i masks
+
+    wrote-is : hasBit u wrote ≡ w
+    wrote-is = ap (hasBit u) (word-writes k i masks) ∙ ew
+
+    added-is : hasBit u added ≡ b
+    added-is = ap (hasBit u) (adders-are op k i 0 masks) ∙ eb
+
+    by : (l s : Bool)
+        → shownKind (hasBit u (cond (agree false writes (cond l reads (cond s writes adds))) 0 wrote))
+        (hasBit u (cond (agree false adds (cond l reads (cond s writes adds))) 0 added)) (cond l reads (cond s writes adds))
+        ≡ cond l (cond w WriteRead AddRead) (cond s (cond w WriteWrite (cond b AddWrite ReadWrite)) (cond w WriteAdd ReadAdd))
+    by true s = unfold agree shownKind in (ap (λ y. cond y WriteRead AddRead) wrote-is)
+    by false true = unfold agree shownKind in (ap₂ (λ y z. cond y WriteWrite (cond z AddWrite ReadWrite)) wrote-is added-is)
+    by false false = unfold agree shownKind in (ap (λ y. cond y WriteAdd ReadAdd) wrote-is)
+
+-- The mask that an access enters is one of the buffer's words.
+pub place-inside : (op k i : ℕ) (masks : List ℕ) (p : ℕ) → GroupAsks op k i masks → p ≡ placeOf (rank (modeOf op)) k i → (p < length masks) × (p < 3072)
+unfolding placeOf rank
+place-inside op k i masks p A e = by (modeOf op) e
+  where
+    by : (m : Mode) → p ≡ placeOf (rank m) k i → (p < length masks) × (p < 3072)
+    by reads e = (omega (arith, A .inside, A .sized), omega (arith, A .inside, A .few))
+    by writes e = (omega (arith, A .inside, A .sized), omega (arith, A .inside, A .few))
+    by adds e = (omega (arith, A .inside, A .sized), omega (arith, A .inside, A .few))
+
+pub entered-by : (op k i bit : ℕ) (masks : List ℕ) (p : ℕ) → p ≡ placeOf (rank (modeOf op)) k i → set masks p (bitOr (getD masks p 0) bit) ≡ maskEntered op k i bit masks
+unfolding maskEntered wordOf
+entered-by op k i bit masks p e = ap (λ (z : ℕ). set masks z (bitOr (getD masks z 0) bit)) e
