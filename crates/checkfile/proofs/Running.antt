@@ -58,7 +58,8 @@ module _ (table ends : List ℕ) (threads limit : ℕ) (words cells log records 
 
   -- All counts are there.
   pub counts-long : (memory : List ℕ) {o : Outcome} {ys zs ws counts : List ℕ}
-      → RunIs (lockstep (rowsOf table) (oneGroup threads memory) memory limit) (intervalRecords (rowsOf table) (oneGroup threads memory) memory limit) records o ys zs ws counts → length counts ≡ 32
+      → RunIs (lockstep (rowsOf table) (oneGroup threads memory) memory limit) (intervalRecords (rowsOf table) (oneGroup threads memory) memory limit)
+      records o ys zs ws counts → length counts ≡ 32
   counts-long memory run =
       ap length (run .counts-are)
       ∙ over-length _ (replicate 32 0) (omega (arith, steps-size (rowsOf table) threads memory limit, asks .fewThreads, length-replicate {A = ℕ} 32 0))

@@ -675,8 +675,8 @@ module _ (table ends : List ℕ) (n limit : ℕ) (cells₀ lent : List ℕ) (s :
               let z = stopped .0 in
               let c : record { verdict = v; state = z } ≡ lockstep T (oneGroup n cells₀) cells₀ limit =
               (unfold resultOf in (sym (ap (λ o. resultOf o (runFrom T L (limit - (s .rows + 1)))) (stopped .1)) ∙ came)) in
-              ran-is n (lockstep T (oneGroup n cells₀) cells₀ limit) whole lent rest v z s′ regs′ cells′ log′ saved′ openers′ records′ c (stopped .2) ledger-stop (G .here .row) stopped-rest
-              q counts₂ records₂ eq er
+              ran-is n (lockstep T (oneGroup n cells₀) cells₀ limit) whole lent rest v z s′ regs′ cells′ log′ saved′ openers′ records′ c (stopped .2)
+              ledger-stop (G .here .row) stopped-rest q counts₂ records₂ eq er
               (tally-stop (G .here) s counts (G .tally) (G .rep .enabled-is) enabled-few threads-few v z acted counts₁ counts₂ before
               (subst₂ (λ m k. Added m k counts₁ counts₂) (left-uncounted .0) (left-uncounted .1) D))
 

@@ -161,7 +161,8 @@ stops : (c : tie.After-step Inv-loop μ-loop) (v : Verdict) (s′ : State) → c
     let args = start .args in
     let left = c .step .last .1 .1 .1 .1 in
     let T = rowsOf (args .table .now) in
-    Stops (lockstep T (oneGroup (args .n) (args .cells .now)) (args .cells .now) (args .limit)) (intervalRecords T (oneGroup (args .n) (args .cells .now)) (args .cells .now) (args .limit)) (at-turn .before .before .before .before .before .launch .last .0)
+    Stops (lockstep T (oneGroup (args .n) (args .cells .now)) (args .cells .now) (args .limit))
+    (intervalRecords T (oneGroup (args .n) (args .cells .now)) (args .cells .now) (args .limit)) (at-turn .before .before .before .before .before .launch .last .0)
     v s′ (left .0) (left .1 .0) (left .1 .1 .1 .1 .0) (left .1 .1 .1 .1 .1 .1 .1 .0)
 stops c v s′ e =
     let step = c .step in
