@@ -11,7 +11,6 @@ use lib.Bits.{bitAnd, bitOr, or-zero-l, or-zero-r, or-self}
 use lib.Dec.{eqb}
 use lib.ListN.{length, getD, set}
 use lib.Seq.{set-getD, getD-set-other}
-use Rattle.spec.specs.declared.AccessKind.{AccessKind}
 use Rattle.spec.specs.declared.AccessKind.the-variants.{ReadWrite, WriteRead, WriteWrite, ReadAdd, AddRead, WriteAdd, AddWrite}
 use Rattle.spec.specs.Access.{Kind, load, store, atomicAdd, Mode, reads, writes, adds, mode, agree}
 use Rattle.spec.specs.Op.{Mem, OWN, MEM, LOAD, STORE, ATOMICADD, opOf, opTable}
@@ -212,13 +211,6 @@ module _ (op v k i : ℕ) (log : List ℕ) where
     pub met-beside : (w r : ℕ) → w ≡ conflictingWord writes op v k i log → r ≡ bitOr others bit → bitOr w r ≡ bitOr (testedWord op v k i log) bit
     met-beside w r met e = ap₂ bitOr met e ∙ sym (or-assoc (conflictingWord writes op v k i log) others bit) ∙ ap (λ z. bitOr z bit) (sym tested-beside)
 
-  module _ (w : ℕ) (met : w ≡ conflictingWord writes op v k i log) where
-    -- And the kind of a race, by the op's tests and the other's bits.
-    pub kind-by : (u : ℕ) (l s b a : Bool) → eqb op 16 ≡ l → eqb op 17 ≡ s → hasBit u w ≡ b → hasBit u (getD log (2 * k + i) 0) ≡ a
-        → kindWord op v k i u log ≡ cond l (cond b WriteRead AddRead) (cond s (cond b WriteWrite (cond a AddWrite ReadWrite)) (cond b WriteAdd ReadAdd))
-    unfolding kindWord wordOf placeOf rank
-    kind-by u l s b a el es eb ea = rw (el, es, ap (hasBit u) (sym met) ∙ eb, ea)
-
   -- The thread's bit in the log.
   pub entered-by : (bit p : ℕ) → (op ≡ 17 → ⊥) → p ≡ placeOf (rank (modeOf op)) k i → set log p (bitOr (getD log p 0) bit) ≡ enteredWords op v k i bit log
   unfolding enteredWords maskEntered wordOf
@@ -240,13 +232,24 @@ module _ (op v k i : ℕ) (log : List ℕ) where
     unfolding enteredWords maskEntered modeOf
     entered-add e = rw (ne-eqb op 16 (λ z. omega arith), ne-eqb op 17 (λ z. omega arith))
 
-pub no-bit : (u word b : ℕ) → b ≡ bitAnd word (2 ^ u) → b ≡ 0 → hasBit u word ≡ false
-unfolding hasBit
-no-bit u word b q z = ap not (eq-eqb (bitAnd word (2 ^ u)) 0 (sym q ∙ z))
+-- Whether a word is not 0, by what it is.
+pub is-zero : (w : ℕ) → w ≡ 0 → not (eqb w 0) ≡ false
+is-zero w z = ap not (eq-eqb w 0 z)
 
-pub a-bit : (u word b : ℕ) → b ≡ bitAnd word (2 ^ u) → (b ≡ 0 → ⊥) → hasBit u word ≡ true
-unfolding hasBit
-a-bit u word b q z = ap not (ne-eqb (bitAnd word (2 ^ u)) 0 (λ y. z (q ∙ y)))
+pub not-zero : (w : ℕ) → (w ≡ 0 → ⊥) → not (eqb w 0) ≡ true
+not-zero w z = ap not (ne-eqb w 0 z)
+
+-- The kind of a race, by the op's tests.
+pub shown-by : (op : ℕ) (w d l s b a : Bool) → eqb op 16 ≡ l → eqb op 17 ≡ s → w ≡ b → d ≡ a
+    → shownKind w d (modeOf op) ≡ cond l (cond b WriteRead AddRead) (cond s (cond b WriteWrite (cond a AddWrite ReadWrite)) (cond b WriteAdd ReadAdd))
+unfolding modeOf
+shown-by op w d l s b a el es eb ea = rw (el, es, eb, ea) (by l s)
+  where
+    by : (l s : Bool) → shownKind b a (cond l reads (cond s writes adds))
+        ≡ cond l (cond b WriteRead AddRead) (cond s (cond b WriteWrite (cond a AddWrite ReadWrite)) (cond b WriteAdd ReadAdd))
+    by true s = unfold shownKind in refl
+    by false true = unfold shownKind in refl
+    by false false = unfold shownKind in refl
 
 -- For a lock-step log they are what the definition has, v being the value that a store stores or an add adds.
 module _ (op k i : ℕ) (log : List ℕ) (n v : ℕ) (m : Mem) (G : Log) (o : opOf op ≡ MEM OWN m) (p : 16 ≤ op) (q : op ≤ 18) (h : i < k) (L : LogIs n k G log) where
@@ -279,27 +282,17 @@ module _ (op k i : ℕ) (log : List ℕ) (n v : ℕ) (m : Mem) (G : Log) (o : op
   pub kind-means : (u : ℕ) → kindWord op v k i u log ≡ raceKind G i u (kindOf m v)
   unfolding kindWord
   kind-means u =
-      ap₂ shown (ap (hasBit u) (met-means writes) ∙ bit-has (conflicting G i writes (kindOf m v)) u)
+      ap₂ (λ w d. shownKind w d (modeOf op)) (ap (hasBit u) (met-means writes) ∙ bit-has (conflicting G i writes (kindOf m v)) u)
       (ap (hasBit u) (word-is n k G log L i h adds) ∙ bit-has (getD (masksOf G adds) i []) u)
-      ∙ by (which op p q)
+      ∙ ap (shownKind (has (conflicting G i writes (kindOf m v)) u) added) mode-means ∙ by (kindOf m v)
     where
-      wrote : Kind → Bool
-      wrote x = has (conflicting G i writes x) u
-
       added : Bool
       added = has (getD (masksOf G adds) i []) u
 
-      shown : Bool → Bool → AccessKind
-      shown w a = cond (eqb op 16) (cond w WriteRead AddRead) (cond (eqb op 17) (cond w WriteWrite (cond a AddWrite ReadWrite)) (cond w WriteAdd ReadAdd))
-
-      by : (op ≡ 16) ⊎ ((op ≡ 17) ⊎ (op ≡ 18)) → shown (wrote (kindOf m v)) added ≡ raceKind G i u (kindOf m v)
-      by (inl e) = subst (λ x. shown (wrote x) added ≡ raceKind G i u x) (kind-load e) (rw (eq-eqb op 16 e) (unfold raceKind shownKind mode in refl))
-      by (inr (inl e)) =
-          subst (λ x. shown (wrote x) added ≡ raceKind G i u x) (kind-store e)
-          (rw (ne-eqb op 16 (λ z. omega arith), eq-eqb op 17 e) (unfold raceKind shownKind conflicting agree mode in refl))
-      by (inr (inr e)) =
-          subst (λ x. shown (wrote x) added ≡ raceKind G i u x) (kind-add e)
-          (rw (ne-eqb op 16 (λ z. omega arith), ne-eqb op 17 (λ z. omega arith)) (unfold raceKind shownKind mode in refl))
+      by : (x : Kind) → shownKind (has (conflicting G i writes x) u) added (mode x) ≡ raceKind G i u x
+      by load = unfold raceKind shownKind mode in refl
+      by (store w) = unfold raceKind shownKind conflicting agree mode in refl
+      by (atomicAdd w) = unfold raceKind shownKind mode in refl
 
   module _ (few : n ≤ 32) (t bit : ℕ) (l : t < n) (b : bit ≡ 2 ^ t) where
     pub conflict-means : bitAnd (testedWord op v k i log) (4294967295 - bit) ≡ maskWord (conflictMask G i t (kindOf m v))

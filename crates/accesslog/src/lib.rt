@@ -1,11 +1,13 @@
 // The access log: all reader masks, then all writer masks, all adder masks, all first values and all marks of unequal stores. The access
 // test, the log's reading and writing, and the walk that clears it.
 ghost use mathlib.Core.Path.{_≡_};
+ghost use mathlib.Core.Bool.{not};
 ghost use Prim.Native.Nat.{_*_, _<_, _≤_};
 ghost use lib.Bits.{bitOr};
+ghost use lib.Dec.{eqb};
 ghost use lib.ListN.{length, replicate};
 ghost use Rattle.spec.specs.Limits.{logPerCell};
-ghost use Rattle.spec.specs.Log.{cellCleared, cellsCleared};
+ghost use Rattle.spec.specs.Log.{cellCleared, cellsCleared, shownKind};
 ghost use Rattle.spec.specs.Access.{writes};
 ghost use Rattle.layout.specs.Logging.{LogAsks, modeOf, rank, placeOf, conflictingWord, testedWord, besideWriters, kindWord, wordOf, markEntered, valueEntered, enteredWords};
 
@@ -53,20 +55,10 @@ pub fn met(log: &[u32], cells: usize, i: usize, bit: u32, v: u32, op: u8) -> u32
     writers_met(log, cells, i, v, op) | others
 }
 
-// The kind of a race with the thread `other` at cell i: of what it did there and op conflicts with, a write is shown before an add, an add before a read.
-pub fn race_kind(
-    log: &[u32],
-    cells: usize,
-    i: usize,
-    other: u32,
-    v: u32,
-    op: u8,
-) -> spec::AccessKind
-    requires { ⌜ (other < 32) × LogAsks op cells i (now log) ⌝ }
-    ensures { λ r. ⌜ r ≡ kindWord op v cells i other (now (log .entry)) ⌝ }
+// The kind of a race by op with somebody who wrote, or added, where these words are not 0: of that a write is shown before an add, an add before a read.
+pub fn shown_kind(wrote: u32, added: u32, op: u8) -> spec::AccessKind
+    ensures { λ r. ⌜ r ≡ shownKind (not (eqb wrote 0)) (not (eqb added 0)) (modeOf op) ⌝ }
 {
-    let wrote = masks::bit(writers_met(log, cells, i, v, op), other);
-    let added = masks::bit(log[2 * cells + i], other);
     if op == 16 {
         if wrote == 0 {
             return spec::AccessKind::AddRead;
@@ -86,6 +78,23 @@ pub fn race_kind(
         return spec::AccessKind::ReadAdd;
     }
     spec::AccessKind::WriteAdd
+}
+
+// The kind of a race with the thread `other` at cell i.
+pub fn race_kind(
+    log: &[u32],
+    cells: usize,
+    i: usize,
+    other: u32,
+    v: u32,
+    op: u8,
+) -> spec::AccessKind
+    requires { ⌜ (other < 32) × LogAsks op cells i (now log) ⌝ }
+    ensures { λ r. ⌜ r ≡ kindWord op v cells i other (now (log .entry)) ⌝ }
+{
+    let wrote = masks::bit(writers_met(log, cells, i, v, op), other);
+    let added = masks::bit(log[2 * cells + i], other);
+    shown_kind(wrote, added, op)
 }
 
 // Where the mask of cell i stands that an access by op enters.

@@ -9,7 +9,7 @@ use lib.Dec.{eqb, ltb}
 use borrow.Author.Tests.{eq-eqb, ne-eqb, ltb-true, ltb-false}
 use lib.ListN.{length, getD, set, replicate, length-set, length-replicate, getD-replicate}
 use lib.Seq.{getD-set-other, getD-set-same, set-out}
-use Rattle.spec.specs.Access.{Access, Kind, load, store, atomicAdd, Mode, reads, writes, adds, mode, agree}
+use Rattle.spec.specs.Access.{Access, Kind, Mode, reads, writes, adds, mode, agree}
 use Rattle.spec.specs.GroupLog.{GroupLog, emptyGroupLog, groupMasksOf, groupLogged, conflictingGroups, groupConflictMask}
 use Rattle.spec.specs.Lists.{anyOf}
 use Rattle.spec.specs.Log.{nobody, withThread}
@@ -19,7 +19,7 @@ use Rattle.spec.specs.Op.{Space, OWN, GLOBAL}
 use Rattle.spec.specs.Shape.{Shape, address, bound, isGlobal}
 use Rattle.spec.specs.Threads.{AccessRecord, anyBelow, emptyRecord, recorded}
 use Rattle.spec.proofs.Laws.{union-size}
-use Rattle.spec.proofs.LogLaws.{same, nobody-size}
+use Rattle.spec.proofs.LogLaws.{same, groups-logged, nobody-size}
 use Rattle.allruns.proofs.Bools.{below-more, below-none, below-same}
 use Rattle.allruns.proofs.LogMatches.{inMode, holds}
 use Rattle.allruns.proofs.LogRecord.{any-below, enter-has, enter-size, has-set, has-union, holds-recorded, nobody-has, replicate-has}
@@ -44,20 +44,6 @@ pub record GroupsKept (g : ℕ) (p : ℕ → Bool) (H K : GroupLog) : Type 0 whe
   pub beside : (m : Mode) (i h : ℕ) → ¬ (h ≡ g) → has (getD (groupMasksOf K m) i []) h ≡ has (getD (groupMasksOf H m) i []) h
   pub elsewhere : (m : Mode) (i : ℕ) → p i ≡ false → getD (groupMasksOf K m) i [] ≡ getD (groupMasksOf H m) i []
 
--- The masks of a mode after an access.
-masks-entered : (H : GroupLog) (i g : ℕ) (x : Kind) (m : Mode)
-    → groupMasksOf (groupLogged H i g x) m ≡ cond (same m (mode x)) (withThread (groupMasksOf H m) i g) (groupMasksOf H m)
-unfolding groupMasksOf groupLogged same mode
-masks-entered H i g load reads = refl
-masks-entered H i g load writes = refl
-masks-entered H i g load adds = refl
-masks-entered H i g (store v) reads = refl
-masks-entered H i g (store v) writes = refl
-masks-entered H i g (store v) adds = refl
-masks-entered H i g (atomicAdd v) reads = refl
-masks-entered H i g (atomicAdd v) writes = refl
-masks-entered H i g (atomicAdd v) adds = refl
-
 -- Other bits than the one that is entered.
 enter-beside : (masks : List Mask) (i g e h : ℕ) → ¬ (h ≡ g) → has (getD (withThread masks i g) e []) h ≡ has (getD masks e []) h
 unfolding withThread has
@@ -76,11 +62,11 @@ pub entered-kept : (H : GroupLog) (i g : ℕ) (x : Kind) (p : ℕ → Bool) → 
 entered-kept H i g x p r =
     record {
       sized = λ n k z. record {
-        count = λ m. ap length (masks-entered H i g x m) ∙ counted m (same m (mode x)) ∙ z .count m;
-        size = λ m e l. ap (λ y. length (getD y e [])) (masks-entered H i g x m) ∙ long m (same m (mode x)) e ∙ z .size m e l;
+        count = λ m. ap length (groups-logged H i g x m) ∙ counted m (same m (mode x)) ∙ z .count m;
+        size = λ m e l. ap (λ y. length (getD y e [])) (groups-logged H i g x m) ∙ long m (same m (mode x)) e ∙ z .size m e l;
       };
-      beside = λ m e h d. ap (λ y. has (getD y e []) h) (masks-entered H i g x m) ∙ bit m (same m (mode x)) e h d;
-      elsewhere = λ m e q. ap (λ y. getD y e []) (masks-entered H i g x m) ∙ apart m (same m (mode x)) e (λ s. true≢false (sym r ∙ ap p (sym s) ∙ q));
+      beside = λ m e h d. ap (λ y. has (getD y e []) h) (groups-logged H i g x m) ∙ bit m (same m (mode x)) e h d;
+      elsewhere = λ m e q. ap (λ y. getD y e []) (groups-logged H i g x m) ∙ apart m (same m (mode x)) e (λ s. true≢false (sym r ∙ ap p (sym s) ∙ q));
     }
   where
     after : Mode → Bool → List Mask
@@ -219,7 +205,7 @@ module _ (L : Shape) (k : ℕ) (ever : AccessRecord) (barred : Access → Bool) 
       record {
         sized = kept .sized (L .groups) k (h .sized);
         own = λ m e b q.
-            ap (λ y. has (getD y e []) (L .group)) (masks-entered H i (L .group) x m) ∙ bit m e (same m (mode x)) b q
+            ap (λ y. has (getD y e []) (L .group)) (groups-logged H i (L .group) x m) ∙ bit m e (same m (mode x)) b q
             ∙ sym (ever-after t i x m e l ∙ (unfold inMode in refl));
         others = λ e y b. h .others e y b ∙ ap (λ z. isGlobal L e && z) (sym (kept-met (L .groups) k H _ (L .group) (isGlobal L) (h .sized) kept e y b g));
       }

@@ -1,14 +1,12 @@
 -- The words that the code's functions on the group masks come to, by the op. Assumes nothing.
-use mathlib.Core.Path.{_≡_, refl, _∙_, ap, ap₂}
+use mathlib.Core.Path.{_≡_, refl, sym, _∙_, ap, ap₂}
 use mathlib.Core.List.{List}
-use mathlib.Core.Bool.{Bool, true, false, cond}
+use mathlib.Core.Bool.{false, cond}
 use Prim.Native.Nat.{ℕ, _+_, _-_, _*_, _<_}
 use native.Mathlib.Omega.{arith}
 use borrow.Author.Tests.{eq-eqb, ne-eqb}
 use lib.Bits.{bitAnd, bitOr, or-zero-l, or-zero-r}
-use lib.Dec.{eqb}
 use lib.ListN.{length, getD, set}
-use Rattle.spec.specs.declared.AccessKind.the-variants.{ReadWrite, WriteRead, WriteWrite, ReadAdd, AddRead, WriteAdd, AddWrite}
 use Rattle.spec.specs.Access.{Mode, reads, writes, adds, agree}
 use Rattle.spec.specs.Log.{shownKind}
 use Rattle.layout.specs.Logging.{modeOf, rank, placeOf, wordOf, hasBit, maskEntered}
@@ -49,12 +47,12 @@ module _ (op k i bit : ℕ) (masks : List ℕ) where
       rw (ne-eqb op 16 (λ z. omega arith), ne-eqb op 17 (λ z. omega arith))
       (ap₂ (λ (w y : ℕ). beside (bitOr w y)) (word-writes k i masks) (or-zero-l (wordOf (rank reads) k i masks) ∙ word-reads k i masks))
 
--- The kind of a race, by the op's tests and the other group's bits.
-pub kind-by : (op k i u : ℕ) (masks : List ℕ) (l s w b : Bool) → eqb op 16 ≡ l → eqb op 17 ≡ s → hasBit u (getD masks (k + i) 0) ≡ w
-    → hasBit u (getD masks (2 * k + i) 0) ≡ b
-    → groupKindWord op k i u masks ≡ cond l (cond w WriteRead AddRead) (cond s (cond w WriteWrite (cond b AddWrite ReadWrite)) (cond w WriteAdd ReadAdd))
-unfolding groupKindWord groupsMet modeOf
-kind-by op k i u masks l s w b el es ew eb = rw (el, es) (by l s)
+-- The kind of a race, by the other group's bits: adders are not looked at where they agree with the access.
+pub kind-is : (op k i u : ℕ) (masks : List ℕ)
+    → shownKind (hasBit u (getD masks (k + i) 0)) (hasBit u (getD masks (2 * k + i) 0)) (modeOf op) ≡ groupKindWord op k i u masks
+unfolding groupKindWord groupsMet
+kind-is op k i u masks =
+    sym (ap₂ (λ w d. shownKind (hasBit u w) (hasBit u d) (modeOf op)) (word-writes k i masks) (adders-are op k i 0 masks)) ∙ by (modeOf op)
   where
     wrote : ℕ
     wrote = wordOf (rank writes) k i masks
@@ -62,19 +60,11 @@ kind-by op k i u masks l s w b el es ew eb = rw (el, es) (by l s)
     added : ℕ
     added = wordOf (rank adds) k i masks
 
-    wrote-is : hasBit u wrote ≡ w
-    wrote-is = ap (hasBit u) (word-writes k i masks) ∙ ew
-
-    added-is : hasBit u added ≡ b
-    added-is = ap (hasBit u) (adders-are op k i 0 masks) ∙ eb
-
-    by : (l s : Bool)
-        → shownKind (hasBit u (cond (agree false writes (cond l reads (cond s writes adds))) 0 wrote))
-        (hasBit u (cond (agree false adds (cond l reads (cond s writes adds))) 0 added)) (cond l reads (cond s writes adds))
-        ≡ cond l (cond w WriteRead AddRead) (cond s (cond w WriteWrite (cond b AddWrite ReadWrite)) (cond w WriteAdd ReadAdd))
-    by true s = unfold agree shownKind in (ap (λ y. cond y WriteRead AddRead) wrote-is)
-    by false true = unfold agree shownKind in (ap₂ (λ y z. cond y WriteWrite (cond z AddWrite ReadWrite)) wrote-is added-is)
-    by false false = unfold agree shownKind in (ap (λ y. cond y WriteAdd ReadAdd) wrote-is)
+    by : (m : Mode) → shownKind (hasBit u wrote) (hasBit u added) m
+        ≡ shownKind (hasBit u (cond (agree false writes m) 0 wrote)) (hasBit u (cond (agree false adds m) 0 added)) m
+    by reads = unfold agree shownKind in refl
+    by writes = unfold agree shownKind in refl
+    by adds = unfold agree shownKind in refl
 
 -- The mask that an access enters is one of the buffer's words.
 pub place-inside : (op k i : ℕ) (masks : List ℕ) (p : ℕ) → GroupAsks op k i masks → p ≡ placeOf (rank (modeOf op)) k i → (p < length masks) × (p < 3072)

@@ -18,32 +18,14 @@ pub fn rivals(masks: &[u32], cells: usize, i: usize, bit: u32, op: u8) -> u32
     masks::minus(masks[cells + i] | (masks[2 * cells + i] | masks[i]), bit)
 }
 
-// The kind of a race with the group `other` at cell i: of what it did there and op conflicts with, a write is shown before an add, an add before a read.
+// The kind of a race with the group `other` at cell i.
 pub fn race_kind(masks: &[u32], cells: usize, i: usize, other: u32, op: u8) -> spec::AccessKind
     requires { ⌜ (other < 32) × GroupAsks op cells i (now masks) ⌝ }
     ensures { λ r. ⌜ r ≡ groupKindWord op cells i other (now (masks .entry)) ⌝ }
 {
     let wrote = masks::bit(masks[cells + i], other);
     let added = masks::bit(masks[2 * cells + i], other);
-    if op == 16 {
-        if wrote == 0 {
-            return spec::AccessKind::AddRead;
-        }
-        return spec::AccessKind::WriteRead;
-    }
-    if op == 17 {
-        if wrote == 0 {
-            if added == 0 {
-                return spec::AccessKind::ReadWrite;
-            }
-            return spec::AccessKind::AddWrite;
-        }
-        return spec::AccessKind::WriteWrite;
-    }
-    if wrote == 0 {
-        return spec::AccessKind::ReadAdd;
-    }
-    spec::AccessKind::WriteAdd
+    accesslog::shown_kind(wrote, added, op)
 }
 
 // The group of this bit enters the mask of cell i.

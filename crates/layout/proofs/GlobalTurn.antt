@@ -19,11 +19,10 @@ use Rattle.spec.specs.Table.{Row, cellByte, kindOf}
 use Rattle.spec.specs.Shape.{Shape, total, bound, address}
 use Rattle.spec.specs.Steps.{stepped}
 use Rattle.spec.specs.LockStep.{LockState, Step, continues, stops, update, reg, madeAccess, enterGroup, rivals, tryAccess, accessTurn}
-use Rattle.spec.proofs.LogLaws.{same, masks-logged}
+use Rattle.spec.proofs.LogLaws.{same, masks-logged, groups-logged}
 use Rattle.layout.specs.Views.{part, putPart, logPart, putLog, viewOf, putView, globalFrom, alone, Sized}
 use Rattle.layout.specs.Shared.{groupPart, putGroups}
 use Rattle.layout.proofs.Parts.{part-at, part-set, part-size, put-part, put-set, LogFits, log-part-masks, put-log-masks, same-log}
-use Rattle.layout.proofs.GroupBuffer.{groups-logged}
 
 -- A change at c of the stretch, put back, is one at a + c.
 pub put-one : {A : Type 0} (a k : ℕ) (xs : List A) (c : ℕ) (v : A) → a + k ≤ length xs → c < k → putPart a (set (part a k xs) c v) xs ≡ set xs (a + c) v

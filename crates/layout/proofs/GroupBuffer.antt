@@ -12,7 +12,7 @@ use Rattle.spec.specs.Mask.{Mask, maskWord, has, union}
 use Rattle.spec.specs.Log.{nobody, withThread, shownKind}
 use Rattle.spec.specs.GroupLog.{GroupLog, groupMasksOf, groupLogged, conflictingGroups, groupConflictMask, groupRaceKind}
 use Rattle.spec.proofs.Laws.{union-size}
-use Rattle.spec.proofs.LogLaws.{same, nobody-size}
+use Rattle.spec.proofs.LogLaws.{same, groups-logged, nobody-size}
 use Rattle.masks.proofs.Words.{word-or, word-set, word-except}
 use Rattle.layout.specs.Memory.{Masks}
 use Rattle.layout.specs.Logging.{modeOf, rank, placeOf, wordOf, hasBit, maskEntered}
@@ -20,20 +20,6 @@ use Rattle.layout.specs.Shared.{groupKinds, groupWords, groupsPerCell, G
 use Rattle.layout.proofs.Lists.{map-set, Even, joined-size, joined-at, joined-set}
 use Rattle.layout.proofs.Buffers.{masks-set, mask-at}
 use Rattle.layout.proofs.LogBuffer.{nobody-word, bit-has}
-
--- The masks of a mode after an access.
-pub groups-logged : (H : GroupLog) (i g : ℕ) (x : Kind) (m : Mode)
-    → groupMasksOf (groupLogged H i g x) m ≡ cond (same m (mode x)) (withThread (groupMasksOf H m) i g) (groupMasksOf H m)
-unfolding groupMasksOf groupLogged same mode
-groups-logged H i g load reads = refl
-groups-logged H i g load writes = refl
-groups-logged H i g load adds = refl
-groups-logged H i g (store v) reads = refl
-groups-logged H i g (store v) writes = refl
-groups-logged H i g (store v) adds = refl
-groups-logged H i g (atomicAdd v) reads = refl
-groups-logged H i g (atomicAdd v) writes = refl
-groups-logged H i g (atomicAdd v) adds = refl
 
 pub masks-entered : (n k : ℕ) (H : GroupLog) → ((m : Mode) → Masks n k (groupMasksOf H m)) → (i g : ℕ) (x : Kind) → i < k
     → (m : Mode) → Masks n k (groupMasksOf (groupLogged H i g x) m)

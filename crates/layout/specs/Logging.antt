@@ -7,8 +7,8 @@ use lib.Bits.{bitAnd, bitOr}
 use lib.Dec.{eqb}
 use lib.ListN.{length, getD, set}
 use Rattle.spec.specs.declared.AccessKind.{AccessKind}
-use Rattle.spec.specs.declared.AccessKind.the-variants.{ReadWrite, WriteRead, WriteWrite, ReadAdd, AddRead, WriteAdd, AddWrite}
 use Rattle.spec.specs.Access.{Mode, reads, writes, adds, agree}
+use Rattle.spec.specs.Log.{shownKind}
 use Rattle.spec.specs.Limits.{logPerCell}
 
 -- The mode of an access row's op: LOAD (16), STORE (17), ATOMIC ADD (18).
@@ -68,16 +68,12 @@ valueEntered v k i log = cond (eqb (wordOf (rank writes) k i log) 0) (set log (p
 unfoldable pub enteredWords : (op v k i bit : ℕ) → (log : List ℕ) → List ℕ
 enteredWords op v k i bit log = maskEntered op k i bit (cond (eqb op 17) (valueEntered v k i log) log)
 
--- The kind of a race with thread u: a LOAD looks for its bit among the writers, a STORE among the writers where it conflicts with them and then the
--- adders, an ATOMIC ADD among the writers.
+-- The kind of a race with thread u, by its bit among the writers, where op conflicts with them, and among the adders.
 unfoldable pub hasBit : (u word : ℕ) → Bool
 hasBit u word = not (eqb (bitAnd word (2 ^ u)) 0)
 
 unfoldable pub kindWord : (op v k i u : ℕ) → (log : List ℕ) → AccessKind
-kindWord op v k i u log =
-    let wrote = hasBit u (conflictingWord writes op v k i log) in
-    let added = hasBit u (wordOf (rank adds) k i log) in
-    cond (eqb op 16) (cond wrote WriteRead AddRead) (cond (eqb op 17) (cond wrote WriteWrite (cond added AddWrite ReadWrite)) (cond wrote WriteAdd ReadAdd))
+kindWord op v k i u log = shownKind (hasBit u (conflictingWord writes op v k i log)) (hasBit u (wordOf (rank adds) k i log)) (modeOf op)
 
 -- Word j is one of cell j % k. Above cell h every word is 0; above cell h, or of every cell but i, each word is as it was.
 abbrev pub EmptyAbove : (h k : ℕ) → (log : List ℕ) → Type 0

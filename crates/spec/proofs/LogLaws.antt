@@ -8,6 +8,7 @@ use lib.ListN.{length, getD, replicate, length-map}
 use Rattle.spec.specs.Access.{Kind, load, store, atomicAdd, valueOf, Mode, reads, writes, adds, mode, agree}
 use Rattle.spec.specs.Lists.{mapWhere}
 use Rattle.spec.specs.Mask.{Mask, union}
+use Rattle.spec.specs.GroupLog.{GroupLog, groupMasksOf, groupLogged}
 use Rattle.spec.specs.Log.{Log, masksOf, emptyLog, nobody, cleared, withThread, unequal, logged, conflicting, testedMask}
 use Rattle.spec.proofs.Laws.{union-size}
 
@@ -41,6 +42,20 @@ masks-logged G c t (store v) adds = refl
 masks-logged G c t (atomicAdd v) reads = refl
 masks-logged G c t (atomicAdd v) writes = refl
 masks-logged G c t (atomicAdd v) adds = refl
+
+-- The same of the group masks.
+pub groups-logged : (H : GroupLog) (i g : ℕ) (x : Kind) (m : Mode)
+    → groupMasksOf (groupLogged H i g x) m ≡ cond (same m (mode x)) (withThread (groupMasksOf H m) i g) (groupMasksOf H m)
+unfolding groupMasksOf groupLogged same mode
+groups-logged H i g load reads = refl
+groups-logged H i g load writes = refl
+groups-logged H i g load adds = refl
+groups-logged H i g (store v) reads = refl
+groups-logged H i g (store v) writes = refl
+groups-logged H i g (store v) adds = refl
+groups-logged H i g (atomicAdd v) reads = refl
+groups-logged H i g (atomicAdd v) writes = refl
+groups-logged H i g (atomicAdd v) adds = refl
 
 pub masks-cleared : (p : ℕ → Bool) (G : Log) (m : Mode) → masksOf (cleared p G) m ≡ mapWhere p nobody 0 (masksOf G m)
 unfolding masksOf cleared
