@@ -6,7 +6,7 @@ use Prim.Native.Nat.{ℕ, zero, suc, _+_, _-_, _*_, _<_, _≤_}
 use native.Mathlib.Omega.{arith}
 use borrow.Author.Tests.{lt-ltb, le-ltb}
 use lib.ListN.{length, getD, set, drop, length-drop}
-use lib.Seq.{getD-append-add, drop-drop, drop-set-lt}
+use lib.Seq.{getD-append-add, drop-drop, drop-set-lt, set-getD}
 use Rattle.spec.specs.Limits.{recordsLent}
 use Rattle.spec.specs.Steps.{sum}
 use Rattle.spec.specs.Intervals.{Interval, Intervals, allOf, started, withRow, together, recordsOf, recordWords, conflictsOf}
@@ -86,22 +86,23 @@ goes-row s r c x k is =
     let cost : c + (k + is .first .cost) ≡ c + k + is .first .cost = omega arith in
     λ j. record { first = record { start = s; rows = rows j; cost = cost j }; later = is .later }
 
--- An interval that a release ends, at row x, with the others behind it.
-abbrev endsAt : (x row : ℕ) → Intervals → Intervals
-endsAt x row is = withRow x 0 (record { first = started row .first; later = allOf is })
+-- An interval that ends here, with the others behind it. Where it started is not looked at: it goes on with the start that it has.
+abbrev pub endsHere : (y : ℕ) → Intervals → Intervals
+endsHere y is = record { first = started y .first; later = allOf is }
 
 abbrev over-with : (s r c : ℕ) → Interval
 over-with s r c = record { start = s; rows = r; cost = c }
 
-goes-over : (s r c x row : ℕ) (is : Intervals) → allOf (goesOn s r c (endsAt x row is)) ≡ over-with s (r + 1) c ∷ allOf is
-unfolding allOf withRow started
-goes-over s r c x row is =
-    let cost : c + (0 + 0) ≡ c = omega arith in
-    λ j. record { start = s; rows = r + 1; cost = cost j } ∷ is .first ∷ is .later
+goes-over : (s r c y : ℕ) (is : Intervals) → allOf (goesOn s r c (endsHere y is)) ≡ over-with s r c ∷ allOf is
+unfolding allOf started
+goes-over s r c y is =
+    let rows : r + 0 ≡ r = omega arith in
+    let cost : c + 0 ≡ c = omega arith in
+    λ j. record { start = s; rows = rows j; cost = cost j } ∷ is .first ∷ is .later
 
 -- From then on in the same record.
-goes-capped : (s r c x row : ℕ) (is : Intervals) → recordsOf 0 (allOf (goesOn s r c (endsAt x row is))) ≡ recordsOf 0 (allOf (goesOn s (r + 1) c is))
-goes-capped s r c x row is = ap (recordsOf 0) (goes-over s r c x row is) ∙ (unfold recordsOf allOf together in refl)
+goes-capped : (s r c y : ℕ) (is : Intervals) → recordsOf 0 (allOf (goesOn s r c (endsHere y is))) ≡ recordsOf 0 (allOf (goesOn s r c is))
+goes-capped s r c y is = ap (recordsOf 0) (goes-over s r c y is) ∙ (unfold recordsOf allOf together in refl)
 
 records-one : (k : ℕ) (i : Interval) → recordsOf k (i ∷ []) ≡ i ∷ []
 unfolding recordsOf together
@@ -109,15 +110,15 @@ records-one zero i = refl
 records-one (suc k) i = refl
 
 -- `whole` are the records of the run, `rest` its intervals from here on. The interval that goes on began with `before` rows run.
-pub record Ledger (whole : List Interval) (lent : List ℕ) (rest : Intervals) (barriers rows : ℕ) (records : List ℕ) : Type 0 where
+pub record Ledger (whole : List Interval) (lent : List ℕ) (rest : Intervals) (earlier rows : ℕ) (records : List ℕ) : Type 0 where
   pub finished : List Interval
   pub start : ℕ
   pub before : ℕ
   pub cost : ℕ
-  pub count : length finished ≡ inUse barriers
-  pub words : records ≡ recordWords finished ++ (start ∷ before ∷ cost ∷ drop (inUse barriers * 3 + 3) lent)
+  pub count : length finished ≡ inUse earlier
+  pub words : records ≡ recordWords finished ++ (start ∷ before ∷ cost ∷ drop (inUse earlier * 3 + 3) lent)
   pub began : before ≤ rows
-  pub same : whole ≡ finished ++ recordsOf (1024 - inUse barriers) (allOf (goesOn start (rows - before) cost rest))
+  pub same : whole ≡ finished ++ recordsOf (1024 - inUse earlier) (allOf (goesOn start (rows - before) cost rest))
   pub few : conflictsOf finished + cost ≤ 31 * rows
   pub enough : recordsLent ≤ length lent
 
@@ -158,9 +159,17 @@ ledger-start whole lent rest records h e z w =
       enough = h;
     }
 
-module _ (whole : List Interval) (lent : List ℕ) (rest : Intervals) (barriers rows : ℕ) (records : List ℕ) (B : Ledger whole lent rest barriers rows records) where
+-- A cost of 0 changes nothing.
+pub charged-none : (earlier cost : ℕ) (records : List ℕ) → cost ≡ 0 → charged earlier cost records ≡ records
+unfolding charged
+charged-none earlier cost records e =
+    let p = inUse earlier * 3 + 2 in
+    let same : getD records p 0 + cost ≡ getD records p 0 = omega arith in
+    ap (set records p) same ∙ set-getD records p 0
+
+module _ (whole : List Interval) (lent : List ℕ) (rest : Intervals) (earlier rows : ℕ) (records : List ℕ) (B : Ledger whole lent rest earlier rows records) where
   abbrev k : ℕ
-  k = inUse barriers
+  k = inUse earlier
 
   abbrev behind : List ℕ
   behind = drop (k * 3 + 3) lent
@@ -175,13 +184,13 @@ module _ (whole : List Interval) (lent : List ℕ) (rest : Intervals) (barriers 
   cost-word = ap (λ l. getD l (k * 3 + 2) 0) (B .words) ∙ get-word (B .finished) k (B .count) (B .start ∷ B .before ∷ B .cost ∷ behind) 2
 
   -- a row may be run: its cost fits
-  pub ledger-asks : recordsLent ≤ length records → rows < 1000000 → RecordAsks barriers rows records
+  pub ledger-asks : recordsLent ≤ length records → rows < 1000000 → RecordAsks earlier rows records
   ledger-asks h l =
       record { lent = h; room = omega (arith, cost-word, B .few); before = omega (arith, rows-word, B .began) }
 
   -- a row that ends no interval
-  pub ledger-row : (x cost : ℕ) (rest′ : Intervals) (records′ : List ℕ) → rest ≡ withRow x cost rest′ → cost ≤ 31 → records′ ≡ charged barriers cost records
-      → Ledger whole lent rest′ barriers (rows + 1) records′
+  pub ledger-row : (x cost : ℕ) (rest′ : Intervals) (records′ : List ℕ) → rest ≡ withRow x cost rest′ → cost ≤ 31 → records′ ≡ charged earlier cost records
+      → Ledger whole lent rest′ earlier (rows + 1) records′
   unfolding charged
   ledger-row x cost rest′ records′ e h w =
       record {
@@ -197,7 +206,7 @@ module _ (whole : List Interval) (lent : List ℕ) (rest : Intervals) (barriers 
         enough = B .enough;
       }
     where
-      paid : charged barriers cost records ≡ recordWords (B .finished) ++ (B .start ∷ B .before ∷ (B .cost + cost) ∷ behind)
+      paid : charged earlier cost records ≡ recordWords (B .finished) ++ (B .start ∷ B .before ∷ (B .cost + cost) ∷ behind)
       paid =
           ap (λ v. set records (k * 3 + 2) (v + cost)) cost-word ∙ ap (λ l. set l (k * 3 + 2) (B .cost + cost)) (B .words)
           ∙ set-word (B .finished) k (B .count) (B .start ∷ B .before ∷ B .cost ∷ behind) 2 (B .cost + cost)
@@ -208,85 +217,81 @@ module _ (whole : List Interval) (lent : List ℕ) (rest : Intervals) (barriers 
           ap (goesOn (B .start) (rows - B .before) (B .cost)) e ∙ goes-row (B .start) (rows - B .before) (B .cost) x cost rest′
           ∙ ap (λ r. goesOn (B .start) r (B .cost + cost) rest′) more
 
-  -- a release: the next record is begun, or the last one goes on
-  module _ (x row : ℕ) (rest′ : Intervals) (records′ : List ℕ) (e : rest ≡ endsAt x row rest′) (z : rest′ .first .start ≡ row)
-      (w : records′ ≡ released barriers row (rows + 1) records) where
+  -- an interval ends here: the next record is begun, or the last one goes on
+  module _ (y row : ℕ) (rest′ : Intervals) (records′ : List ℕ) (e : rest ≡ endsHere y rest′) (z : rest′ .first .start ≡ row)
+      (w : records′ ≡ released earlier row rows records) where
     abbrev finally : Interval
-    finally = over-with (B .start) (rows + 1 - B .before) (B .cost)
-
-    last-rows : rows - B .before + 1 ≡ rows + 1 - B .before
-    last-rows = omega (arith, B .began)
+    finally = over-with (B .start) (rows - B .before) (B .cost)
 
     abbrev next-behind : List ℕ
     next-behind = drop ((k + 1) * 3 + 3) lent
 
-    release-next : barriers < 1024 → Ledger whole lent rest′ (barriers + 1) (rows + 1) records′
+    open-next : earlier < 1024 → Ledger whole lent rest′ (earlier + 1) rows records′
     unfolding inUse begun ended released recordsOf
-    release-next h =
+    open-next h =
         record {
           finished = B .finished ++ (finally ∷ []);
           start = row;
-          before = rows + 1;
+          before = rows;
           cost = 0;
           count = size-more (B .finished) finally ∙ used;
-          words = w ∙ written ∙ ap (λ u. recordWords (B .finished ++ (finally ∷ [])) ++ (row ∷ (rows + 1) ∷ 0 ∷ drop (u * 3 + 3) lent)) next;
+          words = w ∙ written ∙ ap (λ u. recordWords (B .finished ++ (finally ∷ [])) ++ (row ∷ rows ∷ 0 ∷ drop (u * 3 + 3) lent)) next;
           began = omega arith;
           same = B .same ∙ whole-is;
           few = omega (arith, conflicts-more (B .finished) finally, B .few);
           enough = B .enough;
         }
       where
-        k-is : k ≡ barriers
+        k-is : k ≡ earlier
         k-is = omega arith
 
-        next : k + 1 ≡ inUse (barriers + 1)
+        next : k + 1 ≡ inUse (earlier + 1)
         next = omega arith
 
-        used : length (B .finished) + 1 ≡ inUse (barriers + 1)
+        used : length (B .finished) + 1 ≡ inUse (earlier + 1)
         used = omega (arith, B .count)
 
-        closed : ended barriers (rows + 1) records ≡ recordWords (B .finished ++ (finally ∷ [])) ++ behind
+        closed : ended earlier rows records ≡ recordWords (B .finished ++ (finally ∷ [])) ++ behind
         closed =
-            ap (λ b. ended b (rows + 1) records) (sym k-is) ∙ ap (λ v. set records (k * 3 + 1) (rows + 1 - v)) rows-word
-            ∙ ap (λ l. set l (k * 3 + 1) (rows + 1 - B .before)) (B .words)
-            ∙ set-word (B .finished) k (B .count) (B .start ∷ B .before ∷ B .cost ∷ behind) 1 (rows + 1 - B .before)
+            ap (λ b. ended b rows records) (sym k-is) ∙ ap (λ v. set records (k * 3 + 1) (rows - v)) rows-word
+            ∙ ap (λ l. set l (k * 3 + 1) (rows - B .before)) (B .words)
+            ∙ set-word (B .finished) k (B .count) (B .start ∷ B .before ∷ B .cost ∷ behind) 1 (rows - B .before)
             ∙ sym (words-more (B .finished) finally behind)
 
         left : 3 ≤ length behind
         left = omega (arith, length-drop (k * 3 + 3) lent, B .enough)
 
         fresh : (l : List ℕ) → l ≡ recordWords (B .finished ++ (finally ∷ [])) ++ behind
-            → begun (k + 1) row (rows + 1) l ≡ recordWords (B .finished ++ (finally ∷ [])) ++ (row ∷ (rows + 1) ∷ 0 ∷ next-behind)
+            → begun (k + 1) row rows l ≡ recordWords (B .finished ++ (finally ∷ [])) ++ (row ∷ rows ∷ 0 ∷ next-behind)
         fresh l el =
             let P = B .finished ++ (finally ∷ []) in
             let size = size-more (B .finished) finally ∙ ap (λ n. n + 1) (B .count) in
             let third : (k + 1) * 3 ≡ (k + 1) * 3 + 0 = omega arith in
-            ap (begun (k + 1) row (rows + 1)) el
-            ∙ ap (λ p. set (set (set (recordWords P ++ behind) p row) ((k + 1) * 3 + 1) (rows + 1)) ((k + 1) * 3 + 2) 0) third
-            ∙ ap (λ m. set (set m ((k + 1) * 3 + 1) (rows + 1)) ((k + 1) * 3 + 2) 0) (set-word P (k + 1) size behind 0 row)
-            ∙ ap (λ m. set m ((k + 1) * 3 + 2) 0) (set-word P (k + 1) size (set behind 0 row) 1 (rows + 1))
-            ∙ set-word P (k + 1) size (set (set behind 0 row) 1 (rows + 1)) 2 0
-            ∙ ap (λ m. recordWords P ++ m) (begun-front row (rows + 1) behind left)
-            ∙ ap (λ m. recordWords P ++ (row ∷ (rows + 1) ∷ 0 ∷ m)) (drop-drop 3 (k * 3 + 3) lent ∙ ap (λ n. drop n lent) (let y : k * 3 + 3 + 3 ≡ (k + 1) * 3 + 3 = omega arith in y))
+            ap (begun (k + 1) row rows) el
+            ∙ ap (λ p. set (set (set (recordWords P ++ behind) p row) ((k + 1) * 3 + 1) rows) ((k + 1) * 3 + 2) 0) third
+            ∙ ap (λ m. set (set m ((k + 1) * 3 + 1) rows) ((k + 1) * 3 + 2) 0) (set-word P (k + 1) size behind 0 row)
+            ∙ ap (λ m. set m ((k + 1) * 3 + 2) 0) (set-word P (k + 1) size (set behind 0 row) 1 rows)
+            ∙ set-word P (k + 1) size (set (set behind 0 row) 1 rows) 2 0
+            ∙ ap (λ m. recordWords P ++ m) (begun-front row rows behind left)
+            ∙ ap (λ m. recordWords P ++ (row ∷ rows ∷ 0 ∷ m)) (drop-drop 3 (k * 3 + 3) lent ∙ ap (λ n. drop n lent) (let y : k * 3 + 3 + 3 ≡ (k + 1) * 3 + 3 = omega arith in y))
 
-        written : released barriers row (rows + 1) records ≡ recordWords (B .finished ++ (finally ∷ [])) ++ (row ∷ (rows + 1) ∷ 0 ∷ next-behind)
-        written = rw (lt-ltb barriers 1024 h) (ap (λ b. begun (b + 1) row (rows + 1) (ended barriers (rows + 1) records)) (sym k-is) ∙ fresh (ended barriers (rows + 1) records) closed)
+        written : released earlier row rows records ≡ recordWords (B .finished ++ (finally ∷ [])) ++ (row ∷ rows ∷ 0 ∷ next-behind)
+        written = rw (lt-ltb earlier 1024 h) (ap (λ b. begun (b + 1) row rows (ended earlier rows records)) (sym k-is) ∙ fresh (ended earlier rows records) closed)
 
         whole-is : B .finished ++ recordsOf (1024 - k) (allOf (goesOn (B .start) (rows - B .before) (B .cost) rest))
-            ≡ (B .finished ++ (finally ∷ [])) ++ recordsOf (1024 - inUse (barriers + 1)) (allOf (goesOn row (rows + 1 - (rows + 1)) 0 rest′))
+            ≡ (B .finished ++ (finally ∷ [])) ++ recordsOf (1024 - inUse (earlier + 1)) (allOf (goesOn row (rows - rows) 0 rest′))
         whole-is =
-            let more : 1024 - k ≡ suc (1024 - inUse (barriers + 1)) = omega arith in
-            let none : rows + 1 - (rows + 1) ≡ 0 = omega arith in
-            let over = ap (λ is. allOf (goesOn (B .start) (rows - B .before) (B .cost) is)) e ∙ goes-over (B .start) (rows - B .before) (B .cost) x row rest′
-            ∙ ap (λ r. over-with (B .start) r (B .cost) ∷ allOf rest′) last-rows in
+            let more : 1024 - k ≡ suc (1024 - inUse (earlier + 1)) = omega arith in
+            let none : rows - rows ≡ 0 = omega arith in
+            let over = ap (λ is. allOf (goesOn (B .start) (rows - B .before) (B .cost) is)) e ∙ goes-over (B .start) (rows - B .before) (B .cost) y rest′ in
             ap (λ is. B .finished ++ recordsOf (1024 - k) is) over ∙ ap (λ m. B .finished ++ recordsOf m (finally ∷ allOf rest′)) more
-            ∙ append-more (B .finished) (recordsOf (1024 - inUse (barriers + 1)) (allOf rest′)) finally
-            ∙ ap (λ is. (B .finished ++ (finally ∷ [])) ++ recordsOf (1024 - inUse (barriers + 1)) (allOf is))
+            ∙ append-more (B .finished) (recordsOf (1024 - inUse (earlier + 1)) (allOf rest′)) finally
+            ∙ ap (λ is. (B .finished ++ (finally ∷ [])) ++ recordsOf (1024 - inUse (earlier + 1)) (allOf is))
             (sym (ap (λ r. goesOn row r 0 rest′) none ∙ goes-new row rest′ z))
 
-    release-last : 1024 ≤ barriers → Ledger whole lent rest′ (barriers + 1) (rows + 1) records′
+    open-last : 1024 ≤ earlier → Ledger whole lent rest′ (earlier + 1) rows records′
     unfolding inUse released
-    release-last h =
+    open-last h =
         record {
           finished = B .finished;
           start = B .start;
@@ -294,32 +299,32 @@ module _ (whole : List Interval) (lent : List ℕ) (rest : Intervals) (barriers 
           cost = B .cost;
           count = B .count ∙ same-record;
           words = w ∙ kept ∙ ap (λ u. recordWords (B .finished) ++ (B .start ∷ B .before ∷ B .cost ∷ drop (u * 3 + 3) lent)) same-record;
-          began = omega (arith, B .began);
+          began = B .began;
           same = B .same ∙ ap (λ is. B .finished ++ is) capped;
-          few = omega (arith, B .few);
+          few = B .few;
           enough = B .enough;
         }
       where
-        same-record : k ≡ inUse (barriers + 1)
+        same-record : k ≡ inUse (earlier + 1)
         same-record = omega arith
 
-        kept : released barriers row (rows + 1) records ≡ recordWords (B .finished) ++ (B .start ∷ B .before ∷ B .cost ∷ behind)
-        kept = rw (le-ltb barriers 1024 h) (B .words)
+        kept : released earlier row rows records ≡ recordWords (B .finished) ++ (B .start ∷ B .before ∷ B .cost ∷ behind)
+        kept = rw (le-ltb earlier 1024 h) (B .words)
 
         none : (u : ℕ) → u ≡ 1024 → 1024 - u ≡ 0
         none u q = omega arith
 
         capped : recordsOf (1024 - k) (allOf (goesOn (B .start) (rows - B .before) (B .cost) rest))
-            ≡ recordsOf (1024 - inUse (barriers + 1)) (allOf (goesOn (B .start) (rows + 1 - B .before) (B .cost) rest′))
+            ≡ recordsOf (1024 - inUse (earlier + 1)) (allOf (goesOn (B .start) (rows - B .before) (B .cost) rest′))
         capped =
             let go = goesOn (B .start) (rows - B .before) (B .cost) in
             ap (λ m. recordsOf m (allOf (go rest))) (none k (omega arith)) ∙ ap (λ is. recordsOf 0 (allOf (go is))) e
-            ∙ goes-capped (B .start) (rows - B .before) (B .cost) x row rest′
-            ∙ ap (λ r. recordsOf 0 (allOf (goesOn (B .start) r (B .cost) rest′))) last-rows
-            ∙ ap (λ m. recordsOf m (allOf (goesOn (B .start) (rows + 1 - B .before) (B .cost) rest′))) (sym (none (inUse (barriers + 1)) (omega arith)))
+            ∙ goes-capped (B .start) (rows - B .before) (B .cost) y rest′
+            ∙ ap (λ m. recordsOf m (allOf (go rest′))) (sym (none (inUse (earlier + 1)) (omega arith)))
 
-    pub ledger-release : Ledger whole lent rest′ (barriers + 1) (rows + 1) records′
-    ledger-release = ⊎-elim release-next release-last (lt-or-le barriers 1024)
+    -- with a later group
+    pub ledger-opens : Ledger whole lent rest′ (earlier + 1) rows records′
+    ledger-opens = ⊎-elim open-next open-last (lt-or-le earlier 1024)
 
   -- the run is over: the last record too
   module _ (x : ℕ) (e : rest ≡ started x) where
@@ -356,6 +361,15 @@ module _ (whole : List Interval) (lent : List ℕ) (rest : Intervals) (barriers 
     pub ledger-few : conflictsOf whole ≤ 31 * rows
     ledger-few = let z = ap conflictsOf whole-is ∙ conflicts-more (B .finished) last in omega (arith, B .few)
 
-    pub ledger-ends : recordsLent ≤ length records → rows ≤ 1000000 → EndAsks barriers rows records
+    pub ledger-ends : recordsLent ≤ length records → rows ≤ 1000000 → EndAsks earlier rows records
     ledger-ends h l =
         record { lent = h; before = omega (arith, rows-word, B .began); room = omega (arith, ledger-conflicts, ledger-few) }
+
+-- A release is a row, and ends its interval.
+pub ledger-release : (whole : List Interval) (lent : List ℕ) (rest : Intervals) (earlier rows : ℕ) (records : List ℕ) → Ledger whole lent rest earlier rows records
+    → (x y row : ℕ) (rest′ : Intervals) (records′ : List ℕ) → rest ≡ withRow x 0 (endsHere y rest′) → rest′ .first .start ≡ row
+    → records′ ≡ released earlier row (rows + 1) records → Ledger whole lent rest′ (earlier + 1) (rows + 1) records′
+ledger-release whole lent rest earlier rows records B x y row rest′ records′ e z w =
+    ledger-opens whole lent (endsHere y rest′) earlier (rows + 1) records
+    (ledger-row whole lent rest earlier rows records B x 0 (endsHere y rest′) records e (omega arith) (sym (charged-none earlier 0 records refl)))
+    y row rest′ records′ refl z w

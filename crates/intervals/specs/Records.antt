@@ -9,9 +9,9 @@ use Rattle.layout.specs.declared.State.{State}
 use Rattle.layout.specs.declared.Next.{Next}
 use Rattle.layout.specs.declared.Next.the-variants as next
 
--- The record in use after so many barriers.
-unfoldable pub inUse : (barriers : ℕ) → ℕ
-inUse barriers = min barriers 1024
+-- The record in use after so many intervals: one for each release and for each later group that has started.
+unfoldable pub inUse : (earlier : ℕ) → ℕ
+inUse earlier = min earlier 1024
 
 -- Record k starts at this row, with so many rows run before it; it is over, with so many rows run.
 unfoldable pub begun : (k row rows : ℕ) → List ℕ → List ℕ
@@ -21,31 +21,32 @@ unfoldable pub ended : (k rows : ℕ) → List ℕ → List ℕ
 ended k rows records = set records (k * 3 + 1) (rows - getD records (k * 3 + 1) 0)
 
 -- A row's cost is added to the record in use. A release ends it and starts the next, where there is one.
-unfoldable pub charged : (barriers cost : ℕ) → List ℕ → List ℕ
-charged barriers cost records = set records (inUse barriers * 3 + 2) (getD records (inUse barriers * 3 + 2) 0 + cost)
+unfoldable pub charged : (earlier cost : ℕ) → List ℕ → List ℕ
+charged earlier cost records = set records (inUse earlier * 3 + 2) (getD records (inUse earlier * 3 + 2) 0 + cost)
 
-unfoldable pub released : (barriers row rows : ℕ) → List ℕ → List ℕ
-released barriers row rows records = cond (ltb barriers 1024) (begun (barriers + 1) row rows (ended barriers rows records)) records
+unfoldable pub released : (earlier row rows : ℕ) → List ℕ → List ℕ
+released earlier row rows records = cond (ltb earlier 1024) (begun (earlier + 1) row rows (ended earlier rows records)) records
 
 -- The costs of the first records, together.
 unfoldable pub costsUpTo : (count : ℕ) → List ℕ → ℕ
 costsUpTo zero records = 0
 costsUpTo (suc k) records = costsUpTo k records + getD records (k * 3 + 2) 0
 
--- What a row asks of the records, after so many barriers and rows: room for its cost, and an interval that began no later.
-pub record RecordAsks (barriers rows : ℕ) (records : List ℕ) : Type 0 where
+-- What a row asks of the records, after so many intervals and rows: room for its cost, and an interval that began no later.
+pub record RecordAsks (earlier rows : ℕ) (records : List ℕ) : Type 0 where
   pub lent : recordsLent ≤ length records
-  pub room : getD records (inUse barriers * 3 + 2) 0 + 31 < 4294967296
-  pub before : getD records (inUse barriers * 3 + 1) 0 ≤ rows
+  pub room : getD records (inUse earlier * 3 + 2) 0 + 31 < 4294967296
+  pub before : getD records (inUse earlier * 3 + 1) 0 ≤ rows
 
 -- What the end of a run asks of them: that the costs together fit a word.
-pub record EndAsks (barriers rows : ℕ) (records : List ℕ) : Type 0 where
+pub record EndAsks (earlier rows : ℕ) (records : List ℕ) : Type 0 where
   pub lent : recordsLent ≤ length records
-  pub before : getD records (inUse barriers * 3 + 1) 0 ≤ rows
-  pub room : costsUpTo (inUse barriers + 1) (ended (inUse barriers) rows records) < 4294967296
+  pub before : getD records (inUse earlier * 3 + 1) 0 ≤ rows
+  pub room : costsUpTo (inUse earlier + 1) (ended (inUse earlier) rows records) < 4294967296
 
--- The records after a row: at a release the next one has started; else its cost is added. A row that stops costs nothing.
-unfoldable pub recordsAfter : (cost : ℕ) → State → Next → List ℕ → List ℕ
-recordsAfter cost s (next.Go r) records =
-    cond (ltb (s .barriers) (r .barriers)) (released (s .barriers) (r .row) (r .rows) records) (charged (s .barriers) cost records)
-recordsAfter cost s (next.Stop v r) records = records
+-- The records after a row of this group: at a release the next one has started; else its cost is added. A row that stops costs nothing.
+unfoldable pub recordsAfter : (group cost : ℕ) → State → Next → List ℕ → List ℕ
+recordsAfter group cost s (next.Go r) records =
+    let earlier = s .barriers + group in
+    cond (ltb (s .barriers) (r .barriers)) (released earlier (r .row) (r .rows) records) (charged earlier cost records)
+recordsAfter group cost s (next.Stop v r) records = records

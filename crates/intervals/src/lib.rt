@@ -7,11 +7,11 @@ ghost use Rattle.spec.specs.Limits.{recordsLent};
 ghost use Rattle.intervals.specs.Records.{inUse, begun, ended, charged, released, costsUpTo, EndAsks};
 
 // The record in use: when all are, the last one goes on.
-fn in_use(barriers: u32) -> usize
-    ensures { λ r. ⌜ (r ≡ inUse barriers) × (r ≤ 1024) ⌝ }
+fn in_use(earlier: u32) -> usize
+    ensures { λ r. ⌜ (r ≡ inUse earlier) × (r ≤ 1024) ⌝ }
 {
-    if barriers < 1024 {
-        return barriers as usize;
+    if earlier < 1024 {
+        return earlier as usize;
     }
     1024
 }
@@ -42,22 +42,22 @@ fn end(records: &mut [u32], k: usize, rows: u32)
     records[k * 3 + 1] = rows - records[k * 3 + 1];
 }
 
-// What a row costs, after so many barriers.
-pub fn charge(records: &mut [u32], barriers: u32, cost: u32)
-    requires { ⌜ (recordsLent ≤ length (now records)) × (getD (now records) (inUse barriers * 3 + 2) 0 + cost < 4294967296) ⌝ }
-    ensures { λ _. ⌜ now (records .exit) ≡ charged barriers cost (now (records .entry)) ⌝ }
+// What a row costs, after so many intervals.
+pub fn charge(records: &mut [u32], earlier: u32, cost: u32)
+    requires { ⌜ (recordsLent ≤ length (now records)) × (getD (now records) (inUse earlier * 3 + 2) 0 + cost < 4294967296) ⌝ }
+    ensures { λ _. ⌜ now (records .exit) ≡ charged earlier cost (now (records .entry)) ⌝ }
 {
-    let p = in_use(barriers) * 3 + 2;
+    let p = in_use(earlier) * 3 + 2;
     records[p] = records[p] + cost;
 }
 
-// A release, after so many barriers before it: the run goes on at this row, with so many rows run.
-pub fn release(records: &mut [u32], barriers: u32, row: u32, rows: u32)
-    requires { ⌜ (recordsLent ≤ length (now records)) × (getD (now records) (inUse barriers * 3 + 1) 0 ≤ rows) ⌝ }
-    ensures { λ _. ⌜ now (records .exit) ≡ released barriers row rows (now (records .entry)) ⌝ }
+// A release, after so many intervals before the one that it ends: the run goes on at this row, with so many rows run.
+pub fn release(records: &mut [u32], earlier: u32, row: u32, rows: u32)
+    requires { ⌜ (recordsLent ≤ length (now records)) × (getD (now records) (inUse earlier * 3 + 1) 0 ≤ rows) ⌝ }
+    ensures { λ _. ⌜ now (records .exit) ≡ released earlier row rows (now (records .entry)) ⌝ }
 {
-    if barriers < 1024 {
-        let k = barriers as usize;
+    if earlier < 1024 {
+        let k = earlier as usize;
         end(records, k, rows);
         begin(records, k + 1, row, rows);
     }
@@ -77,13 +77,13 @@ fn costs(records: &[u32], count: usize) -> u32
     sum
 }
 
-// The run is over, after so many barriers and rows: the last interval is, and all records' costs are put together.
-pub fn finish(records: &mut [u32], barriers: u32, rows: u32) -> u32
-    requires { ⌜ EndAsks barriers rows (now records) ⌝ }
-    ensures records { λ _. ⌜ now (records .exit) ≡ ended (inUse barriers) rows (now (records .entry)) ⌝ }
-    ensures conflicts { λ r. ⌜ r ≡ costsUpTo (inUse barriers + 1) (now (records .exit)) ⌝ }
+// The run is over, after so many intervals and rows: the last interval is, and all records' costs are put together.
+pub fn finish(records: &mut [u32], earlier: u32, rows: u32) -> u32
+    requires { ⌜ EndAsks earlier rows (now records) ⌝ }
+    ensures records { λ _. ⌜ now (records .exit) ≡ ended (inUse earlier) rows (now (records .entry)) ⌝ }
+    ensures conflicts { λ r. ⌜ r ≡ costsUpTo (inUse earlier + 1) (now (records .exit)) ⌝ }
 {
-    let k = in_use(barriers);
+    let k = in_use(earlier);
     end(records, k, rows);
     costs(records, k + 1)
 }

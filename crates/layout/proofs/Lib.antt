@@ -12,3 +12,4 @@ pub mod Turning
 pub mod GlobalStates
 pub mod Saving
 pub mod PlainRows
+pub mod GroupRows

@@ -3,6 +3,7 @@ pub mod Memory
 pub mod Views
 pub mod Shared
 pub mod Represents
+pub mod Groups
 pub mod Constructs
 pub mod Running
 pub mod Counting

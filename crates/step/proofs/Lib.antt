@@ -1,4 +1,4 @@
 pub mod Tables
 mod Plain
-mod Registers
-mod Recorded
+pub mod Registers
+pub mod Recorded

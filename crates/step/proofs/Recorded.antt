@@ -21,31 +21,26 @@ use Rattle.layout.specs.Constructs.{ConstructDone, constructState, whileState, 
 use Rattle.layout.specs.Memory.{holdingWord, cellIn, CellRegister}
 use Rattle.banks.specs.Counting.{numbersIn, Older}
 use Rattle.banks.specs.Remembering.{Memo, RowCosts}
-use Rattle.intervals.specs.Records.{inUse, charged, recordsAfter}
+use Rattle.intervals.specs.Records.{charged, recordsAfter}
+use Rattle.intervals.proofs.Ledger.{charged-none}
 use Rattle.step.specs.Recording.{RowRecorded, paid}
 
 older-still : (k : ℕ) (stamps : List ℕ) → Older (k + 1) stamps → Older (k + 2) stamps
 older-still k stamps O = record { size = O .size; below = λ i h. omega (arith, O .below i h) }
 
 -- Where no barrier is passed, a row's cost is charged; a cost of 0 changes nothing.
-pub charged-none : (barriers cost : ℕ) (records : List ℕ) → cost ≡ 0 → charged barriers cost records ≡ records
-unfolding charged
-charged-none barriers cost records e =
-    let p = inUse barriers * 3 + 2 in
-    let same : getD records p 0 + cost ≡ getD records p 0 = omega arith in
-    ap (set records p) same ∙ set-getD records p 0
-
-after-charged : (cost : ℕ) (s r : State) (records : List ℕ) → r .barriers ≡ s .barriers → recordsAfter cost s (next.Go r) records ≡ charged (s .barriers) cost records
+after-charged : (group cost : ℕ) (s r : State) (records : List ℕ) → r .barriers ≡ s .barriers
+    → recordsAfter group cost s (next.Go r) records ≡ charged (s .barriers + group) cost records
 unfolding recordsAfter
-after-charged cost s r records e = rw (le-ltb (s .barriers) (r .barriers) (omega arith)) refl
+after-charged group cost s r records e = rw (le-ltb (s .barriers) (r .barriers) (omega arith)) refl
 
-pub after-plain : (s r : State) (records : List ℕ) → r .barriers ≡ s .barriers → recordsAfter 0 s (next.Go r) records ≡ records
-after-plain s r records e = after-charged 0 s r records e ∙ charged-none (s .barriers) 0 records refl
+pub after-plain : (group : ℕ) (s r : State) (records : List ℕ) → r .barriers ≡ s .barriers → recordsAfter group 0 s (next.Go r) records ≡ records
+after-plain group s r records e = after-charged group 0 s r records e ∙ charged-none (s .barriers + group) 0 records refl
 
-module _ (op n : ℕ) (cell : ℕ → ℕ) (s : State) (records stamps memo : List ℕ) where
+module _ (op n group : ℕ) (cell : ℕ → ℕ) (s : State) (records stamps memo : List ℕ) where
   -- a row without accesses
-  pub recorded-plain : (r : Next) (records′ : List ℕ) → (16 ≤ op → op < 32 → ⊥) → Older (s .rows + 1) stamps → Memo memo
-      → records′ ≡ recordsAfter 0 s r records → RowRecorded op n cell s r records records′ stamps memo
+  pub recorded-plain : (r : Next) (records′ : List ℕ) → (16 ≤ op → op ≤ 18 → ⊥) → Older (s .rows + 1) stamps → Memo memo
+      → records′ ≡ recordsAfter group 0 s r records → RowRecorded op n group cell s r records records′ stamps memo
   recorded-plain r records′ f O M e =
       record {
         cost = 0;
@@ -58,33 +53,33 @@ module _ (op n : ℕ) (cell : ℕ → ℕ) (s : State) (records stamps memo : Li
       }
 
   -- a finished row of accesses is charged its cost, a stopped one nothing
-  pub recorded-access : (t : Turns) (cost : ℕ) (r : Next) (records′ : List ℕ) → 16 ≤ op → op < 32 → RowCosts cell n (s .mask) (s .rows + 1) cost stamps memo
-      → r ≡ accessed (reached s (t .reach)) (t .access) → records′ ≡ paid (t .access) (s .barriers) cost records
-      → RowRecorded op n cell s r records records′ stamps memo
+  pub recorded-access : (t : Turns) (cost : ℕ) (r : Next) (records′ : List ℕ) → 16 ≤ op → op ≤ 18 → RowCosts cell n (s .mask) (s .rows + 1) cost stamps memo
+      → r ≡ accessed (reached s (t .reach)) (t .access) → records′ ≡ paid (t .access) (s .barriers + group) cost records
+      → RowRecorded op n group cell s r records records′ stamps memo
   recorded-access t cost r records′ low high C er ew =
       record {
         cost = cost;
         few = C .few;
         plain = λ p. absurd (neither p);
         access = λ h l q p E m k a. C .cost-is E m k a;
-        words = ew ∙ sym (ap (λ z. recordsAfter cost s z records) er ∙ left (t .access));
+        words = ew ∙ sym (ap (λ z. recordsAfter group cost s z records) er ∙ left (t .access));
         older = subst (λ k. Older k stamps) (let z : s .rows + 1 + 1 ≡ s .rows + 2 = omega arith in z) (C .older);
         memo = C .memo;
       }
     where
-      neither : (op < 16) ⊎ (32 ≤ op) → ⊥
+      neither : (op < 16) ⊎ (18 < op) → ⊥
       neither (inl h) = omega arith
       neither (inr h) = omega arith
 
-      left : (a : Access) → recordsAfter cost s (accessed (reached s (t .reach)) a) records ≡ paid a (s .barriers) cost records
-      left Done = after-charged cost s _ records refl
+      left : (a : Access) → recordsAfter group cost s (accessed (reached s (t .reach)) a) records ≡ paid a (s .barriers + group) cost records
+      left Done = after-charged group cost s _ records refl
       left (Stop v) = unfold recordsAfter in refl
 
 -- The cells of the row's own bytes.
-pub recorded-at : (s : State) (op n d a d′ a′ : ℕ) (r : Next) (records records′ stamps′ memo′ regs : List ℕ) → d ≡ d′ → a ≡ a′
-    → RowRecorded op n (cellIn op d a regs) s r records records′ stamps′ memo′ → RowRecorded op n (cellIn op d′ a′ regs) s r records records′ stamps′ memo′
-recorded-at s op n d a d′ a′ r records records′ stamps′ memo′ regs ed ea R =
-    subst₂ (λ x y. RowRecorded op n (cellIn op x y regs) s r records records′ stamps′ memo′) ed ea R
+pub recorded-at : (s : State) (op n group d a d′ a′ : ℕ) (r : Next) (records records′ stamps′ memo′ regs : List ℕ) → d ≡ d′ → a ≡ a′
+    → RowRecorded op n group (cellIn op d a regs) s r records records′ stamps′ memo′ → RowRecorded op n group (cellIn op d′ a′ regs) s r records records′ stamps′ memo′
+recorded-at s op n group d a d′ a′ r records records′ stamps′ memo′ regs ed ea R =
+    subst₂ (λ x y. RowRecorded op n group (cellIn op x y regs) s r records records′ stamps′ memo′) ed ea R
 
 -- The register with the numbers.
 pub costs-in : (op d a r n mask stamp cost : ℕ) (regs stamps memo : List ℕ) → CellRegister op d a r → RowCosts (numbersIn regs r) n mask stamp cost stamps memo

@@ -21,17 +21,17 @@ abbrev pub cellDue : (table : List ℕ) → State → (regs : List ℕ) → (t :
 cellDue table s regs t = cellIn (getD table (s .row * 4) 0) (getD table (s .row * 4 + 1) 0) (getD table (s .row * 4 + 2) 0) regs t
 
 -- The records after a row's accesses: a row that is finished is charged.
-abbrev pub paid : Access → (barriers cost : ℕ) → List ℕ → List ℕ
-paid Done barriers cost records = charged barriers cost records
-paid (Stop v) barriers cost records = records
+abbrev pub paid : Access → (earlier cost : ℕ) → List ℕ → List ℕ
+paid Done earlier cost records = charged earlier cost records
+paid (Stop v) earlier cost records = records
 
--- The row's cost, which is that of its accesses; what it leaves in the records; no stamp is a later row's, and what is remembered is right.
-pub record RowRecorded (op n : ℕ) (cell : ℕ → ℕ) (s : State) (r : Next) (records records′ stamps′ memo′ : List ℕ) : Type 0 where
+-- The row's cost, which is that of its accesses of own cells; what it leaves in the records; no stamp is a later row's, and what is remembered is right.
+pub record RowRecorded (op n group : ℕ) (cell : ℕ → ℕ) (s : State) (r : Next) (records records′ stamps′ memo′ : List ℕ) : Type 0 where
   pub cost : ℕ
   pub few : cost ≤ 31
-  pub plain : (op < 16) ⊎ (32 ≤ op) → cost ≡ 0
-  pub access : 16 ≤ op → op < 32 → (q : State) → r ≡ next.Go q → (E : Mask) → s .mask ≡ maskWord E → length E ≡ n
+  pub plain : (op < 16) ⊎ (18 < op) → cost ≡ 0
+  pub access : 16 ≤ op → op ≤ 18 → (q : State) → r ≡ next.Go q → (E : Mask) → s .mask ≡ maskWord E → length E ≡ n
       → AllCells (map cell (members E)) → cost ≡ conflictCost (map cell (members E))
-  pub words : records′ ≡ recordsAfter cost s r records
+  pub words : records′ ≡ recordsAfter group cost s r records
   pub older : Older (s .rows + 2) stamps′
   pub memo : Memo memo′

@@ -14,7 +14,7 @@ ghost use Rattle.banks.specs.Remembering.{Memo};
 ghost use Rattle.intervals.specs.Records.{RecordAsks, recordsAfter};
 ghost use Rattle.step.specs.Recording.{RowRecorded, cellDue, paid};
 
-fn index(x: u8) -> usize
+pub fn index(x: u8) -> usize
     ensures { λ r. ⌜ (r ≡ x) × (r < 256) ⌝ }
 {
     x as usize
@@ -37,15 +37,21 @@ fn reached(s: layout::State, h: u32) -> layout::State
 }
 
 // The state after a row's accesses: on to the next row, which charges this one's cost, or stopped at this one.
-fn after_access(records: &mut [u32], r: layout::Turns, cost: u32, s: layout::State) -> layout::Next
-    requires { ⌜ Room s × RecordAsks (s .barriers) (s .rows) (now records) × (cost ≤ 31) ⌝ }
-    ensures { λ q. ⌜ (q ≡ accessed (reached s (r .reach)) (r .access)) × (now (records .exit) ≡ paid (r .access) (s .barriers) cost (now (records .entry))) ⌝ }
+fn after_access(
+    records: &mut [u32],
+    r: layout::Turns,
+    cost: u32,
+    group: u32,
+    s: layout::State,
+) -> layout::Next
+    requires { ⌜ Room s × (group < 8) × RecordAsks (s .barriers + group) (s .rows) (now records) × (cost ≤ 31) ⌝ }
+    ensures { λ q. ⌜ (q ≡ accessed (reached s (r .reach)) (r .access)) × (now (records .exit) ≡ paid (r .access) (s .barriers + group) cost (now (records .entry))) ⌝ }
 {
     let c = r.access;
     let z = reached(s, r.reach);
     match c {
         layout::Access::Done => {
-            intervals::charge(records, s.barriers, cost);
+            intervals::charge(records, s.barriers + group, cost);
             layout::Next::Go(constructs::moved(z))
         }
         layout::Access::Stop(v) => layout::Next::Stop(v, z),
@@ -64,13 +70,14 @@ fn access_row(
     op: u8,
     d: usize,
     a: usize,
+    group: u32,
     s: layout::State,
 ) -> layout::Next
-    requires { ⌜ Room s × (s .mask < 2 ^ n) × AccessAsks op d a (now cells) (now log) × InMemory n (now regs) (now cells) (now log)
-        × Older (s .rows + 1) (now stamps) × Memo (now memo) × RecordAsks (s .barriers) (s .rows) (now records) ⌝ }
+    requires { ⌜ Room s × (group < 8) × (s .mask < 2 ^ n) × AccessAsks op d a (now cells) (now log) × InMemory n (now regs) (now cells) (now log)
+        × Older (s .rows + 1) (now stamps) × Memo (now memo) × RecordAsks (s .barriers + group) (s .rows) (now records) ⌝ }
     ensures { λ r. ⌜ AccessDone op n d a s (now (regs .entry)) (now (cells .entry)) (now (log .entry)) r
         (now (regs .exit)) (now (cells .exit)) (now (log .exit)) × KeptBut d n (now (regs .entry)) (now (regs .exit)) × StepsOn s r
-        × RowRecorded op n (cellIn op d a (now (regs .entry))) s r (now (records .entry)) (now (records .exit)) (now (stamps .exit)) (now (memo .exit)) ⌝ }
+        × RowRecorded op n group (cellIn op d a (now (regs .entry))) s r (now (records .entry)) (now (records .exit)) (now (stamps .exit)) (now (memo .exit)) ⌝ }
 {
     let numbers = access::cell_register(op, d, a);
     let cost = banks::row_cost(
@@ -87,17 +94,18 @@ fn access_row(
         records,
         memory::access_row(regs, cells, log, n, s.mask, op, d, a),
         cost,
+        group,
         s,
     )
 }
 
 // After a barrier that lets the run go on: where all have passed it, the next interval starts at the row behind it.
-fn next_interval(records: &mut [u32], s: layout::State, z: layout::State)
-    requires { ⌜ RecordAsks (s .barriers) (s .rows) (now records) × (s .rows ≤ z .rows) × (z .row ≤ 256) ⌝ }
-    ensures { λ _. ⌜ now (records .exit) ≡ recordsAfter 0 s (next.Go z) (now (records .entry)) ⌝ }
+fn next_interval(records: &mut [u32], group: u32, s: layout::State, z: layout::State)
+    requires { ⌜ Room s × (group < 8) × RecordAsks (s .barriers + group) (s .rows) (now records) × (s .rows ≤ z .rows) × (z .row ≤ 256) ⌝ }
+    ensures { λ _. ⌜ now (records .exit) ≡ recordsAfter group 0 s (next.Go z) (now (records .entry)) ⌝ }
 {
     if s.barriers < z.barriers {
-        intervals::release(records, s.barriers, z.row as u32, z.rows);
+        intervals::release(records, s.barriers + group, z.row as u32, z.rows);
     }
 }
 
@@ -106,22 +114,24 @@ fn barrier_row(
     records: &mut [u32],
     cells: usize,
     n: u32,
+    group: u32,
     s: layout::State,
 ) -> layout::Next
-    requires { ⌜ Room s × (1 ≤ n) × (n ≤ 32) × (length (now log) ≡ logPerCell * cells) × RecordAsks (s .barriers) (s .rows) (now records) ⌝ }
+    requires { ⌜ Room s × (1 ≤ n) × (n ≤ 32) × (group < 8) × (length (now log) ≡ logPerCell * cells)
+        × RecordAsks (s .barriers + group) (s .rows) (now records) ⌝ }
     ensures { λ r. ⌜ (r ≡ barrierNext n s) × (now (log .exit) ≡ barrierLog n s cells (now (log .entry)))
-        × (now (records .exit) ≡ recordsAfter 0 s r (now (records .entry))) ⌝ }
+        × (now (records .exit) ≡ recordsAfter group 0 s r (now (records .entry))) ⌝ }
 {
     match constructs::barrier_row(log, cells, n, s) {
         layout::Next::Go(z) => {
-            next_interval(records, s, z);
+            next_interval(records, group, s, z);
             layout::Next::Go(z)
         }
         layout::Next::Stop(v, z) => layout::Next::Stop(v, z),
     }
 }
 
-// One row. The op is told apart once, outside the loops over the threads.
+// One row of this group. The op is told apart once, outside the loops over the threads.
 pub fn step(
     table: &[u8],
     ends: &[u8; 256],
@@ -135,16 +145,17 @@ pub fn step(
     stamps: &mut [u32; 1024],
     memo: &mut [u32; 544],
     records: &mut [u32],
+    group: u32,
     s: layout::State,
 ) -> layout::Next
     requires { ⌜ Ready (now table) (now ends) n s (now regs) (now cells) (now log) (now saved) (now openers)
         × Roomy (s .mask) (s .since + 1) (now counts) × Older (s .rows + 1) (now stamps) × Memo (now memo)
-        × RecordAsks (s .barriers) (s .rows) (now records) ⌝ }
+        × (group < 8) × RecordAsks (s .barriers + group) (s .rows) (now records) ⌝ }
     ensures { λ r. ⌜ Steps (now (table .entry)) n s
         (now (regs .entry)) (now (cells .entry)) (now (log .entry)) (now (saved .entry)) (now (openers .entry)) r
         (now (regs .exit)) (now (cells .exit)) (now (log .exit)) (now (saved .exit)) (now (openers .exit))
         × NextCounted (getD (now (table .entry)) (s .row * 4) 0) s r (now (counts .entry)) (now (counts .exit))
-        × RowRecorded (getD (now (table .entry)) (s .row * 4) 0) n (cellDue (now (table .entry)) s (now (regs .entry))) s r
+        × RowRecorded (getD (now (table .entry)) (s .row * 4) 0) n group (cellDue (now (table .entry)) s (now (regs .entry))) s r
         (now (records .entry)) (now (records .exit)) (now (stamps .exit)) (now (memo .exit)) ⌝ }
 {
     let row = s.row;
@@ -157,12 +168,25 @@ pub fn step(
         return layout::Next::Go(constructs::moved(s));
     }
     if op < 32 {
-        return access_row(regs, cells, log, stamps, memo, records, n, op, d, a, s);
+        return access_row(
+            regs,
+            cells,
+            log,
+            stamps,
+            memo,
+            records,
+            n,
+            op,
+            d,
+            a,
+            group,
+            s,
+        );
     }
     if op < 37 {
         let end = index(ends[row]);
         let z = constructs::construct_row(regs, saved, openers, op, a, end, s);
         return layout::Next::Go(stepcounts::settle(counts, op, s.mask, z));
     }
-    barrier_row(log, records, cells.len(), n, s)
+    barrier_row(log, records, cells.len(), n, group, s)
 }

@@ -22,7 +22,7 @@ costs-requires c κs =
     let start = c .before .before .before .before .before .before .before in
     let args = start .args in
     let after = end .ensures ∙ ap (λ (k : ℕ). ended k (args .rows) (args .records .now)) (used .0) in
-    let sum = ap (λ (k : ℕ). costsUpTo (k + 1) (end .last .0)) (used .0) ∙ ap (costsUpTo (inUse (args .barriers) + 1)) after in
+    let sum = ap (λ (k : ℕ). costsUpTo (k + 1) (end .last .0)) (used .0) ∙ ap (costsUpTo (inUse (args .earlier) + 1)) after in
     (omega (arith, start .pre .lent, end .kept .0), omega (arith, used .1), omega (arith, sum, start .pre .room))
 
 returns : tie.Need-returns

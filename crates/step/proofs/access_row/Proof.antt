@@ -21,13 +21,13 @@ row-cost-requires c κs =
     let register = c .before .before .before .before .before .cell-register in
     let start = c .before .before .before .before .before .before .before .before .before in
     let pre = start .pre in
-    let memory = pre .3 .memory in
-    (memory .regs-are .size, register .ensures .small, memory .few, pre .1, pre .4, pre .5, omega arith)
+    let memory = pre .4 .memory in
+    (memory .regs-are .size, register .ensures .small, memory .few, pre .2, pre .5, pre .6, omega arith)
 
 after-access-requires : tie.Need-after-access-requires
 after-access-requires c κs =
     let pre = c .before .before .before .before .before .before .before .before .before .before .before .before .before .before .before .before .before .before .before .pre in
-    (pre .0, pre .6, c .before .before .before .before .before .before .before .before .before .row-cost .ensures .few)
+    (pre .0, pre .1, pre .7, c .before .before .before .before .before .before .before .before .before .row-cost .ensures .few)
 
 returns : tie.Need-returns
 returns c =
@@ -38,7 +38,7 @@ returns c =
     let start = c .before .before .before .before .before .before .before .before .before .before .before .before .before .before .before .before .before .before .before .before .before .before in
     let args = start .args in
     let cells = args .cells .now in
-    let pre = start .pre .2 in
+    let pre = start .pre .3 in
     let m = mem-op (args .op) (pre .known) (pre .small) in
     let state = reached (args .s) (access-row .result .reach) in (
       (
@@ -56,8 +56,8 @@ returns c =
       ),
       access-row .ensures .1,
       accessed-on (args .s) (access-row .result .reach) (access-row .result .access) (after-access .result) (after-access .ensures .0),
-      recorded-access (args .op) (args .n) (cellIn (args .op) (args .d) (args .a) (args .regs .now)) (args .s) (args .records .now) _ _ (access-row .result)
-          (row-cost .result) (after-access .result) _ (pre .known) (omega (arith, pre .small))
+      recorded-access (args .op) (args .n) (args .group) (cellIn (args .op) (args .d) (args .a) (args .regs .now)) (args .s) (args .records .now) _ _ (access-row .result)
+          (row-cost .result) (after-access .result) _ (pre .known) (pre .small)
           (costs-in _ _ _ _ _ _ _ _ _ _ _ (register .ensures) (row-cost .ensures)) (after-access .ensures .0) (after-access .ensures .1),
     )
 

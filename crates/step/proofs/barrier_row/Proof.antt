@@ -14,7 +14,7 @@ next-interval-requires c κs =
     let barrier-row = c .before .before .before .before .before .before .barrier-row in
     let start = c .before .before .before .before .before .before .before .before .before .before in
     let row = barrier-goes (start .args .n) (start .args .s) (gone .0 .0) (sym (barrier-row .ensures .0) ∙ gone .1) in
-    (start .pre .4, omega (arith, row .1), omega (arith, row .0, start .pre .0 .row-few))
+    (start .pre .0, start .pre .3, start .pre .5, omega (arith, row .1), omega (arith, row .0, start .pre .0 .row-few))
 
 returns : tie.Need-returns
 returns c =

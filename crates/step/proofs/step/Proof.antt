@@ -85,9 +85,9 @@ returns c =
         openers-are = slots .1;
       },
       counts-on code (args .s) (next.Go (c .moved .result)) (args .counts .now) (omega (arith, computes)) (start .pre .1 .size) (moved-on (args .s) (c .moved .result) (c .moved .ensures)),
-      recorded-plain code (args .n) _ (args .s) (args .records .now) (args .stamps .now) (args .memo .now) (next.Go (c .moved .result)) _
+      recorded-plain code (args .n) (args .group) _ (args .s) (args .records .now) (args .stamps .now) (args .memo .now) (next.Go (c .moved .result)) _
           (λ h l. omega (arith, computes)) (start .pre .2) (start .pre .3)
-          (sym (after-plain (args .s) (c .moved .result) (args .records .now) (ap (λ z. z .barriers) (c .moved .ensures)))),
+          (sym (after-plain (args .group) (args .s) (c .moved .result) (args .records .now) (ap (λ z. z .barriers) (c .moved .ensures)))),
     )
 
 access-row-requires : tie.Need-access-row-requires
@@ -101,6 +101,7 @@ access-row-requires c κs =
     let pre = start .pre .0 in
     let q = pre .asks .accesses no-computing accesses in (
       pre .room,
+      start .pre .4,
       mask-below start,
       record {
         known = no-computing;
@@ -113,7 +114,7 @@ access-row-requires c κs =
       record { state = pre .stands .state; memory = pre .stands .rep .memory },
       start .pre .2,
       start .pre .3,
-      start .pre .4,
+      start .pre .5,
     )
 
 returns-2 : tie.Need-returns-2
@@ -145,7 +146,7 @@ returns-2 c =
         openers-are = slots .1;
       },
       counts-on code (args .s) (access-row .result) (args .counts .now) accesses (start .pre .1 .size) (access-row .ensures .2),
-      recorded-at (args .s) _ _ _ _ _ _ _ _ _ _ _ (args .regs .now) (d .ensures .0) (a .ensures .0) (access-row .ensures .3),
+      recorded-at (args .s) _ _ _ _ _ _ _ _ _ _ _ _ (args .regs .now) (d .ensures .0) (a .ensures .0) (access-row .ensures .3),
     )
 
 construct-row-requires : tie.Need-construct-row-requires
@@ -215,9 +216,9 @@ returns-3 c =
         openers-are = o .ensures .openers-are;
       },
       counts-construct code (args .s) (o .result) (c .settle .result) (args .counts .now) (c .settle .last .0) constructs since settled,
-      recorded-plain code (args .n) _ (args .s) (args .records .now) (args .stamps .now) (args .memo .now) (next.Go (c .settle .result)) _
+      recorded-plain code (args .n) (args .group) _ (args .s) (args .records .now) (args .stamps .now) (args .memo .now) (next.Go (c .settle .result)) _
           (λ h l. omega (arith, no-access)) (start .pre .2) (start .pre .3)
-          (sym (after-plain (args .s) (c .settle .result) (args .records .now) same-barriers)),
+          (sym (after-plain (args .group) (args .s) (c .settle .result) (args .records .now) same-barriers)),
     )
 
 returns-4 : tie.Need-returns-4
@@ -247,7 +248,7 @@ returns-4 c =
         openers-are = slots .1;
       },
       counts-barrier code (args .n) (args .s) (barrier-row .result) (args .counts .now) e (start .pre .1 .size) (barrier-row .ensures .0),
-      recorded-plain code (args .n) _ (args .s) (args .records .now) (args .stamps .now) (args .memo .now) (barrier-row .result) _
+      recorded-plain code (args .n) (args .group) _ (args .s) (args .records .now) (args .stamps .now) (args .memo .now) (barrier-row .result) _
           (λ h l. omega (arith, e)) (start .pre .2) (start .pre .3) (barrier-row .ensures .2),
     )
 

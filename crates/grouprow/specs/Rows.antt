@@ -1,0 +1,72 @@
+-- What a row of a group asks of the buffers of its own cells and of the global ones, and what it comes to. Assumes nothing.
+use mathlib.Core.Path.{_≡_}
+use mathlib.Core.List.{List}
+use Prim.Native.Nat.{ℕ, _+_, _-_, _*_, _<_, _≤_}
+use lib.ListN.{length, getD}
+use Rattle.spec.specs.Limits.{logPerCell}
+use Rattle.spec.specs.Op.{OWN, GLOBAL, Mem, MEM, WHILE, opOf}
+use Rattle.spec.specs.Shape.{Shape}
+use Rattle.spec.specs.Table.{rowsOf, rowAt, endOf}
+use Rattle.spec.specs.LockStep.{LockState, runRow}
+use Rattle.layout.specs.declared.Access.{Access}
+use Rattle.layout.specs.declared.State.{State}
+use Rattle.layout.specs.declared.Next.{Next}
+use Rattle.layout.specs.Memory.{KeptBut}
+use Rattle.layout.specs.Shared.{groupsPerCell, GlobalAll}
+use Rattle.layout.specs.Represents.{Room, Counts, DepthAsks, accessed}
+use Rattle.layout.specs.Running.{RowAsks, RegsAfter}
+use Rattle.layout.specs.Constructs.{savedAfter, openersAfter}
+use Rattle.layout.specs.Groups.{GroupStands, GroupAfter}
+
+-- The bytes of a row that names global cells: ops 20 to 22 do there what ops 16 to 18 do with own cells.
+pub record GlobalRowAsks (op d a : ℕ) : Type 0 where
+  pub known : 20 ≤ op
+  pub small : op ≤ 22
+  pub target : d < 16
+  pub source : a < 16
+  pub mem : Mem
+  pub names : opOf op ≡ MEM GLOBAL mem
+  pub alike : opOf (op - 4) ≡ MEM OWN mem
+
+-- The sizes of the buffers.
+pub record BufferSizes (cells log global shared masks : List ℕ) : Type 0 where
+  pub log-sized : length log ≡ logPerCell * length cells
+  pub cells-few : length cells ≤ 1024
+  pub shared-sized : length shared ≡ logPerCell * length global
+  pub masks-sized : length masks ≡ groupsPerCell * length global
+  pub global-few : length global ≤ 1024
+
+-- What a row asks: one of the table that the state and the buffers suit.
+pub record GroupReady (table ends : List ℕ) (n group : ℕ) (s : State) (regs cells log saved openers global shared masks : List ℕ) : Type 0 where
+  pub some : 1 ≤ n
+  pub group-few : group < 8
+  pub inside : s .row * 4 + 3 < length table
+  pub room : Room s
+  pub own-asks : (18 < getD table (s .row * 4) 0 → getD table (s .row * 4) 0 < 32 → ⊥)
+      → RowAsks (getD table (s .row * 4) 0) (getD table (s .row * 4 + 1) 0) (getD table (s .row * 4 + 2) 0) (getD table (s .row * 4 + 3) 0)
+  pub global-asks : 18 < getD table (s .row * 4) 0 → getD table (s .row * 4) 0 < 32
+      → GlobalRowAsks (getD table (s .row * 4) 0) (getD table (s .row * 4 + 1) 0) (getD table (s .row * 4 + 2) 0)
+  pub depths : DepthAsks (getD table (s .row * 4) 0) s openers
+  pub ends-right : rowAt (rowsOf table) (s .row) .op ≡ WHILE → getD ends (s .row) 0 ≡ endOf (rowsOf table) (s .row)
+  pub sizes : BufferSizes cells log global shared masks
+  pub shape : Shape
+  pub state : LockState
+  pub threads-are : shape .threads ≡ n
+  pub stands : GroupStands shape state s regs cells log saved openers global shared masks
+
+-- What a row comes to: what the definition's row comes to from the state that stands, and every word that no such state shows.
+pub record GroupSteps (table : List ℕ) (n group : ℕ) (s : State) (regs cells log saved openers global shared masks : List ℕ) (r : Next)
+    (regs′ cells′ log′ saved′ openers′ global′ shared′ masks′ : List ℕ) : Type 0 where
+  pub counts : Counts s r
+  pub done : (L : Shape) (z : LockState) → L .threads ≡ n → L .group ≡ group → GroupStands L z s regs cells log saved openers global shared masks
+      → GroupAfter L (runRow (rowsOf table) L (rowAt (rowsOf table) (z .row)) z (rowAt (rowsOf table) (z .row) .op)) r regs′ cells′ log′ saved′ openers′
+      global′ shared′ masks′
+  pub regs-are : RegsAfter (getD table (s .row * 4) 0) n (s .mask) (getD table (s .row * 4 + 1) 0) (getD table (s .row * 4 + 2) 0)
+      (getD table (s .row * 4 + 3) 0) regs regs′
+  pub saved-are : saved′ ≡ savedAfter (getD table (s .row * 4) 0) s saved openers
+  pub openers-are : openers′ ≡ openersAfter (getD table (s .row * 4) 0) s openers
+
+-- A row's accesses of global cells by op, in state s: what they come to, and the state after them.
+abbrev pub GlobalDone : (op n group d a : ℕ) → State → (regs global shared masks : List ℕ) → Next → (regs′ global′ shared′ masks′ : List ℕ) → Type 0
+GlobalDone op n group d a s regs global shared masks r regs′ global′ shared′ masks′ =
+    (x : Access) × (r ≡ accessed s x) × GlobalAll (op - 4) n (s .mask) d a group regs global shared masks x regs′ global′ shared′ masks′ × KeptBut d n regs regs′

@@ -1,0 +1,122 @@
+// One row of a group of a launch. Its own cells are those of a group alone; rows that name global cells, and what a barrier does to their log, are told
+// apart here.
+ghost use mathlib.Core.Path.{_≡_};
+ghost use Prim.Native.Nat.{_+_, _-_, _*_, _^_, _<_, _≤_};
+ghost use lib.ListN.{length, getD};
+ghost use Rattle.spec.specs.Limits.{logPerCell};
+ghost use Rattle.layout.specs.Represents.{Room, accessed};
+ghost use Rattle.layout.specs.Shared.{GlobalAsks};
+ghost use Rattle.layout.specs.Groups.{SharedAfter};
+ghost use Rattle.layout.specs.Counting.{Roomy, NextCounted};
+ghost use Rattle.banks.specs.Counting.{Older};
+ghost use Rattle.banks.specs.Remembering.{Memo};
+ghost use Rattle.intervals.specs.Records.{RecordAsks};
+ghost use Rattle.step.specs.Recording.{RowRecorded, cellDue};
+ghost use Rattle.grouprow.specs.Rows.{GroupReady, GroupSteps, GlobalDone};
+
+// The state after a row's accesses of global cells.
+fn after_access(c: layout::Access, s: layout::State) -> layout::Next
+    requires { ⌜ Room s ⌝ }
+    ensures { λ r. ⌜ r ≡ accessed s c ⌝ }
+{
+    match c {
+        layout::Access::Done => layout::Next::Go(constructs::moved(s)),
+        layout::Access::Stop(v) => layout::Next::Stop(v, s),
+    }
+}
+
+// Ops 20 to 22: what ops 16 to 18 do with own cells, with global ones.
+fn global_row(
+    regs: &mut [u32; 512],
+    global: &mut [u32],
+    shared: &mut [u32],
+    masks: &mut [u32],
+    n: u32,
+    group: u32,
+    op: u8,
+    d: usize,
+    a: usize,
+    s: layout::State,
+) -> layout::Next
+    requires { ⌜ Room s × (n ≤ 32) × (s .mask < 2 ^ n) × (group < 8) × (4 ≤ op) × GlobalAsks (op - 4) d a (now global) (now shared) (now masks) ⌝ }
+    ensures { λ r. ⌜ GlobalDone op n group d a s (now (regs .entry)) (now (global .entry)) (now (shared .entry)) (now (masks .entry)) r
+        (now (regs .exit)) (now (global .exit)) (now (shared .exit)) (now (masks .exit)) ⌝ }
+{
+    let r = globals::access_row(regs, global, shared, masks, n, s.mask, op - 4, d, a, group);
+    let c = r.access;
+    after_access(c, s)
+}
+
+// Where a BARRIER was passed, the log of the global cells is cleared; the group masks stay.
+fn after_barrier(shared: &mut [u32], cells: usize, s: layout::State, r: layout::Next)
+    requires { ⌜ length (now shared) ≡ logPerCell * cells ⌝ }
+    ensures { λ _. ⌜ SharedAfter s r (now (shared .entry)) (now (shared .exit)) ⌝ }
+{
+    match r {
+        layout::Next::Go(z) => {
+            if s.barriers < z.barriers {
+                accesslog::clear(shared, cells);
+            }
+        }
+        layout::Next::Stop(_, _) => {}
+    }
+}
+
+pub fn group_row(
+    table: &[u8],
+    ends: &[u8; 256],
+    n: u32,
+    group: u32,
+    regs: &mut [u32; 512],
+    cells: &mut [u32],
+    log: &mut [u32],
+    global: &mut [u32],
+    shared: &mut [u32],
+    masks: &mut [u32],
+    saved: &mut [u32; 8],
+    openers: &mut [usize; 8],
+    counts: &mut [u32; 32],
+    stamps: &mut [u32; 1024],
+    memo: &mut [u32; 544],
+    records: &mut [u32],
+    s: layout::State,
+) -> layout::Next
+    requires { ⌜ GroupReady (now table) (now ends) n group s (now regs) (now cells) (now log) (now saved) (now openers) (now global) (now shared) (now masks)
+        × Roomy (s .mask) (s .since + 1) (now counts) × Older (s .rows + 1) (now stamps) × Memo (now memo)
+        × RecordAsks (s .barriers + group) (s .rows) (now records) ⌝ }
+    ensures { λ r. ⌜ GroupSteps (now (table .entry)) n group s (now (regs .entry)) (now (cells .entry)) (now (log .entry)) (now (saved .entry))
+        (now (openers .entry)) (now (global .entry)) (now (shared .entry)) (now (masks .entry)) r
+        (now (regs .exit)) (now (cells .exit)) (now (log .exit)) (now (saved .exit)) (now (openers .exit))
+        (now (global .exit)) (now (shared .exit)) (now (masks .exit))
+        × NextCounted (getD (now (table .entry)) (s .row * 4) 0) s r (now (counts .entry)) (now (counts .exit))
+        × RowRecorded (getD (now (table .entry)) (s .row * 4) 0) n group (cellDue (now (table .entry)) s (now (regs .entry))) s r
+        (now (records .entry)) (now (records .exit)) (now (stamps .exit)) (now (memo .exit)) ⌝ }
+{
+    let row = s.row;
+    let op = table[row * 4];
+    if 18 < op && op < 32 {
+        let d = step::index(table[row * 4 + 1]);
+        let a = step::index(table[row * 4 + 2]);
+        return global_row(regs, global, shared, masks, n, group, op, d, a, s);
+    }
+    let r = step::step(
+        table,
+        ends,
+        n,
+        regs,
+        cells,
+        log,
+        saved,
+        openers,
+        counts,
+        stamps,
+        memo,
+        records,
+        group,
+        s,
+    );
+    if op == 37 {
+        after_barrier(shared, global.len(), s, r);
+    }
+    r
+}
