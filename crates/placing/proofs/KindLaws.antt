@@ -8,37 +8,26 @@ use lib.ListN.{length, take, drop, length-append}
 use lib.Seq.{take-at, drop-at, drop-drop}
 use Rattle.spec.specs.Lists.{joined}
 use Rattle.layout.specs.Views.{part, putPart}
-use Rattle.layout.proofs.Lists.{Even}
+use Rattle.layout.proofs.Lists.{Even, later}
 use Rattle.layout.proofs.Parts.{part-size, put-size}
 use Rattle.placing.specs.Kinds.{kindPlaced, kindsPlaced, KindsAsk}
 use Rattle.placing.proofs.Stretches.{put-behind, put-before}
 
--- The places of kind j are inside, where those of all kinds are.
-pub place-inside : (first total j n size : ℕ) → j < n → (first + n) * total ≤ size → (first + j) * total + total ≤ size
-place-inside first total j n size h l = let m : (first + j + 1) * total ≤ (first + n) * total = mul-le-mul-right total (omega arith) in omega arith
+module _ (kinds first k total at : ℕ) (words to : List ℕ) (A : KindsAsk kinds first k total at words to) where
+  -- The words of kind j are inside, and so are their places.
+  pub word-inside : (j : ℕ) → j < kinds → j * k + k ≤ length words
+  word-inside j h = let m : (j + 1) * k ≤ kinds * k = mul-le-mul-right k (omega arith) in omega (arith, A .words-are)
 
-pub word-inside : (k j n size : ℕ) → j < n → n * k ≤ size → j * k + k ≤ size
-word-inside k j n size h l = let m : (j + 1) * k ≤ n * k = mul-le-mul-right k (omega arith) in omega arith
+  pub place-inside : (j : ℕ) → j < kinds → (first + j) * total + total ≤ length to
+  place-inside j h = let m : (first + j + 1) * total ≤ (first + kinds) * total = mul-le-mul-right total (omega arith) in omega (arith, A .room)
 
-module _ (first total at k : ℕ) (words : List ℕ) (h : at + k ≤ total) where
-  pub kind-size : (j : ℕ) (to : List ℕ) → j * k + k ≤ length words → (first + j) * total + total ≤ length to
-      → length (kindPlaced first total at k j words to) ≡ length to
-  unfolding kindPlaced
-  kind-size j to w l = put-size ((first + j) * total + at) (part (j * k) k words) to (let e = part-size (j * k) k words w in omega arith)
-
-  pub kinds-size : (n : ℕ) (to : List ℕ) → n * k ≤ length words → (first + n) * total ≤ length to → length (kindsPlaced first total at k n words to) ≡ length to
-  unfolding kindsPlaced
-  kinds-size zero to w l = refl
-  kinds-size (suc j) to w l =
-      let before = kinds-size j to (let e = word-inside k j (suc j) (length words) (omega arith) w in omega arith)
-      (let e = place-inside first total j (suc j) (length to) (omega arith) l in omega arith) in
-      kind-size j (kindsPlaced first total at k j words to) (word-inside k j (suc j) (length words) (omega arith) w)
-      (let e = place-inside first total j (suc j) (length to) (omega arith) l in omega arith)
-      ∙ before
-
-pub placed-size : (kinds first k total at : ℕ) (words to : List ℕ) → KindsAsk kinds first k total at words to
-    → length (kindsPlaced first total at k kinds words to) ≡ length to
-placed-size kinds first k total at words to A = kinds-size first total at k words (A .within) kinds to (omega (arith, A .words-are)) (A .room)
+  pub kinds-size : (n : ℕ) → n ≤ kinds → length (kindsPlaced first total at k n words to) ≡ length to
+  unfolding kindsPlaced kindPlaced
+  kinds-size zero h = refl
+  kinds-size (suc j) h =
+      let before = kinds-size j (omega arith) in
+      let size = part-size (j * k) k words (word-inside j h) in
+      put-size ((first + j) * total + at) (part (j * k) k words) (kindsPlaced first total at k j words to) (omega (arith, place-inside j h, A .within)) ∙ before
 
 -- Kind n + 1 is kind n of those behind the first.
 kind-later : (first total at k n : ℕ) (words to : List ℕ)
@@ -62,9 +51,6 @@ unfoldable pub putEach : (at : ℕ) → (yss xss : List (List ℕ)) → List (Li
 putEach at [] xss = xss
 putEach at (ys ∷ yss) [] = []
 putEach at (ys ∷ yss) (xs ∷ xss) = putPart at ys xs ∷ putEach at yss xss
-
-later : (k : ℕ) (xs : List ℕ) (xss : List (List ℕ)) → Even k (xs ∷ xss) → Even k xss
-later k xs xss E q h = E (suc q) (omega arith)
 
 module _ (total at k : ℕ) (h : at + k ≤ total) where
   first-put : (first : ℕ) (front ys xs words rest : List ℕ) → length front ≡ first * total → length ys ≡ k → length xs ≡ total

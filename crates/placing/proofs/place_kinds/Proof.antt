@@ -6,19 +6,19 @@ use native.Mathlib.Omega.{arith}
 use lib.ListN.{length}
 use borrow.Author.Needs.{needs}
 use Rattle.placing.specs.Kinds.{kindPlaced, kindsPlaced}
-use Rattle.placing.proofs.KindLaws.{place-inside, word-inside, kind-size}
+use Rattle.placing.proofs.KindLaws.{word-inside, place-inside, kinds-size}
 use Rattle.placing.proofs.place_kinds.Statement.{statement}
 use Rattle.placing.proofs.place_kinds.Tie as tie
 
 abbrev Inv-loop : tie.InvT-loop
-Inv-loop words kinds first k total at to₀ j₀ to j = (j ≤ kinds) × (to ≡ kindsPlaced first total at k j words to₀) × (length to ≡ length to₀)
+Inv-loop words kinds first k total at to₀ j₀ to j = (j ≤ kinds) × (to ≡ kindsPlaced first total at k j words to₀)
 
 abbrev μ-loop : tie.MeasureT-loop
 μ-loop words kinds first k total at to₀ j₀ to j = kinds - j
 
 loop-holds : tie.Need-loop-holds Inv-loop μ-loop
 unfolding kindsPlaced
-loop-holds c = (omega arith, refl, refl)
+loop-holds c = (omega arith, refl)
 
 place-kind-requires : tie.Need-place-kind-requires Inv-loop μ-loop
 place-kind-requires c κs =
@@ -26,10 +26,11 @@ place-kind-requires c κs =
     let start = c .before .before .before .before .before in
     let args = start .args in
     let pre = start .pre in
-    let left : turn .j < args .kinds = c .before .loop-test .taken in (
-      word-inside (args .k) (turn .j) (args .kinds) (length (args .words .now)) left (omega (arith, pre .words-are)),
+    let left : turn .j < args .kinds = c .before .loop-test .taken in
+    let size = ap length (turn .inv .1) ∙ kinds-size _ _ _ _ _ _ _ pre (turn .j) (turn .inv .0) in (
+      word-inside _ _ _ _ _ _ _ pre (turn .j) left,
       pre .within,
-      place-inside (args .first) (args .total) (turn .j) (args .kinds) (length (turn .to)) left (omega (arith, pre .room, turn .inv .2)),
+      omega (arith, place-inside _ _ _ _ _ _ _ pre (turn .j) left, size),
       omega (arith, pre .kinds-few),
       pre .first-few,
       pre .total-few,
@@ -45,24 +46,17 @@ loop-again : tie.Need-loop-again Inv-loop μ-loop
 unfolding kindsPlaced
 loop-again c =
     let turn = c .before .before .before .before .before .loop in
-    let start = c .before .before .before .before .before .before .before .before in
-    let args = start .args in
-    let pre = start .pre in
-    let words = args .words .now in
-    let left : turn .j < args .kinds = c .before .before .before .before .loop-test .taken in
-    let put = c .before .before .place-kind .ensures in (
-      omega arith,
-      put ∙ ap (kindPlaced (args .first) (args .total) (args .at) (args .k) (turn .j) words) (turn .inv .1)
-          ∙ ap (λ (n : ℕ). kindsPlaced (args .first) (args .total) (args .at) (args .k) n words (args .to .now)) (sym (add-one (turn .j))),
-      ap length put
-          ∙ kind-size (args .first) (args .total) (args .at) (args .k) words (pre .within) (turn .j) (turn .to)
-          (word-inside (args .k) (turn .j) (args .kinds) (length words) left (omega (arith, pre .words-are)))
-          (place-inside (args .first) (args .total) (turn .j) (args .kinds) (length (turn .to)) left (omega (arith, pre .room, turn .inv .2)))
-          ∙ turn .inv .2,
+    let args = c .before .before .before .before .before .before .before .before .args in (
+      omega (arith, c .before .before .before .before .loop-test .taken),
+      c .before .before .place-kind .ensures
+          ∙ ap (kindPlaced (args .first) (args .total) (args .at) (args .k) (turn .j) (args .words .now)) (turn .inv .1)
+          ∙ ap (λ (n : ℕ). kindsPlaced (args .first) (args .total) (args .at) (args .k) n (args .words .now) (args .to .now)) (sym (add-one (turn .j))),
     )
 
 same-length : tie.Need-same-length Inv-loop μ-loop
-same-length c = search needs
+same-length c =
+    let turn = c .before .loop in
+    ap length (turn .inv .1) ∙ kinds-size _ _ _ _ _ _ _ (c .before .before .before .before .pre) (turn .j) (turn .inv .0)
 
 returns : tie.Need-returns Inv-loop μ-loop
 returns c =
