@@ -50,7 +50,7 @@ kinds-logged H i g (store v) = refl
 kinds-logged H i g (atomicAdd v) = refl
 
 module _ (n k : ℕ) (H : GroupLog) (masks : List ℕ) (M : GroupsAre n k H masks) where
-  kinds-even : Even k (groupKinds H)
+  pub kinds-even : Even k (groupKinds H)
   unfolding groupKinds groupMasksOf
   kinds-even zero h = length-map (H .readers) maskWord ∙ M .masks-are reads .count
   kinds-even (suc zero) h = length-map (H .writers) maskWord ∙ M .masks-are writes .count

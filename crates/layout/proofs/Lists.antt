@@ -23,7 +23,7 @@ module _ (k : ℕ) where
   abbrev pub Even : List (List ℕ) → Type 0
   Even xss = (q : ℕ) → q < length xss → length (getD xss q []) ≡ k
 
-  later : (xs : List ℕ) (xss : List (List ℕ)) → Even (xs ∷ xss) → Even xss
+  pub later : (xs : List ℕ) (xss : List (List ℕ)) → Even (xs ∷ xss) → Even xss
   later xs xss E q h = E (suc q) (omega arith)
 
   pub joined-size : (xss : List (List ℕ)) → Even xss → length (joined xss) ≡ length xss * k

@@ -58,7 +58,7 @@ rank-kind G adds = refl
 
 module _ (n k : ℕ) (G : Log) (log : List ℕ) (L : LogIs n k G log) where
   -- Each kind of words has one for each cell.
-  kinds-even : Even k (logKinds G)
+  pub kinds-even : Even k (logKinds G)
   unfolding logKinds masksOf
   kinds-even zero h = length-map (G .readers) maskWord ∙ L .masks-are reads .count
   kinds-even (suc zero) h = length-map (G .writers) maskWord ∙ L .masks-are writes .count
@@ -390,12 +390,14 @@ unfolding nobody
 nobody-empty zero = refl
 nobody-empty (suc n) = ap (λ l. false ∷ l) (nobody-empty n)
 
+pub none-words : (n k : ℕ) → map maskWord (replicate k (replicate n false)) ≡ replicate k 0
+none-words n k = empty-words maskWord (replicate n false) (ap maskWord (sym (nobody-empty n)) ∙ nobody-word (replicate n false)) k
+
 pub empty-is : (n k : ℕ) (log : List ℕ) → log ≡ replicate (logPerCell * k) 0 → LogIs n k (emptyLog n k) log
 empty-is n k log e =
     record {
       words-are = e ∙ sym (zero-log k (emptyLog n k)
-          (λ m. ap (map maskWord) (masks-empty n k m)
-          ∙ empty-words maskWord (replicate n false) (ap maskWord (sym (nobody-empty n)) ∙ nobody-word (replicate n false)) k)
+          (λ m. ap (map maskWord) (masks-empty n k m) ∙ none-words n k)
           (unfold emptyLog in refl)
           (unfold emptyLog in (empty-words markWord false (unfold markWord in refl) k)));
       masks-are = λ m. subst (Masks n k) (sym (masks-empty n k m)) (empty-masks n k);
