@@ -12,7 +12,7 @@ use Rattle.spec.specs.Steps.{sum}
 use Rattle.spec.specs.Intervals.{Interval, Intervals, allOf, started, withRow, together, recordsOf, recordWords, conflictsOf}
 use Rattle.spec.specs.Entries.{over}
 use Rattle.spec.proofs.Laws.{lt-or-le}
-use Rattle.intervals.specs.Records.{inUse, begun, ended, charged, released, costsUpTo, RecordAsks, EndAsks}
+use Rattle.intervals.specs.Records.{inUse, begun, ended, charged, released, costsUpTo, RecordAsks, EndAsks, goesOn, Ledger}
 
 -- Words behind others.
 set-behind : (xs ys : List ℕ) (j v : ℕ) → set (xs ++ ys) (length xs + j) v ≡ xs ++ set ys j v
@@ -69,10 +69,6 @@ append-more : (is js : List Interval) (i : Interval) → is ++ (i ∷ js) ≡ (i
 append-more [] js i = refl
 append-more (j ∷ is) js i = ap (λ l. j ∷ l) (append-more is js i)
 
--- Intervals whose first one has begun before: it has another start, and rows and a cost already.
-abbrev pub goesOn : (start rows cost : ℕ) → Intervals → Intervals
-goesOn s r c is = record { first = record { start = s; rows = r + is .first .rows; cost = c + is .first .cost }; later = is .later }
-
 goes-new : (s : ℕ) (is : Intervals) → is .first .start ≡ s → goesOn s 0 0 is ≡ is
 goes-new s is e =
     let rows : 0 + is .first .rows ≡ is .first .rows = omega arith in
@@ -108,19 +104,6 @@ records-one : (k : ℕ) (i : Interval) → recordsOf k (i ∷ []) ≡ i ∷ []
 unfolding recordsOf together
 records-one zero i = refl
 records-one (suc k) i = refl
-
--- `whole` are the records of the run, `rest` its intervals from here on. The interval that goes on began with `before` rows run.
-pub record Ledger (whole : List Interval) (lent : List ℕ) (rest : Intervals) (earlier rows : ℕ) (records : List ℕ) : Type 0 where
-  pub finished : List Interval
-  pub start : ℕ
-  pub before : ℕ
-  pub cost : ℕ
-  pub count : length finished ≡ inUse earlier
-  pub words : records ≡ recordWords finished ++ (start ∷ before ∷ cost ∷ drop (inUse earlier * 3 + 3) lent)
-  pub began : before ≤ rows
-  pub same : whole ≡ finished ++ recordsOf (1024 - inUse earlier) (allOf (goesOn start (rows - before) cost rest))
-  pub few : conflictsOf finished + cost ≤ 31 * rows
-  pub enough : recordsLent ≤ length lent
 
 begun-front : (row rows : ℕ) (l : List ℕ) → 3 ≤ length l → set (set (set l 0 row) 1 rows) 2 0 ≡ row ∷ rows ∷ 0 ∷ drop 3 l
 begun-front row rows [] h = absurd (omega arith)

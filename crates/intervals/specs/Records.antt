@@ -1,10 +1,12 @@
 -- The lent list of records, word by word. Assumes nothing.
-use mathlib.Core.List.{List}
+use mathlib.Core.Path.{_≡_}
+use mathlib.Core.List.{List, _∷_, _++_}
 use mathlib.Core.Bool.{cond}
 use Prim.Native.Nat.{ℕ, zero, suc, _+_, _-_, _*_, _<_, _≤_, min}
 use lib.Dec.{ltb}
-use lib.ListN.{length, getD, set}
+use lib.ListN.{length, getD, set, drop}
 use Rattle.spec.specs.Limits.{recordsLent}
+use Rattle.spec.specs.Intervals.{Interval, Intervals, allOf, recordsOf, recordWords, conflictsOf}
 use Rattle.layout.specs.declared.State.{State}
 use Rattle.layout.specs.declared.Next.{Next}
 use Rattle.layout.specs.declared.Next.the-variants as next
@@ -50,3 +52,20 @@ recordsAfter group cost s (next.Go r) records =
     let earlier = s .barriers + group in
     cond (ltb (s .barriers) (r .barriers)) (released earlier (r .row) (r .rows) records) (charged earlier cost records)
 recordsAfter group cost s (next.Stop v r) records = records
+
+-- Intervals whose first one has begun before: it has another start, and rows and a cost already.
+abbrev pub goesOn : (start rows cost : ℕ) → Intervals → Intervals
+goesOn s r c is = record { first = record { start = s; rows = r + is .first .rows; cost = c + is .first .cost }; later = is .later }
+
+-- `whole` are the records of the run, `rest` its intervals from here on. The interval that goes on began with `before` rows run.
+pub record Ledger (whole : List Interval) (lent : List ℕ) (rest : Intervals) (earlier rows : ℕ) (records : List ℕ) : Type 0 where
+  pub finished : List Interval
+  pub start : ℕ
+  pub before : ℕ
+  pub cost : ℕ
+  pub count : length finished ≡ inUse earlier
+  pub words : records ≡ recordWords finished ++ (start ∷ before ∷ cost ∷ drop (inUse earlier * 3 + 3) lent)
+  pub began : before ≤ rows
+  pub same : whole ≡ finished ++ recordsOf (1024 - inUse earlier) (allOf (goesOn start (rows - before) cost rest))
+  pub few : conflictsOf finished + cost ≤ 31 * rows
+  pub enough : recordsLent ≤ length lent

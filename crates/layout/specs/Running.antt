@@ -80,9 +80,9 @@ pub record RunIs (o : LockResult) (intervals : List Interval) (lent : List ℕ) 
   pub records-are : records ≡ over (recordWords intervals) lent
   pub counts-are : counts ≡ over (o .state .steps) (replicate 32 0)
 
--- The state at the start, with the mask of all threads.
-abbrev pub startState : (all : ℕ) → State
-startState all = record { reach = 0; row = 0; mask = all; depth = 0; rows = 0; since = 0; barriers = 0 }
+-- The state at a group's start, with the mask of all threads, after so many rows and barriers.
+abbrev pub startState : (all rows barriers : ℕ) → State
+startState all rows barriers = record { reach = 0; row = 0; mask = all; depth = 0; rows = rows; since = 0; barriers = barriers }
 
 -- The answer of a run that has ended in this state.
 abbrev pub endedAs : Verdict → State → (conflicts : ℕ) → Outcome

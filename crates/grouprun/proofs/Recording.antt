@@ -10,27 +10,25 @@ use borrow.Author.Tests.{le-leb, lt-leb, lt-ltb, le-ltb, eq-eqb, ne-eqb}
 use lib.Dec.{eqb, leb}
 use lib.ListN.{length, getD}
 use Rattle.spec.specs.declared.Verdict.{Verdict}
-use Rattle.spec.specs.declared.Outcome.{Outcome}
 use Rattle.spec.specs.Mask.{Mask, members, membersFrom}
 use Rattle.spec.specs.Op.{Op, CALC, OWN, Mem, MEM, IF, ELSE, ENDIF, WHILE, ENDWHILE, BARRIER, UNKNOWN, opOf}
 use Rattle.spec.specs.Table.{Table, Row, rowAt, cellByte}
-use Rattle.spec.specs.Shape.{Shape, oneGroup, bound}
-use Rattle.spec.specs.LockStep.{LockState, LockResult, Step, continues, stops, reg, runRow}
-use Rattle.spec.specs.Intervals.{Intervals, usedCells, rowCost, allOf, started, withRow, behind, intervalsAfter, intervalsFrom, recordsOf, intervalRecords, recordWords}
+use Rattle.spec.specs.Shape.{Shape, bound}
+use Rattle.spec.specs.LockStep.{LockState, Step, continues, stops, reg, runRow}
+use Rattle.spec.specs.Intervals.{Interval, Intervals, usedCells, rowCost, allOf, started, withRow, behind, intervalsAfter, intervalsFrom}
 use Rattle.spec.proofs.Laws.{map-members, byte-if, byte-else, byte-endif, byte-while, byte-endwhile, byte-barrier}
 use Rattle.spec.proofs.UsedCells.{Below, used-below}
 use Rattle.banks.specs.Counting.{AllCells}
-use Rattle.allruns.proofs.OneGroup.{one-records}
 use Rattle.allruns.proofs.Counts.{passes, passedAt, grown}
 use Rattle.accesslog.proofs.LogTests.{mem-load, mem-store, mem-add, which}
 use Rattle.layout.specs.Memory.{Memory, cellIn}
-use Rattle.layout.specs.Running.{RowAsks, RunIs}
+use Rattle.layout.specs.Running.{RowAsks}
 use Rattle.layout.specs.declared.State.{State}
 use Rattle.layout.specs.declared.Next.the-variants as next
-use Rattle.spec.specs.Entries.{over}
-use Rattle.intervals.specs.Records.{begun, charged, released, recordsAfter}
-use Rattle.intervals.proofs.Ledger.{over-begun}
+use Rattle.intervals.specs.Records.{charged, released, recordsAfter}
+use Rattle.intervals.proofs.Ledger.{endsHere}
 use Rattle.step.proofs.Tables.{compute-op}
+use Rattle.grouprun.specs.Groups.{followed}
 
 -- The definition's intervals, from one row on.
 pub intervals-start : (T : Table) (L : Shape) (k : ℕ) (s : LockState) → intervalsFrom T L k s .first .start ≡ s .row
@@ -118,12 +116,12 @@ pub all-cells : (k : ℕ) → k ≤ 1024 → (cs : List ℕ) → Below k cs → 
 all-cells k h [] b = tt
 all-cells k h (c ∷ cs) b = (let l = b .0 in omega arith, all-cells k h cs (b .1))
 
--- The cells that a row of accesses uses, by its bytes and the registers.
 -- The numbers that a finished row of own accesses used are below the count of own cells.
 pub own-below : (T : Table) (L : Shape) (x : Row) (s z : LockState) (m : Mem) → runRow T L x s (MEM OWN m) ≡ continues z → Below (L .cells) (usedCells m x s)
 unfolding bound
 own-below T L x s z m e = used-below T L x s z OWN m e
 
+-- The cells that a row of accesses uses, by its bytes and the registers.
 pub used-are : (n : ℕ) (s : LockState) (regs cells log : List ℕ) → Memory n s regs cells log → length (s .enabled) ≡ n → (x : Row) (k d a : ℕ)
     → 16 ≤ k → k ≤ 18 → d < 16 → a < 16 → x .d ≡ d → x .a ≡ a → (m : Mem) → opOf k ≡ MEM OWN m
     → usedCells m x s ≡ map (cellIn k d a regs) (members (s .enabled))
@@ -154,29 +152,21 @@ pub behind-more : (s z : LockState) (row : ℕ) (is : Intervals) → s .barriers
 unfolding behind
 behind-more s z row is h e = rw (lt-ltb (s .barriers) (z .barriers) h) (ap (λ r. record { first = started r .first; later = allOf is }) (sym e))
 
-pub after-none : (cost : ℕ) (s r : State) (records : List ℕ) → r .barriers ≤ s .barriers → recordsAfter cost s (next.Go r) records ≡ charged (s .barriers) cost records
+pub after-none : (group cost : ℕ) (s r : State) (records : List ℕ) → r .barriers ≤ s .barriers
+    → recordsAfter group cost s (next.Go r) records ≡ charged (s .barriers + group) cost records
 unfolding recordsAfter
-after-none cost s r records h = rw (le-ltb (s .barriers) (r .barriers) h) refl
+after-none group cost s r records h = rw (le-ltb (s .barriers) (r .barriers) h) refl
 
-pub after-more : (cost : ℕ) (s r : State) (records : List ℕ) → s .barriers < r .barriers
-    → recordsAfter cost s (next.Go r) records ≡ released (s .barriers) (r .row) (r .rows) records
+pub after-more : (group cost : ℕ) (s r : State) (records : List ℕ) → s .barriers < r .barriers
+    → recordsAfter group cost s (next.Go r) records ≡ released (s .barriers + group) (r .row) (r .rows) records
 unfolding recordsAfter
-after-more cost s r records h = rw (lt-ltb (s .barriers) (r .barriers) h) refl
+after-more group cost s r records h = rw (lt-ltb (s .barriers) (r .barriers) h) refl
 
--- There is a record, so the words of the first one, with which the run began, are written over.
-some-words : (T : Table) (n : ℕ) (cells : List ℕ) (limit : ℕ) → 3 ≤ length (recordWords (intervalRecords T (oneGroup n cells) cells limit))
-unfolding recordsOf allOf recordWords
-some-words T n cells limit = rw (one-records T n cells limit) (omega arith)
+-- Intervals with those of later groups behind them, one row taken off.
+pub row-followed : (x cost : ℕ) (is : Intervals) (more : List Interval) → followed (withRow x cost is) more ≡ withRow x cost (followed is more)
+unfolding followed withRow
+row-followed x cost is more = refl
 
-pub ran-lent : (o : LockResult) (T : Table) (n : ℕ) (cells₀ : List ℕ) (limit : ℕ) (lent begun-with : List ℕ) (r : Outcome) (cells log records counts : List ℕ)
-    → begun-with ≡ begun 0 0 0 lent → RunIs o (intervalRecords T (oneGroup n cells₀) cells₀ limit) begun-with r cells log records counts
-    → RunIs o (intervalRecords T (oneGroup n cells₀) cells₀ limit) lent r cells log records counts
-ran-lent o T n cells₀ limit lent begun-with r cells log records counts e R =
-    let w = recordWords (intervalRecords T (oneGroup n cells₀) cells₀ limit) in
-    record {
-      outcome-is = R .outcome-is;
-      cells-are = R .cells-are;
-      log-is = R .log-is;
-      records-are = R .records-are ∙ ap (over w) e ∙ over-begun w lent (some-words T n cells₀ limit);
-      counts-are = R .counts-are;
-    }
+pub end-followed : (y : ℕ) (is : Intervals) (more : List Interval) → followed (endsHere y is) more ≡ endsHere y (followed is more)
+unfolding followed allOf
+end-followed y is more = refl

@@ -1,0 +1,4 @@
+mod RowBytes
+mod Recording
+mod Starting
+mod Going
