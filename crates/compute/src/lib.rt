@@ -132,11 +132,11 @@ pub fn launch_row(regs: &mut [u32; 512], group: u32, n: u32, mask: u32, d: usize
     requires { ⌜ (group < 8) × (n ≤ 32) × (d < 16) × (length (now regs) ≡ 512) ⌝ }
     ensures { λ _. ⌜ Puts d (computedLane LAUNCHTID group n mask d 0 0 (now (regs .entry))) (now (regs .entry)) (now (regs .exit)) 32 ⌝ }
 {
-    let v = launch_numbers(group, n);
-    let all = masks::all(n);
-    if mask == all {
-        put_all(regs, d, v);
+    let numbers = launch_numbers(group, n);
+    let full = masks::all(n);
+    if mask == full {
+        put_all(regs, d, numbers);
         return;
     }
-    put(regs, d, v, bits_of(mask));
+    put(regs, d, numbers, bits_of(mask));
 }
