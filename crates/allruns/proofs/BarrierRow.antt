@@ -14,7 +14,7 @@ use Rattle.spec.specs.LockStep.{passBarrier, runRow, stops}
 use Rattle.spec.specs.Mask.{Mask, any, full, has, lowest}
 use Rattle.spec.specs.Op.{BARRIER, CALC, ELSE, ENDIF, ENDWHILE, IF, MEM, Op, UNKNOWN, WHILE, value}
 use Rattle.spec.specs.Runs.{shownTo}
-use Rattle.spec.specs.Shape.{Shape}
+use Rattle.spec.specs.Shape.{Shape, launchNumber}
 use Rattle.spec.specs.Table.{Fits, Table, WellFormed, innermost, openBefore, openedBy, plain, role, rowAt}
 use Rattle.spec.specs.Threads.{Group, Thread, atOneBarrier, isBarrier, machine, next, noThread, possible, release, released, row}
 use Rattle.spec.specs.declared.Verdict.{Verdict}
@@ -278,10 +278,10 @@ module _ (T : Table) (w : WellFormed T) (L : Shape) (s : LockState) (fs : List F
   done : (o : Op) → rowAt T (s .row) .op ≡ o → RowDone T L s g (runRow T L (rowAt T (s .row)) s o)
   unfolding runRow innermost
   done (CALC c) q =
-      plain-row T L s fs g S l (computeTurn (rowAt T (s .row)) (λ t a b. value c (L .threads) t (rowAt T (s .row) .a) (rowAt T (s .row) .b) a b))
+      plain-row T L s fs g S l (computeTurn (rowAt T (s .row)) (λ t a b. value c (L .threads) t (launchNumber L t) (rowAt T (s .row) .a) (rowAt T (s .row) .b) a b))
       (keeps-calc _ _)
       (λ t P z h i e m.
-      subst (λ r. One T L onw here t P h (computeTurn (rowAt T r) (λ t a b. value c (L .threads) t (rowAt T r .a) (rowAt T r .b) a b) z t)) (ap (λ p. p .row) e)
+      subst (λ r. One T L onw here t P h (computeTurn (rowAt T r) (λ t a b. value c (L .threads) t (launchNumber L t) (rowAt T r .a) (rowAt T r .b) a b) z t)) (ap (λ p. p .row) e)
       (calc-one T L t P z h i m (rw e l) here onw c (ap (λ p. rowAt T (p .row) .op) e ∙ q) (sym (ap (λ p. record { row = suc (p .row); loops = p .loops }) e))))
       (after-plain (CALC c) q (unfold isWhile in refl) (unfold role in refl)) (unfold passedAt passes in (ap (λ o. passedAt o s) q))
   done (MEM p m) q =

@@ -11,7 +11,7 @@ use Rattle.spec.specs.declared.Verdict.{Verdict}
 use Rattle.spec.specs.declared.Verdict.the-variants.{Passed, Race, GroupRace, Outside, Diverged, Spent}
 use Rattle.spec.specs.Op.{Op, CALC, Space, Mem, MEM, IF, ELSE, ENDIF, WHILE, ENDWHILE, BARRIER, UNKNOWN, value}
 use Rattle.spec.specs.Table.{Table, Row, rowAt, endOf}
-use Rattle.spec.specs.Shape.{Shape}
+use Rattle.spec.specs.Shape.{Shape, launchNumber}
 use Rattle.spec.specs.Mask.{Mask, any, full}
 use Rattle.spec.specs.LockStep.{Saved, LockState, Step, continues, stops, andThen, inTurn, advance, setReg, computeTurn, madeAccess}
 use Rattle.spec.specs.LockStep.{accessTurn, forEnabled, countSteps, topMask, pop}
@@ -113,7 +113,7 @@ uncounted s (stops v z) h = h
 pub leaves-row : (T : Table) (L : Shape) (x : Row) (s : LockState) (o : Op) → Leaves s (suc (s .rows)) (grown s o) (runRow T L x s o)
 unfolding grown runRow passedAt passes advance countSteps barrierRow isSpent ifRow elseRow endifRow whileRow endwhileRow
 leaves-row T L x s (CALC c) =
-    uncounted s (runRow T L x s (CALC c)) (leaves-enabled _ (keeps-compute x (λ t p q. value c (L .threads) t (x .a) (x .b) p q)) s)
+    uncounted s (runRow T L x s (CALC c)) (leaves-enabled _ (keeps-compute x (λ t p q. value c (L .threads) t (launchNumber L t) (x .a) (x .b) p q)) s)
 leaves-row T L x s (MEM p m) = uncounted s (runRow T L x s (MEM p m)) (leaves-enabled _ (keeps-access L p m x) s)
 leaves-row T L x s IF = uncounted s (runRow T L x s IF) (refl, refl)
 leaves-row T L x s ELSE = uncounted s (runRow T L x s ELSE) (refl, refl)

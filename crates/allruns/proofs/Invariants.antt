@@ -128,7 +128,7 @@ pub record HoldsIn (Z : Sizes) (P : Thread → Type 0) (Q : List ℕ → Type 0)
   pub each : (g t : ℕ) → g < Z .groups → t < Z .threads → P (getD (getD (S .parts) g noPart .threads) t noThread)
   pub shared : Q (S .cells)
 
-module _ (T : Table) (Z : Sizes) (P : Thread → Type 0) (Q : List ℕ → Type 0) (k : (g : ℕ) → Keeps T (shapeOf Z g) P Q) where
+module _ (T : Table) (Z : Sizes) (P : Thread → Type 0) (Q : List ℕ → Type 0) (k : (g : ℕ) → g < Z .groups → Keeps T (shapeOf Z g) P Q) where
   -- What a part holds.
   abbrev Part₁ : Part → Type 0
   Part₁ x = (length (x .threads) ≡ Z .threads) × ((t : ℕ) → t < Z .threads → P (getD (x .threads) t noThread))
@@ -152,14 +152,16 @@ module _ (T : Table) (Z : Sizes) (P : Thread → Type 0) (Q : List ℕ → Type 
   unfolding launch.possible launch.next
   launch-next S (ofGroup g m) c h =
       group-moved S g _ h
-      (keeps-next T (shapeOf Z g) P Q (k g) (view Z S g) m (and-right (ltb g (Z .groups)) _ c)
-      (let l = ltb-true g (Z .groups) (and-left _ _ c) in record { count = h .count g l; each = λ t i. h .each g t l i; shared = h .shared }))
+      (let l = ltb-true g (Z .groups) (and-left _ _ c) in
+      keeps-next T (shapeOf Z g) P Q (k g l) (view Z S g) m (and-right (ltb g (Z .groups)) _ c)
+      (record { count = h .count g l; each = λ t i. h .each g t l i; shared = h .shared }))
 
   launch-run : (ms : List launch.Move) (S : Groups) → Run (launch.machine T Z) S ms → HoldsIn Z P Q S → HoldsIn Z P Q (after (launch.machine T Z) S ms)
   launch-run [] S r h = h
   launch-run (m ∷ ms) S r h = launch-run ms (launch.next T Z S m) (r .1) (launch-next S m (r .0) h)
 
-pub in-every-run : (T : Table) (Z : Sizes) (cells : List ℕ) (P : Thread → Type 0) (Q : List ℕ → Type 0) → ((g : ℕ) → Keeps T (shapeOf Z g) P Q) → Q cells
+pub in-every-run : (T : Table) (Z : Sizes) (cells : List ℕ) (P : Thread → Type 0) (Q : List ℕ → Type 0) → ((g : ℕ) → g < Z .groups → Keeps T (shapeOf Z g) P Q)
+    → Q cells
     → (ms : List launch.Move) → RunOf T Z cells ms → HoldsIn Z P Q (leaves T Z cells ms)
 unfolding initialGroups initialPart initialThreads
 in-every-run T Z cells P Q k q ms r =
@@ -167,6 +169,6 @@ in-every-run T Z cells P Q k q ms r =
     (record {
       groups = length-replicate (Z .groups) _;
       count = λ g l. rw (getD-replicate (Z .groups) g (initialPart T Z) noPart l) (length-replicate (Z .threads) _);
-      each = λ g t l m. rw (getD-replicate (Z .groups) g (initialPart T Z) noPart l) (rw (getD-replicate (Z .threads) t _ noThread m) (k 0 .first));
+      each = λ g t l m. rw (getD-replicate (Z .groups) g (initialPart T Z) noPart l) (rw (getD-replicate (Z .threads) t _ noThread m) (k g l .first));
       shared = q;
     })

@@ -2,7 +2,8 @@
 use mathlib.Core.Path.{_≡_, refl, sym, _∙_, ap}
 use mathlib.Core.List.{List, [], _∷_}
 use mathlib.Core.Bool.{Bool, true, false, cond, true≢false}
-use Prim.Native.Nat.{ℕ, zero, suc, _-_, _<_}
+use Prim.Native.Nat.{ℕ, zero, suc, _+_, _-_, _<_, _≤_}
+use native.Mathlib.Omega.{arith}
 use borrow.Author.Tests.{leb-false}
 use lib.Dec.{leb}
 use lib.ListN.{length, getD, length-replicate, length-set}
@@ -18,7 +19,7 @@ use Rattle.spec.specs.LockStep.{elseRow, endifRow, endwhileRow, forEnabled, ifR
 use Rattle.spec.specs.LockStep.{passBarrier, pop, reg, resultOf, runFrom, runRow, setReg, stops, topMask, whileRow}
 use Rattle.spec.specs.Mask.{Mask, any, full}
 use Rattle.spec.specs.Op.{Op, Calc, CALC, Space, OWN, GLOBAL, Mem, MEM, IF, ELSE, ENDIF, WHILE, ENDWHILE, BARRIER, UNKNOWN, value}
-use Rattle.spec.specs.Shape.{Shape, Sizes, address, bound, isGlobal, oneGroup, reaches, shapeOf}
+use Rattle.spec.specs.Shape.{Shape, Sizes, address, bound, isGlobal, launchNumber, oneGroup, reaches, shapeOf}
 use Rattle.spec.specs.Table.{Table, rowAt, endOf, kindOf}
 use Rattle.spec.proofs.StepLaws.{stepped-size, all-stepped-size}
 use Rattle.allruns.proofs.AccessTurns.{groupsAfter, turn-cases, withGroups}
@@ -34,7 +35,7 @@ cond-keeps P false p q = q
 -- P is kept by what a row may do: a thread computes or accesses, threads step, all pass a BARRIER, and the run goes on somewhere.
 pub record RowsKeep (T : Table) (L : Shape) (P : LockState → Type 0) : Type 0 where
   pub computes : (s : LockState) (r t : ℕ) (c : Calc) → r < length T → P s → let x = rowAt T r in
-      P (setReg s t (x .d) (value c (L .threads) t (x .a) (x .b) (reg s t (x .a)) (reg s t (x .b))))
+      P (setReg s t (x .d) (value c (L .threads) t (launchNumber L t) (x .a) (x .b) (reg s t (x .a)) (reg s t (x .b))))
   pub accesses : (s : LockState) (r t c : ℕ) (p : Space) (m : Mem) → c < bound L p → P s → let x = rowAt T r in let k = kindOf m (reg s t (x .a)) in
       P (withGroups (madeAccess s t (x .d) (address L p c) k) (groupsAfter p (s .groupLog) (address L p c) (L .group) k))
   pub steps : (s : LockState) (m : Mask) → P s → P (countSteps m s)
@@ -99,12 +100,12 @@ module _ (T : Table) (L : Shape) (P : LockState → Type 0) (k : RowsKeep T L P)
       by false q ih = after-result _ _ (after-row s (leb-false _ _ q) (rowAt T (s .row) .op) h) ih
 
 -- What each group's rows keep, and the start of a next group, holds where the launch stops.
-module _ (T : Table) (Z : Sizes) (limit : ℕ) (P : LockState → Type 0) (k : (g : ℕ) → RowsKeep T (shapeOf Z g) P)
+module _ (T : Table) (Z : Sizes) (limit : ℕ) (P : LockState → Type 0) (k : (g : ℕ) → g ≤ Z .groups - 1 → RowsKeep T (shapeOf Z g) P)
     (on : (g : ℕ) (s : LockState) → P s → P (nextStart (shapeOf Z g) s)) where
-  in-last : (j g : ℕ) (s : LockState) (d : GroupRun) → P s → P (groupResult T limit (lastOf d (runsFrom T Z limit j g s)) .state)
+  in-last : (j g : ℕ) (s : LockState) (d : GroupRun) → j + g ≤ Z .groups - 1 → P s → P (groupResult T limit (lastOf d (runsFrom T Z limit j g s)) .state)
   unfolding runsFrom lastOf groupResult
-  in-last zero g s d h = after-run T (shapeOf Z g) P (k g) _ s h
-  in-last (suc j) g s d h = by (isPassed (o .verdict)) (in-last j (suc g) (nextStart (shapeOf Z (suc g)) (o .state)))
+  in-last zero g s d l h = after-run T (shapeOf Z g) P (k g (omega arith)) _ s h
+  in-last (suc j) g s d l h = by (isPassed (o .verdict)) (λ d. in-last j (suc g) (nextStart (shapeOf Z (suc g)) (o .state)) d (omega arith))
     where
       u : GroupRun
       u = record { shape = shapeOf Z g; start = s }
@@ -113,7 +114,7 @@ module _ (T : Table) (Z : Sizes) (limit : ℕ) (P : LockState → Type 0) (k : (
       o = groupResult T limit u
 
       ended : P (o .state)
-      ended = unfold groupResult in (after-run T (shapeOf Z g) P (k g) _ s h)
+      ended = unfold groupResult in (after-run T (shapeOf Z g) P (k g (omega arith)) _ s h)
 
       later : List GroupRun
       later = runsFrom T Z limit j (suc g) (nextStart (shapeOf Z (suc g)) (o .state))
@@ -125,7 +126,7 @@ module _ (T : Table) (Z : Sizes) (limit : ℕ) (P : LockState → Type 0) (k : (
 
   pub in-launch : (cells : List ℕ) → P (initialState Z cells) → P (lockstep T Z cells limit .state)
   unfolding lockstep lastRun groupRuns
-  in-launch cells h = in-last (Z .groups - 1) 0 (initialState Z cells) _ h
+  in-launch cells h = in-last (Z .groups - 1) 0 (initialState Z cells) _ (omega arith) h
 
 -- Every thread of the group that stops has its count of steps.
 steps-kept : (T : Table) (L : Shape) (n : ℕ) → RowsKeep T L (λ s. length (s .steps) ≡ n)
@@ -142,7 +143,7 @@ steps-kept T L n =
 pub launch-steps : (T : Table) (Z : Sizes) (cells : List ℕ) (limit : ℕ) → length (lockstep T Z cells limit .state .steps) ≡ Z .threads
 unfolding initialState nextStart
 launch-steps T Z cells limit =
-    in-launch T Z limit (λ s. length (s .steps) ≡ Z .threads) (λ g. steps-kept T (shapeOf Z g) (Z .threads)) (λ g s h. length-replicate (Z .threads) 0) cells
+    in-launch T Z limit (λ s. length (s .steps) ≡ Z .threads) (λ g l. steps-kept T (shapeOf Z g) (Z .threads)) (λ g s h. length-replicate (Z .threads) 0) cells
     (length-replicate (Z .threads) 0)
 
 pub steps-size : (T : Table) (n : ℕ) (cells : List ℕ) (limit : ℕ) → length (lockstep T (oneGroup n cells) cells limit .state .steps) ≡ n

@@ -205,7 +205,7 @@ module _ (T : Table) (w : WellFormed T) where
 
   kept-run : (Z : Sizes) (cells : List ℕ) (ms : List Move) → RunOf T Z cells ms → (g t : ℕ) → g < Z .groups → t < Z .threads
       → Kept T (threadIn T Z cells ms g t)
-  kept-run Z cells ms r = in-every-run T Z cells (Kept T) (λ cells. Unit {0}) (λ g. keeps-kept (shapeOf Z g)) tt ms r .each
+  kept-run Z cells ms r = in-every-run T Z cells (Kept T) (λ cells. Unit {0}) (λ g l. keeps-kept (shapeOf Z g)) tt ms r .each
 
 -- A count that is not 0 is that of a loop around.
 elsewhere : (T : Table) (x : Thread) (i : ℕ) → Kept T x → (getD (x .loops) i 0 ≡ 0) ⊎ Around T (x .row) i

@@ -16,7 +16,7 @@ use Rattle.spec.specs.LockStep.{LockState, Step, accessTurn, andThen, computeTu
 use Rattle.spec.specs.Mask.{Mask, any, has, membersFrom}
 use Rattle.spec.specs.Op.{CALC, Calc, GLOBAL, MEM, Mem, OWN, Op, Space, value}
 use Rattle.spec.specs.Runs.{Run, after}
-use Rattle.spec.specs.Shape.{Shape, address, bound, reaches, total}
+use Rattle.spec.specs.Shape.{Shape, address, bound, launchNumber, reaches, total}
 use Rattle.spec.specs.Table.{Row, Table, rowAt}
 use Rattle.spec.specs.Threads.{AccessRecord, Effect, Group, Move, Thread, accesses, accessesOf, cellsAfter, effect, effectAt, effectOf, endsBadly, isOutside}
 use Rattle.spec.specs.Threads.{isWaiting, machine, next, noThread, performed, possible, races, reach, recorded, row, strays, threadAfter, threadCount}
@@ -231,7 +231,7 @@ module _ (T : Table) (L : Shape) (t : ℕ) (P : ℕ → Pos) (s : LockState) (g 
           (unfold accessesOf in (groups-entered L (g .ever) (g .barred) (s .groupLog) (h .numbered) (h .groups) p t b k l y))
 
   pub calc-one : (here : Pos) (new : ℕ → Pos) (k : Calc) → rowAt T (P t .row) .op ≡ CALC k → new t ≡ record { row = suc (P t .row); loops = P t .loops }
-      → One T L new here t P g (computeTurn (rowAt T (P t .row)) (λ v a b. value k (L .threads) v (rowAt T (P t .row) .a) (rowAt T (P t .row) .b) a b) s t)
+      → One T L new here t P g (computeTurn (rowAt T (P t .row)) (λ v a b. value k (L .threads) v (launchNumber L v) (rowAt T (P t .row) .a) (rowAt T (P t .row) .b) a b) s t)
   unfolding computeTurn
   calc-one here new k q e =
       subst (λ p. (possible T L g (row t) ≡ true) × Match T L (moved P t p) s₁ (next T L g (row t))) (sym e)
@@ -243,7 +243,7 @@ module _ (T : Table) (L : Shape) (t : ℕ) (P : ℕ → Pos) (s : LockState) (g 
       x = rowAt T (P t .row)
 
       w : ℕ
-      w = value k (L .threads) t (x .a) (x .b) (reg s t (x .a)) (reg s t (x .b))
+      w = value k (L .threads) t (launchNumber L t) (x .a) (x .b) (reg s t (x .a)) (reg s t (x .b))
 
       s₁ : LockState
       s₁ = setReg s t (x .d) w

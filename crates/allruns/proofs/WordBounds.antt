@@ -5,7 +5,7 @@ use mathlib.Core.List.{List, []}
 use mathlib.Core.Bool.{Bool}
 use Prim.Native.Nat.{ℕ, zero, suc, _+_, _-_, _*_, _^_, _<_, _≤_}
 use native.Mathlib.Omega.{arith}
-use native.Mathlib.Nat.{mod-lt, div-le-self}
+use native.Mathlib.Nat.{mod-lt, div-le-self, mul-le-mul-right, suc-mul}
 use lib.Bits.{and-lt, or-lt, xor-lt}
 use lib.Dec.{eqb, ltb}
 use lib.IntN.{ℤ, pos, negsuc}
@@ -17,9 +17,9 @@ use Rattle.spec.specs.Limits.{registers}
 use Rattle.spec.specs.LaunchRun.{lockstep, nextStart}
 use Rattle.spec.specs.LaunchThreads.{Groups, Move, noPart}
 use Rattle.spec.specs.LockStep.{LockState, advance, countSteps, initialState, madeAccess, passBarrier, reg, setReg}
-use Rattle.spec.specs.Op.{Op, Calc, SET, TID, COUNT, ADD, SUB, MUL, AND, OR, XOR, SHR, SAR, EQ, LT, SLT, CALC, Mem, MEM, LOAD, STORE, ATOMICADD, IF, ELSE}
+use Rattle.spec.specs.Op.{Op, Calc, SET, TID, COUNT, LAUNCHTID, ADD, SUB, MUL, AND, OR, XOR, SHR, SAR, EQ, LT, SLT, CALC, Mem, MEM, LOAD, STORE, ATOMICADD, IF, ELSE}
 use Rattle.spec.specs.Op.{ENDIF, WHILE, ENDWHILE, BARRIER, UNKNOWN, value}
-use Rattle.spec.specs.Shape.{Shape, Sizes, address, shapeOf}
+use Rattle.spec.specs.Shape.{Shape, Sizes, address, launchNumber, shapeOf}
 use Rattle.spec.specs.Table.{Table, rowAt, kindOf}
 use Rattle.spec.specs.Threads as own
 use Rattle.spec.specs.Threads.{Thread, cellsAfter, effectOf, goto, noThread, onIf, onWhile, pastBarrier, put, threadAfter}
@@ -45,23 +45,39 @@ unsigned-word : (z : ℤ) → Word (mag z) → Word (unsigned z)
 unsigned-word (pos k) l = l
 unsigned-word (negsuc k) l = omega arith
 
-pub value-word : (c : Calc) (n t a b x y : ℕ) → Word n → Word t → a < 256 → b < 256 → Word x → Word y → Word (value c n t a b x y)
+pub value-word : (c : Calc) (n t u a b x y : ℕ) → Word n → Word t → Word u → a < 256 → b < 256 → Word x → Word y → Word (value c n t u a b x y)
 unfolding value
-value-word SET n t a b x y hn ht ha hb hx hy = omega arith
-value-word TID n t a b x y hn ht ha hb hx hy = ht
-value-word COUNT n t a b x y hn ht ha hb hx hy = hn
-value-word ADD n t a b x y hn ht ha hb hx hy = mod-lt (x + y) (omega arith)
-value-word SUB n t a b x y hn ht ha hb hx hy = mod-lt (x + 2 ^ 32 - y) (omega arith)
-value-word MUL n t a b x y hn ht ha hb hx hy = mod-lt (x * y) (omega arith)
-value-word AND n t a b x y hn ht ha hb hx hy = and-lt 32 x y hx hy
-value-word OR n t a b x y hn ht ha hb hx hy = or-lt 32 x y hx hy
-value-word XOR n t a b x y hn ht ha hb hx hy = xor-lt 32 x y hx hy
-value-word SHR n t a b x y hn ht ha hb hx hy = omega (arith, div-le-self x (2 ^ places y))
-value-word SAR n t a b x y hn ht ha hb hx hy =
+value-word SET n t u a b x y hn ht hu ha hb hx hy = omega arith
+value-word TID n t u a b x y hn ht hu ha hb hx hy = ht
+value-word COUNT n t u a b x y hn ht hu ha hb hx hy = hn
+value-word LAUNCHTID n t u a b x y hn ht hu ha hb hx hy = hu
+value-word ADD n t u a b x y hn ht hu ha hb hx hy = mod-lt (x + y) (omega arith)
+value-word SUB n t u a b x y hn ht hu ha hb hx hy = mod-lt (x + 2 ^ 32 - y) (omega arith)
+value-word MUL n t u a b x y hn ht hu ha hb hx hy = mod-lt (x * y) (omega arith)
+value-word AND n t u a b x y hn ht hu ha hb hx hy = and-lt 32 x y hx hy
+value-word OR n t u a b x y hn ht hu ha hb hx hy = or-lt 32 x y hx hy
+value-word XOR n t u a b x y hn ht hu ha hb hx hy = xor-lt 32 x y hx hy
+value-word SHR n t u a b x y hn ht hu ha hb hx hy = omega (arith, div-le-self x (2 ^ places y))
+value-word SAR n t u a b x y hn ht hu ha hb hx hy =
     unsigned-word (shrZ (signed x) (2 ^ places y)) (omega (arith, mag-shr (signed x) (2 ^ places y), signed-mag x hx))
-value-word EQ n t a b x y hn ht ha hb hx hy = truth-word (eqb x y)
-value-word LT n t a b x y hn ht ha hb hx hy = truth-word (ltb x y)
-value-word SLT n t a b x y hn ht ha hb hx hy = truth-word (ltZ (signed x) (signed y))
+value-word EQ n t u a b x y hn ht hu ha hb hx hy = truth-word (eqb x y)
+value-word LT n t u a b x y hn ht hu ha hb hx hy = truth-word (ltb x y)
+value-word SLT n t u a b x y hn ht hu ha hb hx hy = truth-word (ltZ (signed x) (signed y))
+
+-- What a thread computes, in a launch whose threads are no more than a word counts: its launch number is below that count.
+module _ (L : Shape) (group : L .group < L .groups) (few : Word (L .groups * L .threads)) where
+  group-end : L .group * L .threads + L .threads ≤ L .groups * L .threads
+  group-end = let h = mul-le-mul-right (L .threads) group in let e = suc-mul (L .group) (L .threads) in omega (arith, h, e)
+
+  launch-number-word : (t : ℕ) → t < L .threads → Word (launchNumber L t)
+  unfolding launchNumber
+  launch-number-word t l = omega (arith, group-end, few)
+
+  computed-word : (c : Calc) (t a b x y : ℕ) → t < L .threads → a < 256 → b < 256 → Word x → Word y
+      → Word (value c (L .threads) t (launchNumber L t) a b x y)
+  computed-word c t a b x y l =
+      let n : Word (L .threads) = omega (arith, group-end, few) in
+      value-word c (L .threads) t (launchNumber L t) a b x y n (omega arith) (launch-number-word t l)
 
 -- An access that stores or adds a word.
 abbrev KindWord : Kind → Type 0
@@ -114,7 +130,7 @@ put-words n t s regs cells h p q = (
   record { ofThreads = λ u. set-keeps Words (s .regs) [] t regs u (λ l. p (omega (arith, h .0))) (h .1 .ofThreads u); ofCells = q },
 )
 
-module _ (T : Table) (L : Shape) (bytes : Bytes T) (few : Word (L .threads)) where
+module _ (T : Table) (L : Shape) (bytes : Bytes T) (group : L .group < L .groups) (few : Word (L .groups * L .threads)) where
   sound-rows : RowsKeep T L (Sound (L .threads))
   unfolding setReg reg madeAccess advance countSteps passBarrier
   sound-rows =
@@ -123,7 +139,7 @@ module _ (T : Table) (L : Shape) (bytes : Bytes T) (few : Word (L .threads)) whe
             let b = bytes r l in
             put-words (L .threads) t s _ (s .cells) h
             (λ m i. set-keeps Word (getD (s .regs) t []) 0 _ _ i
-            (λ z. value-word c (L .threads) t _ _ _ _ few (omega arith) (b .0) (b .1) (h .1 .ofThreads t _) (h .1 .ofThreads t _)) (h .1 .ofThreads t i))
+            (λ z. computed-word L group few c t _ _ _ _ (omega arith) (b .0) (b .1) (h .1 .ofThreads t _) (h .1 .ofThreads t _)) (h .1 .ofThreads t i))
             (h .1 .ofCells);
         accesses = λ s r t c p m l h.
             let w = kind-word m _ (h .1 .ofThreads t (rowAt T r .a)) in
@@ -135,11 +151,11 @@ module _ (T : Table) (L : Shape) (bytes : Bytes T) (few : Word (L .threads)) whe
       }
 
 -- Where a launch stops, whatever its verdict.
-pub lockstep-words : (T : Table) (Z : Sizes) (cells : List ℕ) (limit : ℕ) → Word (Z .threads) → Bytes T → Words cells
+pub lockstep-words : (T : Table) (Z : Sizes) (cells : List ℕ) (limit : ℕ) → 0 < Z .groups → Word (Z .groups * Z .threads) → Bytes T → Words cells
     → WordState (lockstep T Z cells limit .state)
 unfolding initialState nextStart
-lockstep-words T Z cells limit few bytes words =
-    in-launch T Z limit (Sound (Z .threads)) (λ g. sound-rows T (shapeOf Z g) bytes few) (λ g s h. zeroed (s .cells) (h .1 .ofCells)) cells (zeroed cells words) .1
+lockstep-words T Z cells limit some few bytes words =
+    in-launch T Z limit (Sound (Z .threads)) (λ g l. sound-rows T (shapeOf Z g) bytes (omega (arith, some)) few) (λ g s h. zeroed (s .cells) (h .1 .ofCells)) cells (zeroed cells words) .1
   where
     none : List ℕ
     none = replicate registers 0
@@ -152,13 +168,13 @@ lockstep-words T Z cells limit few bytes words =
     )
 
 -- The same of the threads' own machine.
-module _ (T : Table) (L : Shape) (bytes : Bytes T) (few : Word (L .threads)) where
+module _ (T : Table) (L : Shape) (bytes : Bytes T) (group : L .group < L .groups) (few : Word (L .groups * L .threads)) where
   words-row : (t : ℕ) (x : Thread) (cells : List ℕ) → t < L .threads → x .row < length T → (o : Op) → Words (x .regs) → Words cells
       → Words (threadAfter x cells (effectOf T L t x (rowAt T (x .row)) o) .regs) × Words (cellsAfter cells (effectOf T L t x (rowAt T (x .row)) o))
   unfolding effectOf threadAfter cellsAfter put goto onIf onWhile own.reg
   words-row t x cells m l (CALC c) h w =
       let b = bytes (x .row) l in
-      (λ i. set-keeps Word (x .regs) 0 _ _ i (λ z. value-word c (L .threads) t _ _ _ _ few (omega arith) (b .0) (b .1) (h _) (h _)) (h i), w)
+      (λ i. set-keeps Word (x .regs) 0 _ _ i (λ z. computed-word L group few c t _ _ _ _ (omega arith) (b .0) (b .1) (h _) (h _)) (h i), w)
   words-row t x cells m l (MEM p o) h w =
       reach-cases (λ e. Words (threadAfter x cells e .regs) × Words (cellsAfter cells e)) L p _ _ _
       (registers-words _ _ _ (x .regs) k (w _) h, cells-words _ _ cells k w) (h, w)
@@ -189,7 +205,7 @@ module _ (T : Table) (L : Shape) (bytes : Bytes T) (few : Word (L .threads)) whe
 abbrev pub WordGroups : Groups → Type 0
 WordGroups S = (g : ℕ) → WordsIn (λ t. getD (getD (S .parts) g noPart .threads) t noThread .regs) (S .cells)
 
-pub runs-words : (T : Table) (Z : Sizes) (cells : List ℕ) → Word (Z .threads) → Bytes T → Words cells → (ms : List Move) → RunOf T Z cells ms
+pub runs-words : (T : Table) (Z : Sizes) (cells : List ℕ) → Word (Z .groups * Z .threads) → Bytes T → Words cells → (ms : List Move) → RunOf T Z cells ms
     → WordGroups (leaves T Z cells ms)
 unfolding noThread noPart
 runs-words T Z cells few bytes words ms r g = record { ofThreads = λ t. by t (lt-or-le g (Z .groups)) (lt-or-le t (Z .threads)); ofCells = h .shared }
@@ -198,7 +214,7 @@ runs-words T Z cells few bytes words ms r g = record { ofThreads = λ t. by t (l
     S = leaves T Z cells ms
 
     h : HoldsIn Z (λ x. Words (x .regs)) Words S
-    h = in-every-run T Z cells (λ x. Words (x .regs)) Words (λ g. keeps-words T (shapeOf Z g) bytes few) words ms r
+    h = in-every-run T Z cells (λ x. Words (x .regs)) Words (λ g l. keeps-words T (shapeOf Z g) bytes l few) words ms r
 
     by : (t : ℕ) → (g < Z .groups) ⊎ (Z .groups ≤ g) → (t < Z .threads) ⊎ (Z .threads ≤ t) → Words (getD (getD (S .parts) g noPart .threads) t noThread .regs)
     by t (inl k) (inl l) = h .each g t k l

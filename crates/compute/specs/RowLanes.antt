@@ -2,15 +2,19 @@
 use mathlib.Core.Path.{_≡_}
 use mathlib.Core.List.{List}
 use mathlib.Core.Bool.{cond}
-use Prim.Native.Nat.{ℕ, _<_}
+use Prim.Native.Nat.{ℕ, _+_, _*_, _<_}
 use lib.Dec.{eqb}
 use lib.ListN.{getD}
 use Rattle.spec.specs.Op.{Calc, CALC, value, opOf}
 use Rattle.layout.specs.Memory.{lane}
 
--- The values of a computing row in all 32 lanes.
+-- The values of an op in all 32 lanes, in this group of the launch.
+pub record CalcLanes (c : Calc) (group n a b : ℕ) (regs v : List ℕ) : Type 0 where
+  pub at : (t : ℕ) → t < 32 → getD v t 0 ≡ value c n t (group * n + t) a b (lane a regs t) (lane b regs t)
+
+-- The values of a computing row by its op's byte, in every group.
 pub record RowLanes (op n a b : ℕ) (regs v : List ℕ) : Type 0 where
-  pub at : (c : Calc) → opOf op ≡ CALC c → (t : ℕ) → t < 32 → getD v t 0 ≡ value c n t a b (lane a regs t) (lane b regs t)
+  pub of : (c : Calc) → opOf op ≡ CALC c → (group : ℕ) → CalcLanes c group n a b regs v
 
 -- A lane that is on is v's, any other is as it was.
 abbrev pub given : (on : ℕ) (v : List ℕ) (d : ℕ) (regs : List ℕ) → ℕ → ℕ

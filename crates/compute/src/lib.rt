@@ -1,8 +1,9 @@
 // A computing row: its values in all 32 lanes, then a store under the mask.
 ghost use mathlib.Core.Path.{_≡_};
-ghost use Prim.Native.Nat.{_/_, _%_, _^_, _<_, _≤_};
+ghost use Prim.Native.Nat.{_+_, _*_, _/_, _%_, _^_, _<_, _≤_};
 ghost use lib.ListN.{length, getD};
-ghost use Rattle.layout.specs.Memory.{ComputeAsks, lane, Puts, Computed};
+ghost use Rattle.spec.specs.Op.{LAUNCHTID};
+ghost use Rattle.layout.specs.Memory.{ComputeAsks, lane, Puts, computedLane, Computed};
 ghost use Rattle.lanes.specs.Lanes.{Filled};
 ghost use Rattle.compute.specs.RowLanes.{picked, RowLanes};
 
@@ -28,6 +29,22 @@ fn threads() -> [u32; 32]
     let mut t = 0;
     while t < 32 {
         v[t] = t as u32;
+        t += 1;
+    }
+    v
+}
+
+// Lane t holds the launch number of the group's thread t.
+fn launch_numbers(group: u32, n: u32) -> [u32; 32]
+    requires { ⌜ (group < 8) × (n ≤ 32) ⌝ }
+    ensures { λ v. ⌜ Filled (λ t. group * n + t) v 32 ⌝ }
+{
+    let mut v: [u32; 32] = [0; 32];
+    let mut t = 0;
+    while t < 32 {
+        let local = threadnumbers::InGroup { number: t as u32 };
+        let whole = threadnumbers::in_launch(group, n, local);
+        v[t] = whole.number;
         t += 1;
     }
     v
@@ -108,4 +125,18 @@ pub fn compute_row(regs: &mut [u32; 512], n: u32, mask: u32, op: u8, d: usize, a
         return;
     }
     put(regs, d, v, bits_of(mask));
+}
+
+// A row of the launch number, whose byte no table has yet. It stores as every computing row does.
+pub fn launch_row(regs: &mut [u32; 512], group: u32, n: u32, mask: u32, d: usize)
+    requires { ⌜ (group < 8) × (n ≤ 32) × (d < 16) × (length (now regs) ≡ 512) ⌝ }
+    ensures { λ _. ⌜ Puts d (computedLane LAUNCHTID group n mask d 0 0 (now (regs .entry))) (now (regs .entry)) (now (regs .exit)) 32 ⌝ }
+{
+    let numbers = launch_numbers(group, n);
+    let full = masks::all(n);
+    if mask == full {
+        put_all(regs, d, numbers);
+        return;
+    }
+    put(regs, d, numbers, bits_of(mask));
 }

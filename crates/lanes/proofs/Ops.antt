@@ -9,9 +9,9 @@ use Rattle.spec.specs.Op.{Calc, ADD, SUB, MUL, AND, OR, XOR, SHR, SAR, EQ, LT, 
 -- Op number k is d, which gives f of its two registers.
 pub record OpIs (k : ℕ) (d : Calc) (f : ℕ → ℕ → ℕ) : Type 0 where
   pub op-is : opOf k ≡ CALC d
-  pub gives : value d ≡ (λ n t a b x y. f x y)
+  pub gives : value d ≡ (λ n t u a b x y. f x y)
 
-entry : {k : ℕ} {d : Calc} {f : ℕ → ℕ → ℕ} → opOf k ≡ CALC d → value d ≡ (λ n t a b x y. f x y) → OpIs k d f
+entry : {k : ℕ} {d : Calc} {f : ℕ → ℕ → ℕ} → opOf k ≡ CALC d → value d ≡ (λ n t u a b x y. f x y) → OpIs k d f
 entry p q = record { op-is = p; gives = q }
 
 pub ops-are : OpIs 4 ADD add × OpIs 5 SUB sub × OpIs 6 MUL mul × OpIs 7 AND bitAnd × OpIs 8 OR bitOr × OpIs 9 XOR bitXor × OpIs 10 SHR shr

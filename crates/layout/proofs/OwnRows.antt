@@ -12,10 +12,10 @@ use Rattle.spec.specs.declared.AccessKind.{AccessKind}
 use Rattle.spec.specs.declared.Verdict.{Verdict}
 use Rattle.spec.specs.declared.Verdict.the-variants.{Race, Outside, Diverged}
 use Rattle.spec.specs.Access.{Kind}
-use Rattle.spec.specs.Op.{CALC, value}
+use Rattle.spec.specs.Op.{Calc, SET, TID, COUNT, LAUNCHTID, ADD, SUB, MUL, AND, OR, XOR, SHR, SAR, EQ, LT, SLT, CALC, value}
 use Rattle.spec.specs.Op.{Op, Space, OWN, GLOBAL, Mem, MEM, IF, ELSE, ENDIF, WHILE, ENDWHILE, BARRIER, UNKNOWN}
 use Rattle.spec.specs.Table.{Table, Row, cellByte, kindOf, endOf}
-use Rattle.spec.specs.Shape.{Shape, total, bound, address, isGlobal, isOwn, reaches}
+use Rattle.spec.specs.Shape.{Shape, launchNumber, total, bound, address, isGlobal, isOwn, reaches}
 use Rattle.spec.specs.Mask.{Mask, members, any, full, lowest, holding}
 use Rattle.spec.specs.Log.{cleared, conflictMask, raceKind}
 use Rattle.spec.specs.LockStep.{Saved, LockState, Step, continues, stops, andThen, inTurn, update, advance, reg, setReg, computeTurn, madeAccess, enterGroup}
@@ -23,11 +23,29 @@ use Rattle.spec.specs.LockStep.{rivals, tryAccess, accessTurn, forEnabled, coun
 use Rattle.spec.specs.LockStep.{whileRow, endwhileRow, passBarrier, barrierRow, runRow}
 use Rattle.layout.specs.Memory.{stateOf}
 use Rattle.layout.specs.Views.{part, putPart, logPart, putLog, viewOf, putView, mapStep, ownFrom, globalFrom, alone, withCleared, Sized}
-use Rattle.layout.specs.Views.{isOwnSpace, isOwnRow}
+use Rattle.layout.specs.Views.{isOwnSpace, isOwnCalc, isOwnRow}
 use Rattle.layout.proofs.Parts.{put-part, LogFits, log-part-fits, log-cleared-fits, log-part-cleared, cleared-like, cleared-nowhere, cleared-put, StateFits}
 use Rattle.layout.proofs.Parts.{view-fits, put-view, view-put, cells-below, cells-above, log-below, log-above, sized-fits, own-before, own-within, global-within}
 use Rattle.layout.proofs.Placed.{placed-conflicts, placed-race, placed-made}
 use Rattle.layout.proofs.RowSizes.{compute-row-fits, alone-turn-fits, alone-fits}
+
+own-value : (c : Calc) → isOwnCalc c ≡ true → (n t u u′ a b x y : ℕ) → value c n t u a b x y ≡ value c n t u′ a b x y
+unfolding isOwnCalc value
+own-value SET e n t u u′ a b x y = refl
+own-value TID e n t u u′ a b x y = refl
+own-value COUNT e n t u u′ a b x y = refl
+own-value LAUNCHTID e n t u u′ a b x y = absurd (true≢false (sym e))
+own-value ADD e n t u u′ a b x y = refl
+own-value SUB e n t u u′ a b x y = refl
+own-value MUL e n t u u′ a b x y = refl
+own-value AND e n t u u′ a b x y = refl
+own-value OR e n t u u′ a b x y = refl
+own-value XOR e n t u u′ a b x y = refl
+own-value SHR e n t u u′ a b x y = refl
+own-value SAR e n t u u′ a b x y = refl
+own-value EQ e n t u u′ a b x y = refl
+own-value LT e n t u u′ a b x y = refl
+own-value SLT e n t u u′ a b x y = refl
 
 -- Turns that do the same in a view of k cells and in the launch, whose state is z but for the view.
 module _ (n k a : ℕ) (z : LockState) where
@@ -210,10 +228,18 @@ module _ (L : Shape) (z : LockState) (S : Sized L z) where
   mem-from x OWN m e y Y = access-from m x y Y
   mem-from x GLOBAL m e y Y = absurd (true≢false (sym e))
 
+  -- Every op but the launch number gives the same whatever the group's number is.
+  calc-from : (x : Row) (c : Calc) → isOwnCalc c ≡ true → (y : LockState) → Own y
+      → forEnabled (computeTurn x (λ t p q. value c (L .threads) t (launchNumber L t) (x .a) (x .b) p q)) (own y)
+      ≡ mapStep own (forEnabled (computeTurn x (λ t p q. value c (L .threads) t (launchNumber (alone (L .threads) (L .cells)) t) (x .a) (x .b) p q)) y)
+  calc-from x c e y Y =
+      ap (λ f. forEnabled (computeTurn x f) (own y)) (λ i t p q. own-value c e (L .threads) t (launchNumber L t) (launchNumber (alone (L .threads) (L .cells)) t) (x .a) (x .b) p q i)
+      ∙ compute-from x (λ t p q. value c (L .threads) t (launchNumber (alone (L .threads) (L .cells)) t) (x .a) (x .b) p q) y Y
+
   pub own-row-from : (T : Table) (x : Row) (o : Op) → isOwnRow o ≡ true → (y : LockState) → Own y
       → runRow T L x (own y) o ≡ mapStep own (runRow T (alone (L .threads) (L .cells)) x y o)
   unfolding isOwnRow runRow
-  own-row-from T x (CALC c) e y Y = compute-from x (λ t p q. value c (L .threads) t (x .a) (x .b) p q) y Y
+  own-row-from T x (CALC c) e y Y = calc-from x c e y Y
   own-row-from T x (MEM p m) e y Y = mem-from x p m e y Y
   own-row-from T x IF e y Y = ap continues (if-back (ownFrom L) z y x)
   own-row-from T x ELSE e y Y = ap continues (else-back (ownFrom L) z y)

@@ -11,7 +11,7 @@ use Rattle.spec.specs.Access.{Kind, load, store, atomicAdd, cellAfter, Mode, re
 use Rattle.spec.specs.declared.Verdict.the-variants.{Outside}
 use Rattle.spec.specs.Op.{Op, CALC, Space, OWN, GLOBAL, Mem, MEM, IF, ELSE, ENDIF, WHILE, ENDWHILE, BARRIER, UNKNOWN, value}
 use Rattle.spec.specs.Table.{Table, Row, cellByte, kindOf, endOf}
-use Rattle.spec.specs.Shape.{Shape, total, bound, address, reaches}
+use Rattle.spec.specs.Shape.{Shape, launchNumber, total, bound, address, reaches}
 use Rattle.spec.specs.Mask.{Mask, members, any, full}
 use Rattle.spec.specs.Log.{Log, cleared, withThread, conflictMask}
 use Rattle.spec.specs.GroupLog.{GroupLog, groupMasksOf, groupLogged}
@@ -102,7 +102,7 @@ module _ (P : List ℕ → Log → GroupLog → Type 0) where
       → (o ≡ BARRIER → (s : LockState) → Holds s → P (s .cells) (cleared (reaches L) (s .log)) (s .groupLog))
       → (s : LockState) → Holds s → Holds (stateOf (runRow T L x s o))
   unfolding runRow ifRow elseRow endifRow whileRow endwhileRow advance countSteps update
-  row-keeps T L x (CALC c) A C s H = enabled-keep _ (compute-keeps x (λ t p q. value c (L .threads) t (x .a) (x .b) p q)) s H
+  row-keeps T L x (CALC c) A C s H = enabled-keep _ (compute-keeps x (λ t p q. value c (L .threads) t (launchNumber L t) (x .a) (x .b) p q)) s H
   row-keeps T L x (MEM p m) A C s H = enabled-keep _ (access-keeps L p m x (A p m refl)) s H
   row-keeps T L x IF A C s H = H
   row-keeps T L x ELSE A C s H = H

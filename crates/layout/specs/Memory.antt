@@ -118,13 +118,13 @@ pub record Puts (d : ℕ) (F : ℕ → ℕ) (regs regs′ : List ℕ) (t : ℕ) 
 unfoldable pub stored : (n mask t : ℕ) → Bool
 stored n mask t = cond (eqb mask (2 ^ n - 1)) true (eqb (mask / 2 ^ t % 2) 1)
 
--- Lane t of register d after it.
-unfoldable pub computedLane : Calc → (n mask d a b : ℕ) → (regs : List ℕ) → ℕ → ℕ
-computedLane c n mask d a b regs t = cond (stored n mask t) (value c n t a b (lane a regs t) (lane b regs t)) (lane d regs t)
+-- Lane t of register d after it, in this group of the launch.
+unfoldable pub computedLane : Calc → (group n mask d a b : ℕ) → (regs : List ℕ) → ℕ → ℕ
+computedLane c group n mask d a b regs t = cond (stored n mask t) (value c n t (group * n + t) a b (lane a regs t) (lane b regs t)) (lane d regs t)
 
--- What a computing row leaves in the registers, word by word.
+-- What a computing row by a byte's op leaves in the registers, word by word. No such op tells the groups apart.
 abbrev pub Computed : (op n mask d a b : ℕ) → (regs regs′ : List ℕ) → Type 0
-Computed op n mask d a b regs regs′ = (c : Calc) → opOf op ≡ CALC c → Puts d (computedLane c n mask d a b regs) regs regs′ 32
+Computed op n mask d a b regs regs′ = (c : Calc) → opOf op ≡ CALC c → (group : ℕ) → Puts d (computedLane c group n mask d a b regs) regs regs′ 32
 
 -- Some state of the lock-step run stands in the buffers.
 pub record InMemory (n : ℕ) (regs cells log : List ℕ) : Type 0 where

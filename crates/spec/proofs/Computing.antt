@@ -9,7 +9,7 @@ use Rattle.spec.specs.Grammar.{bodyRows, constructRows, bodyDepth, const
 use Rattle.spec.specs.TableCheck.{opener, isKnown, elseFits, endifFits, endwhileFits, fits, shallow, divided, openAfter, rowRefusal, leftOpen}
 use Rattle.spec.specs.TableCheck.{rowsRefusal, tableRefusal}
 use Rattle.spec.specs.Mask.{maskWord, has, membersFrom, members, any, full, minus, union, lowest, nonzero, holding}
-use Rattle.spec.specs.Shape.{total, bound, address, isGlobal, isOwn, reaches}
+use Rattle.spec.specs.Shape.{launchNumber, total, bound, address, isGlobal, isOwn, reaches}
 use Rattle.spec.specs.Log.{masksOf, markWord, logKinds, logWords, emptyLog, nobody, cleared, clearedWhere, cellCleared, cellsCleared}
 use Rattle.spec.specs.Log.{withThread, firstValue, unequal, logged, conflicting, testedMask, conflictMask, shownKind, raceKind}
 use Rattle.spec.specs.GroupLog.{groupMasksOf, emptyGroupLog, groupLogged, conflictingGroups, groupConflictMask, groupRaceKind}
@@ -46,7 +46,7 @@ use Rattle.spec.specs.ShiftExamples.{shiftExamples}
 use Rattle.spec.specs.StepExamples.{stepExamples, stepSums}
 use Rattle.spec.specs.ConflictExamples.{conflictExamples, conflictRecords}
 use Rattle.spec.specs.StoreExamples.{storeExamples}
-use Rattle.spec.specs.GroupExamples.{sized, globalLoad, globalStore, globalAdd, growing, groupExamples}
+use Rattle.spec.specs.GroupExamples.{sized, globalLoad, globalStore, globalAdd, launchTid, growing, numbering, groupExamples}
 
 -- Whoever unfolds this unfolds them all.
 unfoldable pub computing : Unit {0}
@@ -58,7 +58,7 @@ unfolding refusalNumber refusalPlace named told toldBy toldIn unless orElse firs
     bodyRows constructRows bodyDepth constructDepth
     opener isKnown elseFits endifFits endwhileFits fits shallow divided openAfter rowRefusal leftOpen rowsRefusal tableRefusal
     maskWord has membersFrom members any full minus union lowest nonzero holding
-    total bound address isGlobal isOwn reaches
+    launchNumber total bound address isGlobal isOwn reaches
     masksOf markWord logKinds logWords emptyLog nobody cleared clearedWhere cellCleared cellsCleared withThread firstValue unequal logged
     conflicting testedMask conflictMask shownKind raceKind
     groupMasksOf emptyGroupLog groupLogged conflictingGroups groupConflictMask groupRaceKind
@@ -84,5 +84,5 @@ unfolding refusalNumber refusalPlace named told toldBy toldIn unless orElse firs
     writtenOf writerAnswer writerBuffer fileLent andState fileChecked launchRun launchIntervals launchOutcome launchReport reportLength fileAnswer ifAccepted fileCellsAfter
     fileLogAfter fileRecordsAfter fileOutputAfter printed checkPrints checkedRefusal subjectOf
     withNewlines lines examples runExamples addExamples shiftExamples stepExamples stepSums conflictExamples conflictRecords storeExamples
-    sized globalLoad globalStore globalAdd growing groupExamples
+    sized globalLoad globalStore globalAdd launchTid growing numbering groupExamples
 computing = tt

@@ -15,7 +15,7 @@ use Rattle.spec.specs.LaunchThreads.{Part, Groups, noPart, hasMet, barre
 use Rattle.spec.specs.Runs.{many}
 use Rattle.spec.specs.LaunchRun.{stepsByLaunch, countedBarriers}
 use Rattle.spec.specs.AllRuns.{CompleteRun, leaves, cellsAtReleases, isMoveOf, isReleaseOf, isRelease, PassedSays}
-use Rattle.spec.specs.GroupExamples.{sized, globalLoad, globalStore, globalAdd}
+use Rattle.spec.specs.GroupExamples.{sized, globalLoad, globalStore, globalAdd, numbering}
 use Rattle.spec.proofs.MachineRuns.{isRun}
 use Rattle.spec.proofs.Computing.{computing}
 
@@ -102,6 +102,13 @@ pub in-any-order : map share (groupOneFirst ∷ allByTurns ∷ groupZeroWaits �
 })
 unfolding computing isRun rows release moved nobody sharing share byTurns groupOneFirst allByTurns groupZeroWaits
 in-any-order = refl
+
+-- A thread's number in its group and its number in the launch, by threads that come to their ends last to first, and by all four by turns.
+pub both-numbers : map (λ mss. fate (moved numbering (sized 2 2 3 4) (replicate 10 9) mss))
+    ((rows 1 1 4 ∷ rows 1 0 4 ∷ rows 0 1 4 ∷ rows 0 0 4 ∷ []) ∷ (byTurns 4 ∷ []) ∷ [])
+    ≡ replicate 2 (true ∷ true ∷ false ∷ [], 0 ∷ 1 ∷ 9 ∷ 2 ∷ 3 ∷ 9 ∷ 0 ∷ 1 ∷ 0 ∷ 1 ∷ [])
+unfolding computing isRun rows release moved fate byTurns
+both-numbers = refl
 
 -- Who may move: at the start both groups' threads; where group 1 waits, its release and group 0's threads; behind that release all of them; where
 -- group 1 is at its end, group 0's threads. There is no thread 2 and no group 2.

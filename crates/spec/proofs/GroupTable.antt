@@ -8,7 +8,7 @@ use lib.ListN.{replicate}
 use Rattle.spec.specs.Answers.{Verdict, GroupRace, ReadWrite, WriteRead, WriteWrite, ReadAdd, AddRead, WriteAdd, AddWrite}
 use Rattle.spec.specs.Access.{load, store, atomicAdd, reads, writes, adds}
 use Rattle.spec.specs.Table.{Table, Row, rowOf}
-use Rattle.spec.specs.Shape.{shapeOf}
+use Rattle.spec.specs.Shape.{shapeOf, launchNumber}
 use Rattle.spec.specs.Mask.{maskWord}
 use Rattle.spec.specs.Log.{logKinds, shownKind}
 use Rattle.spec.specs.GroupLog.{GroupLog, groupMasksOf, emptyGroupLog, groupLogged, conflictingGroups, groupConflictMask, groupRaceKind}
@@ -47,6 +47,12 @@ ending x =
 pub worked-groups : map ending groupExamples ≡ map (λ x. x .ends) groupExamples
 unfolding computing maskWords ending
 worked-groups = refl
+
+-- Three groups of four threads: the launch numbers of threads 0, 1 and 3 of each.
+pub launch-numbers : map (λ g. map (launchNumber (shapeOf (sized 3 4 5 7) g)) (0 ∷ 1 ∷ 3 ∷ [])) (0 ∷ 1 ∷ 2 ∷ []) ≡
+    (0 ∷ 1 ∷ 3 ∷ []) ∷ (4 ∷ 5 ∷ 7 ∷ []) ∷ (8 ∷ 9 ∷ 11 ∷ []) ∷ []
+unfolding computing
+launch-numbers = refl
 
 -- Two groups of one thread: by own cell 0, group 0 makes the accesses `earlier` of the global cell and group 1 then the access `later`.
 unfoldable pub behindGroup0 : (earlier : Table) → (later : Row) → Table

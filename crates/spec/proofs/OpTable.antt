@@ -4,7 +4,7 @@ use mathlib.Core.List.{List, [], _∷_, _++_, map}
 use Prim.Native.Nat.{ℕ, zero, suc}
 use lib.ListN.{length, replicate}
 use Rattle.spec.specs.Op.{CALC, OWN, GLOBAL, MEM, IF, ELSE, ENDIF, WHILE, ENDWHILE, BARRIER, UNKNOWN, opOf}
-use Rattle.spec.specs.Op.{SET, TID, COUNT, ADD, SUB, MUL, AND, OR, XOR, SHR, SAR, EQ, LT, SLT, LOAD, STORE, ATOMICADD}
+use Rattle.spec.specs.Op.{SET, TID, COUNT, LAUNCHTID, ADD, SUB, MUL, AND, OR, XOR, SHR, SAR, EQ, LT, SLT, LOAD, STORE, ATOMICADD}
 use Rattle.spec.specs.Op.{setForm, dForm, dabForm, daForm, aForm, noForm, unknownForm, opTable, form, formOf}
 use Rattle.spec.proofs.Computing.{computing}
 
@@ -32,6 +32,11 @@ pub ops : map opOf (bytesFrom 0 257) ≡
     ++ (IF ∷ ELSE ∷ ENDIF ∷ WHILE ∷ ENDWHILE ∷ BARRIER ∷ replicate 219 UNKNOWN)
 unfolding computing bytesFrom
 ops = refl
+
+-- No byte is the launch number yet, and it has the form of TID.
+pub form-of-launch-number : form (CALC LAUNCHTID) ≡ dForm
+unfolding computing
+form-of-launch-number = refl
 
 -- Accesses have one form, wherever their cells are.
 pub forms-of-accesses :

@@ -80,6 +80,6 @@ unfolding computing
 parts-of-a-row = refl
 
 -- Ra stands on the left; SET's a is the low byte.
-pub sides : value SUB 7 5 3 2 100 4 ∷ value SHR 7 5 3 2 100 4 ∷ value LT 7 5 3 2 100 4 ∷ value SET 7 5 255 1 100 4 ∷ [] ≡ 96 ∷ 6 ∷ 0 ∷ 511 ∷ []
+pub sides : value SUB 7 5 19 3 2 100 4 ∷ value SHR 7 5 19 3 2 100 4 ∷ value LT 7 5 19 3 2 100 4 ∷ value SET 7 5 19 255 1 100 4 ∷ [] ≡ 96 ∷ 6 ∷ 0 ∷ 511 ∷ []
 unfolding computing
 sides = refl

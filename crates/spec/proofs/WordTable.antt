@@ -2,7 +2,7 @@
 use mathlib.Core.Path.{_≡_, refl}
 use mathlib.Core.List.{List, [], _∷_, map}
 use Prim.Native.Nat.{ℕ}
-use Rattle.spec.specs.Op.{Calc, SET, TID, COUNT, ADD, SUB, MUL, AND, OR, XOR, SHR, SAR, EQ, LT, SLT, value}
+use Rattle.spec.specs.Op.{Calc, SET, TID, COUNT, LAUNCHTID, ADD, SUB, MUL, AND, OR, XOR, SHR, SAR, EQ, LT, SLT, value}
 use Rattle.spec.proofs.Computing.{computing}
 
 -- 0, 1, 2 ^ 31 - 1, 2 ^ 31, 2 ^ 32 - 1.
@@ -13,9 +13,9 @@ edges = 0 ∷ 1 ∷ 2147483647 ∷ 2147483648 ∷ 4294967295 ∷ []
 unfoldable pub amounts : List ℕ
 amounts = 0 ∷ 1 ∷ 31 ∷ 32 ∷ 33 ∷ 63 ∷ 64 ∷ 2147483648 ∷ 4294967295 ∷ []
 
--- The op at every x of the edges and every y of `ys`, in a launch of 7 threads, by thread 5, in a row whose bytes a and b are 3 and 2.
+-- The op at every x of the edges and every y of `ys`, in groups of 7 threads, by thread 5 of group 2, whose launch number is 19, in a row whose bytes a and b are 3 and 2.
 unfoldable pub tabulated : List ℕ → Calc → List (List ℕ)
-tabulated ys c = map (λ x. map (λ y. value c 7 5 3 2 x y) ys) edges
+tabulated ys c = map (λ x. map (λ y. value c 7 5 19 3 2 x y) ys) edges
 
 pub add-table : tabulated edges ADD ≡
     (0 ∷ 1 ∷ 2147483647 ∷ 2147483648 ∷ 4294967295 ∷ [])
@@ -132,7 +132,7 @@ unfoldable pub between : List ℕ
 between = 2 ∷ 3 ∷ 4 ∷ 7 ∷ 8 ∷ 15 ∷ 16 ∷ 17 ∷ 28 ∷ 30 ∷ []
 
 unfoldable pub shifted : Calc → List (List ℕ)
-shifted c = map (λ x. map (λ y. value c 7 5 3 2 x y) between) (2596069104 ∷ 305419896 ∷ [])
+shifted c = map (λ x. map (λ y. value c 7 5 19 3 2 x y) between) (2596069104 ∷ 305419896 ∷ [])
 
 pub shr-between : shifted SHR ≡
     (649017276 ∷ 324508638 ∷ 162254319 ∷ 20281789 ∷ 10140894 ∷ 79225 ∷ 39612 ∷ 19806 ∷ 9 ∷ 2 ∷ [])
@@ -150,7 +150,7 @@ sar-between = refl
 
 -- Every op of two words that are no edges, 0x9ABCDEF0 and 0x12345678, both ways round.
 pub both-ways :
-    map (λ c. value c 7 5 3 2 2596069104 305419896 ∷ value c 7 5 3 2 305419896 2596069104 ∷ []) (ADD ∷ SUB ∷ MUL ∷ AND ∷ OR ∷ XOR ∷ EQ ∷ LT ∷ SLT ∷ []) ≡
+    map (λ c. value c 7 5 19 3 2 2596069104 305419896 ∷ value c 7 5 19 3 2 305419896 2596069104 ∷ []) (ADD ∷ SUB ∷ MUL ∷ AND ∷ OR ∷ XOR ∷ EQ ∷ LT ∷ SLT ∷ []) ≡
     (2901489000 ∷ 2901489000 ∷ [])
     ∷ (2290649208 ∷ 2004318088 ∷ [])
     ∷ (606937216 ∷ 606937216 ∷ [])
@@ -164,7 +164,7 @@ pub both-ways :
 unfolding computing
 both-ways = refl
 
--- SET, TID and COUNT read no register.
-pub plain-values : (x y : ℕ) → map (λ c. value c 7 5 3 2 x y) (SET ∷ TID ∷ COUNT ∷ []) ≡ 515 ∷ 5 ∷ 7 ∷ []
+-- SET, TID, COUNT and LAUNCHTID read no register.
+pub plain-values : (x y : ℕ) → map (λ c. value c 7 5 19 3 2 x y) (SET ∷ TID ∷ COUNT ∷ LAUNCHTID ∷ []) ≡ 515 ∷ 5 ∷ 7 ∷ 19 ∷ []
 unfolding computing
 plain-values x y = refl

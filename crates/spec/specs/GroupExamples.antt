@@ -4,7 +4,7 @@ use mathlib.Core.List.{List, [], _∷_, _++_}
 use Prim.Native.Nat.{ℕ}
 use lib.ListN.{replicate}
 use Rattle.spec.specs.Answers.{Verdict, Passed, Race, GroupRace, Outside, Diverged, Spent, ReadWrite, WriteRead, WriteWrite}
-use Rattle.spec.specs.Op.{GLOBAL, MEM, LOAD, STORE, ATOMICADD}
+use Rattle.spec.specs.Op.{LAUNCHTID, CALC, GLOBAL, MEM, LOAD, STORE, ATOMICADD}
 use Rattle.spec.specs.Table.{Table, Row, rowOf}
 use Rattle.spec.specs.Shape.{Sizes}
 
@@ -43,9 +43,17 @@ globalStore d a = record { op = MEM GLOBAL STORE; d = d; a = a; b = 0 }
 unfoldable pub globalAdd : (d a : ℕ) → Row
 globalAdd d a = record { op = MEM GLOBAL ATOMICADD; d = d; a = a; b = 0 }
 
+-- Rd = the launch number.
+unfoldable pub launchTid : (d : ℕ) → Row
+launchTid d = record { op = CALC LAUNCHTID; d = d; a = 0; b = 0 }
+
 -- SET R1 = 2, and global cell 0 grows by it.
 unfoldable pub growing : Table
 growing = rowOf 1 1 2 0 ∷ globalAdd 0 1 ∷ []
+
+-- R0 = TID and R1 = launch number; own cell R0 = R1, and global cell R1 = R0.
+unfoldable pub numbering : Table
+numbering = rowOf 2 0 0 0 ∷ launchTid 1 ∷ rowOf 17 0 1 0 ∷ globalStore 1 0 ∷ []
 
 unfoldable pub groupExamples : List GroupLaunch
 groupExamples =
@@ -447,6 +455,32 @@ groupExamples =
         log = replicate 8 0 ∷ (1 ∷ 2 ∷ 1 ∷ 2 ∷ 1 ∷ 2 ∷ 1 ∷ 2 ∷ []) ∷ replicate 8 0 ∷ (0 ∷ 0 ∷ 2 ∷ 2 ∷ 0 ∷ 0 ∷ 2 ∷ 2 ∷ []) ∷ replicate 8 0 ∷ [];
         groupMasks = replicate 3 (replicate 8 0);
         records = 0 ∷ 6 ∷ 0 ∷ 0 ∷ 6 ∷ 0 ∷ [];
+      };
+    }
+    -- two groups of two threads: numbers 0 and 1 in either group are launch numbers 0 and 1, 2 and 3. No two threads store to one global cell, and group 1's
+    -- start clears the log of those that group 0 stored to
+    ∷ record {
+      table = numbering;
+      sizes = sized 2 2 3 4;
+      cells = replicate 10 9;
+      limit = 100;
+      ends = record {
+        verdict = Passed;
+        group = 1;
+        row = 4;
+        rows = 8;
+        barriers = 0;
+        steps = 4 ∷ 4 ∷ 4 ∷ 4 ∷ [];
+        cells = 0 ∷ 1 ∷ 9 ∷ 2 ∷ 3 ∷ 9 ∷ 0 ∷ 1 ∷ 0 ∷ 1 ∷ [];
+        log =
+            replicate 10 0
+            ∷ (1 ∷ 2 ∷ 0 ∷ 1 ∷ 2 ∷ 0 ∷ 0 ∷ 0 ∷ 1 ∷ 2 ∷ [])
+            ∷ replicate 10 0
+            ∷ (0 ∷ 1 ∷ 0 ∷ 2 ∷ 3 ∷ 0 ∷ 0 ∷ 0 ∷ 0 ∷ 1 ∷ [])
+            ∷ replicate 10 0
+            ∷ [];
+        groupMasks = replicate 10 0 ∷ (0 ∷ 0 ∷ 0 ∷ 0 ∷ 0 ∷ 0 ∷ 1 ∷ 1 ∷ 2 ∷ 2 ∷ []) ∷ replicate 10 0 ∷ [];
+        records = 0 ∷ 4 ∷ 0 ∷ 0 ∷ 4 ∷ 0 ∷ [];
       };
     }
     -- thread t loops as often as its number and own cell 0 say together: 0 and 1 times in group 0, 2 and 3 times in group 1. Steps go by launch number

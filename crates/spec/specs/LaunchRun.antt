@@ -59,7 +59,7 @@ lastRun T Z cells limit = lastOf (record { shape = shapeOf Z 0; start = initialS
 unfoldable pub lockstep : Table → Sizes → (cells : List ℕ) → (limit : ℕ) → LockResult
 lockstep T Z cells limit = groupResult T limit (lastRun T Z cells limit)
 
--- The steps of each thread, by its launch number: group × threads + number in group. Threads of groups that have not started have 0.
+-- The steps of each thread, by its launch number (`Shape.launchNumber`): group after group, each by number in group. Threads of groups that have not started have 0.
 unfoldable pub stepsByLaunch : Table → Sizes → (cells : List ℕ) → (limit : ℕ) → List ℕ
 stepsByLaunch T Z cells limit =
     let us = groupRuns T Z cells limit in

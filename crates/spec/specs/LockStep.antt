@@ -9,7 +9,7 @@ use Rattle.spec.specs.Answers.{Verdict, Passed, Race, GroupRace, Outside
 use Rattle.spec.specs.Access.{Kind, cellAfter, registersAfter}
 use Rattle.spec.specs.Op.{Op, CALC, Space, OWN, GLOBAL, Mem, MEM, IF, ELSE, ENDIF, WHILE, ENDWHILE, BARRIER, UNKNOWN, value}
 use Rattle.spec.specs.Table.{Table, Row, rowAt, cellByte, kindOf, endOf}
-use Rattle.spec.specs.Shape.{Sizes, Shape, bound, address, reaches}
+use Rattle.spec.specs.Shape.{Sizes, Shape, launchNumber, bound, address, reaches}
 use Rattle.spec.specs.Mask.{Mask, members, any, full, minus, lowest, holding}
 use Rattle.spec.specs.Log.{Log, emptyLog, cleared, logged, conflictMask, raceKind}
 use Rattle.spec.specs.GroupLog.{GroupLog, emptyGroupLog, groupLogged, groupConflictMask, groupRaceKind}
@@ -231,7 +231,7 @@ barrierRow L s =
 
 -- One row, by its op. UNKNOWN is never come to in a table that is accepted.
 unfoldable pub runRow : Table → Shape → Row → LockState → Op → Step
-runRow T L x s (CALC c) = forEnabled (computeTurn x (λ t p q. value c (L .threads) t (x .a) (x .b) p q)) s
+runRow T L x s (CALC c) = forEnabled (computeTurn x (λ t p q. value c (L .threads) t (launchNumber L t) (x .a) (x .b) p q)) s
 runRow T L x s (MEM p m) = forEnabled (accessTurn L p m x) s
 runRow T L x s IF = continues (ifRow x s)
 runRow T L x s ELSE = continues (elseRow s)

@@ -8,9 +8,9 @@ use lib.ListN.{getD, replicate}
 use Rattle.spec.specs.Limits.{registers}
 use Rattle.spec.specs.Word.{add, sub, mul, shr, sar, equal, less, signedLess}
 
--- Ops that compute a register.
+-- Ops that compute a register. TID is a thread's number in its group, LAUNCHTID (item 7) its number in the launch; no byte is LAUNCHTID yet.
 pub data Calc : Type 0 where
-  SET TID COUNT ADD SUB MUL AND OR XOR SHR SAR EQ LT SLT : Calc
+  SET TID COUNT LAUNCHTID ADD SUB MUL AND OR XOR SHR SAR EQ LT SLT : Calc
 
 -- Where an access has its cell: among those of its group, or among the global ones. Item 7.
 pub data Space : Type 0 where
@@ -45,6 +45,7 @@ unfoldable pub form : Op → Form
 form (CALC SET) = setForm
 form (CALC TID) = dForm
 form (CALC COUNT) = dForm
+form (CALC LAUNCHTID) = dForm
 form (CALC ADD) = dabForm
 form (CALC SUB) = dabForm
 form (CALC MUL) = dabForm
@@ -85,19 +86,20 @@ operandsFit aForm d a b = isUnused d && isRegister a && isUnused b
 operandsFit noForm d a b = isUnused d && isUnused a && isUnused b
 operandsFit unknownForm d a b = true
 
--- What a computing row gives: n threads, thread t, the row's bytes a and b, and x and y for Ra and Rb.
-unfoldable pub value : Calc → (n t a b x y : ℕ) → ℕ
-value SET n t a b x y = a + 256 * b
-value TID n t a b x y = t
-value COUNT n t a b x y = n
-value ADD n t a b x y = add x y
-value SUB n t a b x y = sub x y
-value MUL n t a b x y = mul x y
-value AND n t a b x y = bitAnd x y
-value OR n t a b x y = bitOr x y
-value XOR n t a b x y = bitXor x y
-value SHR n t a b x y = shr x y
-value SAR n t a b x y = sar x y
-value EQ n t a b x y = equal x y
-value LT n t a b x y = less x y
-value SLT n t a b x y = signedLess x y
+-- What a computing row gives: n threads in the group, thread t of it, whose launch number is u, the row's bytes a and b, and x and y for Ra and Rb.
+unfoldable pub value : Calc → (n t u a b x y : ℕ) → ℕ
+value SET n t u a b x y = a + 256 * b
+value TID n t u a b x y = t
+value COUNT n t u a b x y = n
+value LAUNCHTID n t u a b x y = u
+value ADD n t u a b x y = add x y
+value SUB n t u a b x y = sub x y
+value MUL n t u a b x y = mul x y
+value AND n t u a b x y = bitAnd x y
+value OR n t u a b x y = bitOr x y
+value XOR n t u a b x y = bitXor x y
+value SHR n t u a b x y = shr x y
+value SAR n t u a b x y = sar x y
+value EQ n t u a b x y = equal x y
+value LT n t u a b x y = less x y
+value SLT n t u a b x y = signedLess x y

@@ -29,6 +29,10 @@ pub record Shape : Type 0 where
 abbrev pub shapeOf : Sizes → (group : ℕ) → Shape
 shapeOf Z group = record { threads = Z .threads; cells = Z .cells; groups = Z .groups; global = Z .global; group = group }
 
+-- A thread's number in its group is t; its number in the launch is another.
+unfoldable pub launchNumber : Shape → (t : ℕ) → ℕ
+launchNumber L t = L .group * L .threads + t
+
 -- All cells of a launch stand in one list: the own cells of group 0, those of group 1 and so on, then the global ones.
 unfoldable pub total : Shape → ℕ
 total L = L .groups * L .cells + L .global

@@ -11,7 +11,7 @@ use Rattle.spec.specs.Access.{Kind, Access, cellAfter, registersAfter, c
 use Rattle.spec.specs.Lists.{anyOf, every, equalList}
 use Rattle.spec.specs.Op.{Op, CALC, Space, MEM, IF, ELSE, ENDIF, WHILE, ENDWHILE, BARRIER, UNKNOWN, value}
 use Rattle.spec.specs.Table.{Table, Row, rowAt, cellByte, kindOf, endOf, elseOf, startOf}
-use Rattle.spec.specs.Shape.{Shape, bound, address}
+use Rattle.spec.specs.Shape.{Shape, launchNumber, bound, address}
 use Rattle.spec.specs.Runs.{Machine}
 
 -- `loops` has a number for each row of the table. At a WHILE around the thread, or at the thread's own row, it is how often that WHILE was found true
@@ -55,7 +55,7 @@ onWhile T th (suc v) = record { row = suc (th .row); regs = th .regs; loops = se
 
 -- The row's effect, by its op. ELSE goes to ENDIF; ENDIF to the next row; ENDWHILE to its WHILE. UNKNOWN is never come to in a table that is accepted.
 unfoldable pub effectOf : Table → Shape → ℕ → Thread → Row → Op → Effect
-effectOf T L t th x (CALC c) = goes (put th (x .d) (value c (L .threads) t (x .a) (x .b) (reg th (x .a)) (reg th (x .b))))
+effectOf T L t th x (CALC c) = goes (put th (x .d) (value c (L .threads) t (launchNumber L t) (x .a) (x .b) (reg th (x .a)) (reg th (x .b))))
 effectOf T L t th x (MEM p m) = reach L p (reg th (cellByte m x)) (kindOf m (reg th (x .a))) (x .d)
 effectOf T L t th x IF = goes (onIf T th (reg th (x .a)))
 effectOf T L t th x ELSE = goes (goto th (endOf T (th .row)))

@@ -1,11 +1,11 @@
 -- Computing and access rows, as the definition's rows. Assumes nothing.
 use mathlib.Core.Path.{_≡_, sym, _∙_, ap, subst}
 use mathlib.Core.List.{List}
-use Prim.Native.Nat.{ℕ}
+use Prim.Native.Nat.{ℕ, _+_, _*_}
 use lib.ListN.{length}
 use Rattle.spec.specs.Op.{Calc, CALC, Space, Mem, MEM, value}
 use Rattle.spec.specs.Table.{Table, Row}
-use Rattle.spec.specs.Shape.{Shape}
+use Rattle.spec.specs.Shape.{Shape, launchNumber}
 use Rattle.spec.specs.Mask.{members}
 use Rattle.spec.specs.LockStep.{LockState, Step, inTurn, computeTurn, accessTurn, forEnabled, runRow}
 use Rattle.layout.specs.declared.Access.{Access}
@@ -27,11 +27,11 @@ module _ (n : ℕ) (z : LockState) (s : State) (regs cells log saved openers : L
       subst (λ o. After n o r regs′ cells′ log′ saved openers) (sym q) (plain-after n z s regs cells log saved openers R f a r regs′ cells′ log′ D E e)
 
   pub compute-after : (c : Calc) (r : State) (regs′ : List ℕ) → x .op ≡ CALC c
-      → Did n z (inTurn (computeTurn x (λ t p q. value c n t (x .a) (x .b) p q)) (members (z .enabled)) z) Done regs′ cells log → r ≡ movedOn s
+      → Did n z (inTurn (computeTurn x (λ t p q. value c n t (0 * n + t) (x .a) (x .b) p q)) (members (z .enabled)) z) Done regs′ cells log → r ≡ movedOn s
       → After n (runRow T (shapeBy n cells) x z (x .op)) (next.Go r) regs′ cells log saved openers
-  unfolding runRow
+  unfolding runRow launchNumber
   compute-after c r regs′ q D e =
-      row-after (shapeBy n cells) (computeTurn x (λ t p q. value c n t (x .a) (x .b) p q)) Done (next.Go r) regs′ cells log
+      row-after (shapeBy n cells) (computeTurn x (λ t p q. value c n t (0 * n + t) (x .a) (x .b) p q)) Done (next.Go r) regs′ cells log
       (ap (runRow T (shapeBy n cells) x z) q) D (R .reach-is) (ap next.Go e)
 
   pub access-after : (L : Shape) (p : Space) (m : Mem) (a : Access) (r : Next) (regs′ cells′ log′ : List ℕ) → x .op ≡ MEM p m

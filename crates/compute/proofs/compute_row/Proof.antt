@@ -9,14 +9,14 @@ returns c =
     let all-enabled = c .before .before .if1 .taken in
     let all = c .before .before .before .all in
     let value-lanes = c .before .before .before .before .value-lanes in
-    all-stored (value-lanes .ensures) all-enabled (all .ensures) (c .put-all .ensures)
+    λ k o group. all-stored (value-lanes .ensures .of k o group) all-enabled (all .ensures) (c .put-all .ensures)
 
 returns-2 : tie.Need-returns-2
 returns-2 c =
     let some-away = c .before .before .before .if1 .left in
     let all = c .before .before .before .before .all in
     let value-lanes = c .before .before .before .before .before .value-lanes in
-    some-stored (value-lanes .ensures) some-away (all .ensures) (c .before .bits-of .ensures) (c .put .ensures)
+    λ k o group. some-stored (value-lanes .ensures .of k o group) some-away (all .ensures) (c .before .bits-of .ensures) (c .put .ensures)
 
 pub compute-row-spec : {M : Type 1} → statement M
 compute-row-spec =

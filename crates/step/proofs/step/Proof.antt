@@ -73,11 +73,10 @@ returns c =
             let x = rowAt (rowsOf table) (z .row) in
             compute-after (args .n) z (args .s) regs cells log saved openers R (rowsOf table) x (op .0)
             (c .moved .result) (compute-row .last .0) (ap (λ y. y .op) E ∙ op .1)
-            (compute-did code (args .n) (args .s .mask) (d .result) (a .result) (b .result) regs
-            (compute-asks _ _ _ _ _ _ _ (d .ensures .0) (a .ensures .0) (b .ensures .0) asks) (R .memory .regs-are .size) (op .0) (op .1) x
-            (ap (λ y. y .d) E ∙ sym (d .ensures .0))
-            (ap (λ y. y .a) E ∙ sym (a .ensures .0)) (ap (λ y. y .b) E ∙ sym (b .ensures .0)) cells log z (R .enabled-is) (R .enabled-size) (R .memory)
-            (compute-row .last .0) (compute-row .ensures))
+            (compute-did (args .n) (args .s .mask) (d .result) regs (R .memory .regs-are .size) x (ap (λ y. y .d) E ∙ sym (d .ensures .0)) cells log z
+            (R .enabled-is) (R .enabled-size) (R .memory) (compute-row .last .0) 0 code (a .result) (b .result)
+            (compute-asks _ _ _ _ _ _ _ (d .ensures .0) (a .ensures .0) (b .ensures .0) asks) (op .0) (op .1)
+            (ap (λ y. y .a) E ∙ sym (a .ensures .0)) (ap (λ y. y .b) E ∙ sym (b .ensures .0)) (compute-row .ensures))
             (c .moved .ensures);
         regs-are = regs-computed code (args .n) (args .s .mask) _ _ _ regs (d .result) (a .result) (b .result) (compute-row .last .0) computes
             (d .ensures .0) (a .ensures .0) (b .ensures .0) (compute-row .ensures);
