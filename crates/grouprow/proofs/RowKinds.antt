@@ -18,7 +18,7 @@ use Rattle.layout.specs.declared.Access.{Access}
 use Rattle.layout.specs.declared.Access.the-variants.{Done, Stop}
 use Rattle.layout.specs.Represents.{Represents, After, Counts, movedOn, accessed}
 use Rattle.layout.specs.Running.{Steps}
-use Rattle.layout.specs.Views.{viewOf, ownFrom, alone, isOwnSpace, isOwnRow}
+use Rattle.layout.specs.Views.{viewOf, ownFrom, alone, isOwnCalc, isOwnSpace, isOwnRow}
 use Rattle.layout.specs.Groups.{GroupStands, GroupAfter, SharedAfter}
 use Rattle.layout.specs.Counting.{StepsOn}
 use Rattle.layout.proofs.Parts.{part-size, own-within}
@@ -30,7 +30,7 @@ use Rattle.grouprow.specs.Rows.{GlobalRowAsks, GlobalDone}
 
 -- Bytes 0 to 18 and 32 to 36 are rows of a group alone: one computed test for each stretch.
 own-low : allBelow (λ k. isOwnRow (opOf k)) 19 ≡ true
-unfolding opOf opTable isOwnRow isOwnSpace
+unfolding opOf opTable isOwnRow isOwnCalc isOwnSpace
 own-low = refl
 
 own-high : allBelow (λ j. isOwnRow (opOf (32 + j))) 5 ≡ true
