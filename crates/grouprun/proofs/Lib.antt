@@ -1,4 +1,4 @@
 mod RowBytes
-mod Recording
+pub mod Recording
 mod Starting
 mod Going

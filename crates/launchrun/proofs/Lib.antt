@@ -1,1 +1,4 @@
 mod Stretches
+mod Between
+mod Launching
+mod LaunchStart

@@ -39,7 +39,7 @@ drop-zeros zero k = ap (λ (i : ℕ). replicate {A = ℕ} i 0) (let z : k ≡ k 
 drop-zeros (suc j) zero = ap (λ (i : ℕ). replicate {A = ℕ} i 0) (let z : 0 ≡ 0 - suc j = omega arith in z)
 drop-zeros (suc j) (suc k) = drop-zeros j k ∙ ap (λ (i : ℕ). replicate {A = ℕ} i 0) (let z : k - j ≡ suc k - suc j = omega arith in z)
 
-over-zeros : (xs : List ℕ) (k : ℕ) → over xs (replicate k 0) ≡ xs ++ replicate (k - length xs) 0
+pub over-zeros : (xs : List ℕ) (k : ℕ) → over xs (replicate k 0) ≡ xs ++ replicate (k - length xs) 0
 unfolding over
 over-zeros xs k = ap (λ (l : List ℕ). xs ++ l) (drop-zeros (length xs) k)
 
