@@ -142,7 +142,7 @@ module _ (c : Calc) (group n mask d a b : ℕ) (regs : List ℕ) (target : d < 1
         (puts-agree d n new new regs regs′ (after n) (M .few) P (after-puts n (M .few)) (λ t h. refl))
         row-did
 
--- A row by a byte's op, in any group; and a row of the launch number.
+-- A row by a byte's op, in any group; and a row of the launch number, which reads neither byte a nor b.
 module _ (n mask d : ℕ) (regs : List ℕ) (size : length regs ≡ 512) (x : Row) (ed : x .d ≡ d) (cells log : List ℕ) (s : LockState)
     (em : mask ≡ maskWord (s .enabled)) (el : length (s .enabled) ≡ n) (M : Memory n s regs cells log) (regs′ : List ℕ) (group : ℕ) where
   pub compute-did : (op a b : ℕ) → ComputeAsks op d a b → (c : Calc) → opOf op ≡ CALC c → x .a ≡ a → x .b ≡ b → Computed op n mask d a b regs regs′
@@ -151,8 +151,8 @@ module _ (n mask d : ℕ) (regs : List ℕ) (size : length regs ≡ 512) (x : Ro
   compute-did op a b A c o ea eb C =
       calc-did c group n mask d a b regs (A .target) (reads-there op d a b n c o A) size x ed ea eb cells log s em el M regs′ (C c o group)
 
-  pub launch-did : d < 16 → x .a ≡ 0 → x .b ≡ 0 → Puts d (computedLane LAUNCHTID group n mask d 0 0 regs) regs regs′ 32
+  pub launch-did : d < 16 → Puts d (computedLane LAUNCHTID group n mask d 0 0 regs) regs regs′ 32
       → Did n s (inTurn (computeTurn x (λ t p q. value LAUNCHTID n t (group * n + t) (x .a) (x .b) p q)) (members (s .enabled)) s) Done regs′ cells log
-  unfolding turn
-  launch-did target ea eb P =
-      calc-did LAUNCHTID group n mask d 0 0 regs target (launch-reads n 0 0) size x ed ea eb cells log s em el M regs′ P
+  unfolding turn computedLane value
+  launch-did target P =
+      calc-did LAUNCHTID group n mask d (x .a) (x .b) regs target (launch-reads n (x .a) (x .b)) size x ed refl refl cells log s em el M regs′ P

@@ -1,4 +1,4 @@
--- A row of a group, by its byte: one of the group alone, a BARRIER, or accesses of global cells. Assumes nothing.
+-- A row of a group, by its byte: one of the group alone, a BARRIER, the launch number, or accesses of global cells. Assumes nothing.
 use mathlib.Core.Path.{_≡_, refl, sym, _∙_, ap, subst, subst₂}
 use mathlib.Core.List.{List}
 use mathlib.Core.Logic.{_⊎_, inl, inr}
@@ -6,10 +6,10 @@ use mathlib.Core.Bool.{true}
 use Prim.Native.Nat.{ℕ, _+_, _-_, _*_, _<_, _≤_}
 use native.Mathlib.Omega.{arith}
 use lib.ListN.{length, getD}
-use Rattle.spec.specs.Op.{Op, opOf, opTable, GLOBAL, MEM, BARRIER}
-use Rattle.spec.specs.Shape.{Shape}
+use Rattle.spec.specs.Op.{Op, opOf, opTable, CALC, LAUNCHTID, GLOBAL, MEM, BARRIER, value}
+use Rattle.spec.specs.Shape.{Shape, launchNumber}
 use Rattle.spec.specs.Table.{Table, Row, rowsOf, rowAt}
-use Rattle.spec.specs.LockStep.{LockState, runRow}
+use Rattle.spec.specs.LockStep.{LockState, computeTurn, runRow}
 use Rattle.spec.proofs.Laws.{lt-or-le, allBelow, below, byte-barrier}
 use Rattle.layout.specs.declared.State.{State}
 use Rattle.layout.specs.declared.Next.{Next}
@@ -22,11 +22,13 @@ use Rattle.layout.specs.Views.{viewOf, ownFrom, alone, isOwnCalc, isOwnSpace, i
 use Rattle.layout.specs.Groups.{GroupStands, GroupAfter, SharedAfter}
 use Rattle.layout.specs.Counting.{StepsOn}
 use Rattle.layout.proofs.Parts.{part-size, own-within}
-use Rattle.layout.proofs.GroupRows.{own-group, barrier-group, global-group}
+use Rattle.layout.proofs.PlainRows.{plain-after}
+use Rattle.layout.proofs.GroupRows.{own-group, calc-group, barrier-group, global-group}
+use Rattle.compute.proofs.Turns.{launch-did}
 use Rattle.intervals.specs.Records.{recordsAfter}
 use Rattle.step.proofs.Tables.{row-here, inside-row}
 use Rattle.step.proofs.Recorded.{after-plain}
-use Rattle.grouprow.specs.Rows.{GlobalRowAsks, GlobalDone}
+use Rattle.grouprow.specs.Rows.{LaunchRowAsks, GlobalRowAsks, Numbered, LaunchDone, GlobalDone}
 
 -- Bytes 0 to 18 and 32 to 36 are rows of a group alone: one computed test for each stretch.
 own-low : allBelow (λ k. isOwnRow (opOf k)) 19 ≡ true
@@ -107,6 +109,18 @@ module _ (table : List ℕ) (n group : ℕ) (s : State) (regs cells log saved op
         (barrier-group L z s regs cells log saved openers global shared masks G T x r regs′ cells′ log′ saved′ openers′ shared′
         (subst (λ o. After (L .threads) (runRow T (alone (L .threads) (L .cells)) x view o) r regs′ cells′ log′ saved′ openers′) is-barrier alone-after) C)
 
+  pub launch-done : L .group ≡ group → (d : ℕ) → d ≡ getD table (s .row * 4 + 1) 0 → LaunchRowAsks byte (getD table (s .row * 4 + 1) 0)
+      → LaunchDone n group d s regs r regs′ → GroupAfter L (runRow T L x z (x .op)) r regs′ cells log saved openers global shared masks
+  unfolding viewOf launchNumber
+  launch-done eg d ed A D =
+      let did = launch-did (L .threads) (s .mask) d regs (G .own .memory .regs-are .size) x (d-here ∙ sym ed) cells log view (G .own .enabled-is)
+      (G .own .enabled-size) (G .own .memory) regs′ (L .group) (subst (λ k. k < 16) (sym ed) (A .target))
+      (subst₂ (λ k g. Numbered k g (s .mask) d regs regs′) (sym en) (sym eg) (D .1)) in
+      subst (λ o. GroupAfter L (runRow T L x z o) r regs′ cells log saved openers global shared masks) (sym (op-here ∙ A .names))
+      (calc-group L z s regs cells log saved openers global shared masks G T x r regs′ cells log saved openers LAUNCHTID
+      (plain-after (L .threads) view s regs cells log saved openers (G .own)
+      (computeTurn x (λ t p q. value LAUNCHTID (L .threads) t (launchNumber L t) (x .a) (x .b) p q)) Done r regs′ cells log did (G .own .reach-is) (D .0)))
+
   pub global-done : L .group ≡ group → (d a : ℕ) → d ≡ getD table (s .row * 4 + 1) 0 → a ≡ getD table (s .row * 4 + 2) 0
       → GlobalRowAsks byte (getD table (s .row * 4 + 1) 0) (getD table (s .row * 4 + 2) 0) → (global′ shared′ masks′ : List ℕ)
       → GlobalDone byte n group d a s regs global shared masks r regs′ global′ shared′ masks′
@@ -117,7 +131,7 @@ module _ (table : List ℕ) (n group : ℕ) (s : State) (regs cells log saved op
       (global-group L z s regs cells log saved openers global shared masks G T x (A .mem) (D .0) r regs′ global′ shared′ masks′
       (D .2 L z (A .mem) x (A .alike) (d-here ∙ sym ed) (a-here ∙ sym ea) en eg (G .own .enabled-is) (G .own .enabled-size ∙ en) (G .globals)) (D .1))
 
--- The counts of a row that accesses global cells.
+-- The counts of a row that goes on as accesses of global cells do.
 pub accessed-counts : (s : State) (a : Access) (r : Next) → r ≡ accessed s a → Counts s r × StepsOn s r
 accessed-counts s Done r e =
     subst (λ q. Counts s q × StepsOn s q) (sym e) (record { rows-one = refl; since-one = omega arith; barriers-one = omega arith }, (refl, refl))

@@ -4,19 +4,25 @@ use mathlib.Core.List.{List}
 use Prim.Native.Nat.{ℕ, _+_, _-_, _*_, _<_, _≤_}
 use lib.ListN.{length, getD}
 use Rattle.spec.specs.Limits.{logPerCell}
-use Rattle.spec.specs.Op.{OWN, GLOBAL, Mem, MEM, WHILE, opOf}
+use Rattle.spec.specs.Op.{CALC, LAUNCHTID, OWN, GLOBAL, Mem, MEM, WHILE, opOf}
 use Rattle.spec.specs.Shape.{Shape}
 use Rattle.spec.specs.Table.{rowsOf, rowAt, endOf}
 use Rattle.spec.specs.LockStep.{LockState, runRow}
 use Rattle.layout.specs.declared.Access.{Access}
+use Rattle.layout.specs.declared.Access.the-variants.{Done}
 use Rattle.layout.specs.declared.State.{State}
 use Rattle.layout.specs.declared.Next.{Next}
-use Rattle.layout.specs.Memory.{KeptBut}
+use Rattle.layout.specs.Memory.{KeptBut, Puts, computedLane}
 use Rattle.layout.specs.Shared.{groupsPerCell, GlobalAll}
 use Rattle.layout.specs.Represents.{Room, Counts, DepthAsks, accessed}
 use Rattle.layout.specs.Running.{RowAsks, RegsAfter}
 use Rattle.layout.specs.Constructs.{savedAfter, openersAfter}
 use Rattle.layout.specs.Groups.{GroupStands, GroupAfter}
+
+-- The bytes of a row that gives the launch number.
+pub record LaunchRowAsks (op d : ℕ) : Type 0 where
+  pub target : d < 16
+  pub names : opOf op ≡ CALC LAUNCHTID
 
 -- The bytes of a row that names global cells: ops 20 to 22 do there what ops 16 to 18 do with own cells.
 pub record GlobalRowAsks (op d a : ℕ) : Type 0 where
@@ -44,7 +50,8 @@ pub record GroupReady (table ends : List ℕ) (n group : ℕ) (s : State) (regs 
   pub room : Room s
   pub own-asks : (18 < getD table (s .row * 4) 0 → getD table (s .row * 4) 0 < 32 → ⊥)
       → RowAsks (getD table (s .row * 4) 0) (getD table (s .row * 4 + 1) 0) (getD table (s .row * 4 + 2) 0) (getD table (s .row * 4 + 3) 0)
-  pub global-asks : 18 < getD table (s .row * 4) 0 → getD table (s .row * 4) 0 < 32
+  pub launch-asks : getD table (s .row * 4) 0 ≡ 19 → LaunchRowAsks (getD table (s .row * 4) 0) (getD table (s .row * 4 + 1) 0)
+  pub global-asks : 19 < getD table (s .row * 4) 0 → getD table (s .row * 4) 0 < 32
       → GlobalRowAsks (getD table (s .row * 4) 0) (getD table (s .row * 4 + 1) 0) (getD table (s .row * 4 + 2) 0)
   pub depths : DepthAsks (getD table (s .row * 4) 0) s openers
   pub ends-right : rowAt (rowsOf table) (s .row) .op ≡ WHILE → getD ends (s .row) 0 ≡ endOf (rowsOf table) (s .row)
@@ -54,6 +61,15 @@ pub record GroupReady (table ends : List ℕ) (n group : ℕ) (s : State) (regs 
   pub threads-are : shape .threads ≡ n
   pub stands : GroupStands shape state s regs cells log saved openers global shared masks
 
+-- The launch numbers in the lanes of register d that a computing row stores to; all else is as it was.
+abbrev pub Numbered : (n group mask d : ℕ) → (regs regs′ : List ℕ) → Type 0
+Numbered n group mask d regs regs′ = Puts d (computedLane LAUNCHTID group n mask d 0 0 regs) regs regs′ 32
+
+-- The registers after a row: as a group alone has them, but for the launch number.
+pub record GroupRegsAfter (op n group mask d a b : ℕ) (regs regs′ : List ℕ) : Type 0 where
+  pub numbered : op ≡ 19 → Numbered n group mask d regs regs′
+  pub others : (op ≡ 19 → ⊥) → RegsAfter op n mask d a b regs regs′
+
 -- What a row comes to: what the definition's row comes to from the state that stands, and every word that no such state shows.
 pub record GroupSteps (table : List ℕ) (n group : ℕ) (s : State) (regs cells log saved openers global shared masks : List ℕ) (r : Next)
     (regs′ cells′ log′ saved′ openers′ global′ shared′ masks′ : List ℕ) : Type 0 where
@@ -61,10 +77,14 @@ pub record GroupSteps (table : List ℕ) (n group : ℕ) (s : State) (regs cells
   pub done : (L : Shape) (z : LockState) → L .threads ≡ n → L .group ≡ group → GroupStands L z s regs cells log saved openers global shared masks
       → GroupAfter L (runRow (rowsOf table) L (rowAt (rowsOf table) (z .row)) z (rowAt (rowsOf table) (z .row) .op)) r regs′ cells′ log′ saved′ openers′
       global′ shared′ masks′
-  pub regs-are : RegsAfter (getD table (s .row * 4) 0) n (s .mask) (getD table (s .row * 4 + 1) 0) (getD table (s .row * 4 + 2) 0)
+  pub regs-are : GroupRegsAfter (getD table (s .row * 4) 0) n group (s .mask) (getD table (s .row * 4 + 1) 0) (getD table (s .row * 4 + 2) 0)
       (getD table (s .row * 4 + 3) 0) regs regs′
   pub saved-are : saved′ ≡ savedAfter (getD table (s .row * 4) 0) s saved openers
   pub openers-are : openers′ ≡ openersAfter (getD table (s .row * 4) 0) s openers
+
+-- A row of the launch number in state s: the state after it, and the registers.
+abbrev pub LaunchDone : (n group d : ℕ) → State → (regs : List ℕ) → Next → (regs′ : List ℕ) → Type 0
+LaunchDone n group d s regs r regs′ = (r ≡ accessed s Done) × Numbered n group (s .mask) d regs regs′
 
 -- A row's accesses of global cells by op, in state s: what they come to, and the state after them.
 abbrev pub GlobalDone : (op n group d a : ℕ) → State → (regs global shared masks : List ℕ) → Next → (regs′ global′ shared′ masks′ : List ℕ) → Type 0

@@ -1,5 +1,5 @@
-// One row of a group of a launch. Its own cells are those of a group alone; rows that name global cells, and what a barrier does to their log, are told
-// apart here.
+// One row of a group of a launch. Its own cells are those of a group alone; the launch number, rows that name global cells, and what a barrier does to
+// their log, are told apart here.
 ghost use mathlib.Core.Path.{_≡_};
 ghost use Prim.Native.Nat.{_+_, _-_, _*_, _^_, _<_, _≤_};
 ghost use lib.ListN.{length, getD};
@@ -12,7 +12,7 @@ ghost use Rattle.banks.specs.Counting.{Older};
 ghost use Rattle.banks.specs.Remembering.{Memo};
 ghost use Rattle.intervals.specs.Records.{RecordAsks};
 ghost use Rattle.step.specs.Recording.{RowRecorded, cellDue};
-ghost use Rattle.grouprow.specs.Rows.{GroupReady, GroupSteps, GlobalDone};
+ghost use Rattle.grouprow.specs.Rows.{GroupReady, GroupSteps, LaunchDone, GlobalDone};
 
 // The state after a row's accesses of global cells.
 fn after_access(c: layout::Access, s: layout::State) -> layout::Next
@@ -23,6 +23,15 @@ fn after_access(c: layout::Access, s: layout::State) -> layout::Next
         layout::Access::Done => layout::Next::Go(constructs::moved(s)),
         layout::Access::Stop(v) => layout::Next::Stop(v, s),
     }
+}
+
+// Op 19: the launch number of each enabled thread.
+fn launch_row(regs: &mut [u32; 512], n: u32, group: u32, d: usize, s: layout::State) -> layout::Next
+    requires { ⌜ Room s × (n ≤ 32) × (group < 8) × (d < 16) × (length (now regs) ≡ 512) ⌝ }
+    ensures { λ r. ⌜ LaunchDone n group d s (now (regs .entry)) r (now (regs .exit)) ⌝ }
+{
+    compute::launch_row(regs, group, n, s.mask, d);
+    layout::Next::Go(constructs::moved(s))
 }
 
 // Ops 20 to 22: what ops 16 to 18 do with own cells, with global ones.
@@ -96,6 +105,9 @@ pub fn group_row(
     let op = table[row * 4];
     if 18 < op && op < 32 {
         let d = step::index(table[row * 4 + 1]);
+        if op == 19 {
+            return launch_row(regs, n, group, d, s);
+        }
         let a = step::index(table[row * 4 + 2]);
         return global_row(regs, global, shared, masks, n, group, op, d, a, s);
     }

@@ -12,7 +12,7 @@ use Rattle.spec.specs.Limits.{logPerCell, recordsLent}
 use Rattle.spec.specs.declared.Verdict.{Verdict}
 use Rattle.spec.specs.declared.Verdict.the-variants.{Passed, Spent}
 use Rattle.spec.specs.Mask.{Mask, maskWord, members}
-use Rattle.spec.specs.Op.{Op, CALC, OWN, GLOBAL, Mem, MEM, IF, ELSE, ENDIF, WHILE, ENDWHILE, BARRIER, UNKNOWN, opOf}
+use Rattle.spec.specs.Op.{Op, CALC, LAUNCHTID, OWN, GLOBAL, Mem, MEM, IF, ELSE, ENDIF, WHILE, ENDWHILE, BARRIER, UNKNOWN, opOf}
 use Rattle.spec.specs.Table.{Table, Row, rowsOf, opening, role, rowAt, openBefore, openedBy, innermost, Fits, rowOf}
 use Rattle.spec.specs.Shape.{Shape}
 use Rattle.spec.specs.LockStep.{LockState, Step, continues, stops, topOpener, reg, runRow, LockResult, resultOf, runFrom}
@@ -50,7 +50,7 @@ use Rattle.intervals.specs.Records.{released, recordsAfter, RecordAsks, Ledger}
 use Rattle.intervals.proofs.Ledger.{endsHere, ledger-asks, ledger-row, ledger-release}
 use Rattle.step.specs.Recording.{RowRecorded, cellDue}
 use Rattle.step.proofs.Tables.{row-inside, row-here, compute-op, mem-op}
-use Rattle.grouprow.specs.Rows.{GlobalRowAsks, BufferSizes, GroupReady, GroupSteps}
+use Rattle.grouprow.specs.Rows.{LaunchRowAsks, GlobalRowAsks, BufferSizes, GroupReady, GroupSteps}
 use Rattle.grouprun.specs.declared.Ended.{Ended}
 use Rattle.grouprun.specs.Groups.{GroupStart, GroupEnd, SomeStart, followed}
 use Rattle.grouprun.proofs.RowBytes.{row-asks}
@@ -231,7 +231,8 @@ enabledIn (continues z) = z .enabled
 enabledIn (stops v z) = z .enabled
 
 -- The threads that step in a row, by its byte.
-module _ (n k d a b : ℕ) (own : (18 < k → k < 32 → ⊥) → RowAsks k d a b) (global : 18 < k → k < 32 → GlobalRowAsks k d a) (T : Table) (L : Shape) (x : Row) (z z′ : LockState) (s s′ : State)
+module _ (n k d a b : ℕ) (own : (18 < k → k < 32 → ⊥) → RowAsks k d a b) (launch : k ≡ 19 → LaunchRowAsks k d) (global : 19 < k → k < 32 → GlobalRowAsks k d a)
+    (T : Table) (L : Shape) (x : Row) (z z′ : LockState) (s s′ : State)
     (em : s .mask ≡ maskWord (z .enabled)) (em′ : s′ .mask ≡ maskWord (z′ .enabled)) (en : length (z .enabled) ≡ n) (en′ : length (z′ .enabled) ≡ n) where
   abbrev Who : Op → Type 0
   Who o = runRow T L x z o ≡ continues z′ → (stepping k s s′ ≡ maskWord (whoSteps o z)) × (length (whoSteps o z) ≤ n)
@@ -256,7 +257,7 @@ module _ (n k d a b : ℕ) (own : (18 < k → k < 32 → ⊥) → RowAsks k d a 
 
   pub who-steps : Who (opOf k)
   unfolding whoSteps
-  who-steps = by (lt-or-le k 16) (lt-or-le k 19) (lt-or-le k 32)
+  who-steps = by (lt-or-le k 16) (lt-or-le k 19) (lt-or-le k 32) (lt-or-le k 20)
     where
       plain : (o : Op) → opOf k ≡ o → k < 32 → whoSteps o z ≡ z .enabled → Who (opOf k)
       plain o e h w = subst Who (sym e) (who-came o (λ y. omega arith) (λ y. omega arith) w)
@@ -277,13 +278,14 @@ module _ (n k d a b : ℕ) (own : (18 < k → k < 32 → ⊥) → RowAsks k d a 
               let e : k ≡ 37 = last k h (own (λ p q. omega arith) .known) f g i j l in
               subst Who (sym (ap opOf e ∙ byte-barrier)) (who-nobody e)
 
-      by : (k < 16) ⊎ (16 ≤ k) → (k < 19) ⊎ (19 ≤ k) → (k < 32) ⊎ (32 ≤ k) → Who (opOf k)
-      by (inl h) p q =
+      by : (k < 16) ⊎ (16 ≤ k) → (k < 19) ⊎ (19 ≤ k) → (k < 32) ⊎ (32 ≤ k) → (k < 20) ⊎ (20 ≤ k) → Who (opOf k)
+      by (inl h) p q w =
           let asks = own (λ p q. omega arith) in
           let c = compute-op k (asks .computes h .known) (asks .computes h .small) in plain (CALC (c .0)) (c .1) (omega arith) refl
-      by (inr h) (inl p) q = let m = mem-op k h (omega arith) in plain (MEM OWN (m .0)) (m .1) (omega arith) refl
-      by (inr h) (inr p) (inl l) = let A = global p l in plain (MEM GLOBAL (A .mem)) (A .names) l refl
-      by (inr h) (inr p) (inr l) = construct l
+      by (inr h) (inl p) q w = let m = mem-op k h (omega arith) in plain (MEM OWN (m .0)) (m .1) (omega arith) refl
+      by (inr h) (inr p) (inl l) (inl w) = plain (CALC LAUNCHTID) (launch (omega arith) .names) l refl
+      by (inr h) (inr p) (inl l) (inr w) = let A = global w l in plain (MEM GLOBAL (A .mem)) (A .names) l refl
+      by (inr h) (inr p) (inr l) w = construct l
 
 module _ (table ends : List ℕ) (n group limit : ℕ) (L : Shape) (o : LockResult) (whole : List Interval) (lent : List ℕ) (more : List Interval) (s : State)
     (regs cells log saved openers global shared masks counts stamps memo records : List ℕ)
@@ -441,8 +443,11 @@ module _ (table ends : List ℕ) (n group limit : ℕ) (L : Shape) (o : LockResu
     own-asks : RowAsks (getD table (s .row * 4) 0) (getD table (s .row * 4 + 1) 0) (getD table (s .row * 4 + 2) 0) (getD table (s .row * 4 + 3) 0)
     own-asks = row-asks table (A .accepted) (s .row) inside
 
-    -- no byte of an accepted table names global cells yet
-    global-asks : 18 < getD table (s .row * 4) 0 → getD table (s .row * 4) 0 < 32
+    -- no byte of an accepted table gives the launch number or names global cells yet
+    launch-asks : getD table (s .row * 4) 0 ≡ 19 → LaunchRowAsks (getD table (s .row * 4) 0) (getD table (s .row * 4 + 1) 0)
+    launch-asks e = let q = own-asks .accesses (omega arith) (omega arith) .0 in absurd (omega (arith, q))
+
+    global-asks : 19 < getD table (s .row * 4) 0 → getD table (s .row * 4) 0 < 32
         → GlobalRowAsks (getD table (s .row * 4) 0) (getD table (s .row * 4 + 1) 0) (getD table (s .row * 4 + 2) 0)
     global-asks h l = let q = own-asks .accesses (omega arith) l .0 in absurd (omega (arith, q))
 
@@ -460,6 +465,7 @@ module _ (table ends : List ℕ) (n group limit : ℕ) (L : Shape) (o : LockResu
             barriers-few = G .barriers-few;
           };
           own-asks = λ f. own-asks;
+          launch-asks = launch-asks;
           global-asks = global-asks;
           depths = record {
             opens-if = λ e. let q = op-is 32 IF byte-if e in let d = depth-opens IF q while-if in omega (arith, deeper (role-if _ q));
@@ -515,7 +521,7 @@ module _ (table ends : List ℕ) (n group limit : ℕ) (L : Shape) (o : LockResu
           let x = rowAt T (G .here .row) .op in
           let w = subst (λ p. runRow T L (rowAt T (G .here .row)) (G .here) p ≡ continues z
           → (stepping byte s s′ ≡ maskWord (whoSteps p (G .here))) × (length (whoSteps p (G .here)) ≤ n)) (sym row-byte)
-          (who-steps n byte _ _ _ (λ f. own-asks) global-asks T L (rowAt T (G .here .row)) (G .here) z s s′ enabled-is
+          (who-steps n byte _ _ _ (λ f. own-asks) launch-asks global-asks T L (rowAt T (G .here .row)) (G .here) z s s′ enabled-is
           (R .own .enabled-is) enabled-size (R .own .enabled-size ∙ G .threads-are)) q in
           let more : z .steps ≡ allStepped (G .here .steps) (members (whoSteps x (G .here))) = subst (RowSteps x (G .here)) q counted in
           let one : Counted s s′ = subst (Counts s) e (S .counts) in (
@@ -528,7 +534,7 @@ module _ (table ends : List ℕ) (n group limit : ℕ) (L : Shape) (o : LockResu
       row-costs : (s′ : State) (z : LockState) → r ≡ next.Go s′ → done ≡ continues z
           → K .cost ≡ rowCost (rowAt T (G .here .row)) (G .here) (rowAt T (G .here .row) .op)
       unfolding viewOf
-      row-costs s′ z e d = by (lt-or-le byte 16) (lt-or-le byte 19) (lt-or-le byte 32) ∙ ap (rowCost (rowAt T (G .here .row)) (G .here)) (sym row-byte)
+      row-costs s′ z e d = by (lt-or-le byte 16) (lt-or-le byte 19) (lt-or-le byte 32) (lt-or-le byte 20) ∙ ap (rowCost (rowAt T (G .here .row)) (G .here)) (sym row-byte)
         where
           plain : (byte < 16) ⊎ (32 ≤ byte) → K .cost ≡ 0 → K .cost ≡ rowCost (rowAt T (G .here .row)) (G .here) (opOf byte)
           plain p q = q ∙ sym (plain-free (rowAt T (G .here .row)) (G .here) byte _ _ _ own-asks p)
@@ -538,18 +544,23 @@ module _ (table ends : List ℕ) (n group limit : ℕ) (L : Shape) (o : LockResu
               ap length (G .stands .own .memory .cells-are)
               ∙ part-size (ownFrom L) (L .cells) (G .here .cells) (omega (arith, G .stands .globals .sized .cells-are, own-within L (G .here) (G .stands .globals .sized)))
 
-          by : (byte < 16) ⊎ (16 ≤ byte) → (byte < 19) ⊎ (19 ≤ byte) → (byte < 32) ⊎ (32 ≤ byte) → K .cost ≡ rowCost (rowAt T (G .here .row)) (G .here) (opOf byte)
-          by (inl h) p q = plain (inl h) (K .plain (inl h))
-          by (inr h) (inr p) (inr l) = plain (inr l) (K .plain (inr p))
-          by (inr h) (inr p) (inl l) =
-              let M = global-asks p l in
-              K .plain (inr p) ∙ sym (ap (rowCost (rowAt T (G .here .row)) (G .here)) (M .names) ∙ (unfold rowCost in refl))
-          by (inr h) (inl p) q =
+          free : (o : Op) → 18 < byte → opOf byte ≡ o → rowCost (rowAt T (G .here .row)) (G .here) o ≡ 0
+              → K .cost ≡ rowCost (rowAt T (G .here .row)) (G .here) (opOf byte)
+          free o p e q = K .plain (inr p) ∙ sym (ap (rowCost (rowAt T (G .here .row)) (G .here)) e ∙ q)
+
+          by : (byte < 16) ⊎ (16 ≤ byte) → (byte < 19) ⊎ (19 ≤ byte) → (byte < 32) ⊎ (32 ≤ byte) → (byte < 20) ⊎ (20 ≤ byte)
+              → K .cost ≡ rowCost (rowAt T (G .here .row)) (G .here) (opOf byte)
+          by (inl h) p q w = plain (inl h) (K .plain (inl h))
+          by (inr h) (inr p) (inr l) w = plain (inr l) (K .plain (inr p))
+          by (inr h) (inr p) (inl l) (inl w) = free (CALC LAUNCHTID) p (launch-asks (omega arith) .names) (unfold rowCost in refl)
+          by (inr h) (inr p) (inl l) (inr w) = let M = global-asks w l in free (MEM GLOBAL (M .mem)) p (M .names) (unfold rowCost in refl)
+          by (inr h) (inl p) q w =
               let small : byte ≤ 18 = omega arith in
               let regs-in = own-asks .accesses h (omega arith) in
               let m = mem-op byte h small in
               let x = row-here table (L .threads) (viewOf (ownFrom L) (L .cells) (G .here)) s regs cells log saved openers (G .stands .own) inside in
-              let used = sym (view-used (m .0) (rowAt T (G .here .row)) (ownFrom L) (L .cells) (G .here)) ∙ used-are (L .threads) (viewOf (ownFrom L) (L .cells) (G .here)) regs cells log (G .stands .own .memory) (G .stands .own .enabled-size)
+              let used = sym (view-used (m .0) (rowAt T (G .here .row)) (ownFrom L) (L .cells) (G .here))
+              ∙ used-are (L .threads) (viewOf (ownFrom L) (L .cells) (G .here)) regs cells log (G .stands .own .memory) (G .stands .own .enabled-size)
               (rowAt T (G .here .row)) byte _ _ h small (regs-in .1) (regs-in .2) (ap (λ y. y .d) x) (ap (λ y. y .a) x) (m .0) (m .1) in
               let went = sym (ap (runRow T L (rowAt T (G .here .row)) (G .here)) (row-byte ∙ m .1)) ∙ d in
               let all = own-below T L (rowAt T (G .here .row)) (G .here) z (m .0) went in

@@ -9,11 +9,11 @@ use lib.Dec.{ltb}
 use lib.ListN.{length, replicate}
 use Rattle.spec.specs.declared.Verdict.{Verdict}
 use Rattle.spec.specs.declared.Verdict.the-variants.{Diverged}
-use Rattle.spec.specs.Op.{Op, GLOBAL, Mem, MEM, BARRIER}
+use Rattle.spec.specs.Op.{Op, Calc, CALC, GLOBAL, Mem, MEM, BARRIER, value}
 use Rattle.spec.specs.Table.{Table, Row}
-use Rattle.spec.specs.Shape.{Shape, isGlobal, total}
+use Rattle.spec.specs.Shape.{Shape, launchNumber, isGlobal, total}
 use Rattle.spec.specs.Mask.{members, any, full, lowest}
-use Rattle.spec.specs.LockStep.{LockState, Step, continues, stops, andThen, inTurn, advance, accessTurn, forEnabled, passBarrier, barrierRow, runRow}
+use Rattle.spec.specs.LockStep.{LockState, Step, continues, stops, andThen, inTurn, advance, computeTurn, accessTurn, forEnabled, passBarrier, barrierRow, runRow}
 use Rattle.layout.specs.declared.Access.{Access}
 use Rattle.layout.specs.declared.State.{State}
 use Rattle.layout.specs.declared.Next.{Next}
@@ -27,7 +27,7 @@ use Rattle.layout.proofs.LogBuffer.{cleared-is}
 use Rattle.layout.proofs.Parts.{part-size, part-put-below, log-part-fits, log-part-below, sized-fits, own-before, own-within, global-within}
 use Rattle.layout.proofs.PlainRows.{moves-on, stands}
 use Rattle.layout.proofs.RowSizes.{sized-after, groups-after}
-use Rattle.layout.proofs.OwnRows.{OwnAfter, own-row, own-row-after, barrier-row, barrier-after, outside, outside-stays, outside-clears, global-cleared}
+use Rattle.layout.proofs.OwnRows.{OwnAfter, compute-rows, compute-rows-after, own-row, own-row-after, barrier-row, barrier-after, outside, outside-stays, outside-clears, global-cleared}
 
 -- The global cells, where only the own ones have changed, from u to y; w is the view of the own ones.
 module _ (L : Shape) (u y w : LockState) (O : OwnAfter L u y w) (Y : Sized L y) (regs regs′ global shared masks : List ℕ)
@@ -86,6 +86,9 @@ own-is-no-global : (o : Op) → isOwnRow o ≡ true → (m : Mem) → o ≡ MEM 
 unfolding isOwnRow isOwnSpace
 own-is-no-global o e m q = true≢false (sym e ∙ ap isOwnRow q)
 
+calc-is-no-global : (c : Calc) (m : Mem) → CALC c ≡ MEM GLOBAL m → ⊥
+calc-is-no-global c m e = let q : _≡_ {A = ℕ} 0 1 = cc in omega arith
+
 barrier-is-no-global : (m : Mem) → BARRIER ≡ MEM GLOBAL m → ⊥
 barrier-is-no-global m e = let q : _≡_ {A = ℕ} 0 1 = cc in omega arith
 
@@ -100,21 +103,17 @@ module _ (L : Shape) (z : LockState) (s : State) (regs cells log saved openers g
   abbrev sized : Sized L z
   sized = S .globals .sized
 
-  -- A row that names no global cell and is no BARRIER.
-  module _ (o : Op) (own-op : isOwnRow o ≡ true) (r : Next) (regs′ cells′ log′ saved′ openers′ : List ℕ) where
-    pub own-group : After n (runRow T (alone n (L .cells)) x view o) r regs′ cells′ log′ saved′ openers′
-        → GroupAfter L (runRow T L x z o) r regs′ cells′ log′ saved′ openers′ global shared masks
-    own-group A =
+  -- A row that is one of the view of the own cells, put back: the global cells are as they were.
+  module _ (r : Next) (regs′ cells′ log′ saved′ openers′ : List ℕ) where
+    put-back : (q w : Step) → q ≡ mapStep (λ y. putView (ownFrom L) y z) w → OwnAfter L z (stateOf q) (stateOf w) → Sized L (stateOf q)
+        → stateOf q .groupLog ≡ z .groupLog → After n w r regs′ cells′ log′ saved′ openers′
+        → GroupAfter L q r regs′ cells′ log′ saved′ openers′ global shared masks
+    put-back q w same O Y g A =
         subst (λ q. GroupAfter L q r regs′ cells′ log′ saved′ openers′ global shared masks) (sym same)
-        (by (runRow T (alone n (L .cells)) x view o) (subst (λ q. OwnAfter L z (stateOf q) (stateOf (runRow T (alone n (L .cells)) x view o))) same (own-row-after L z sized T x o own-op))
-        (subst (λ q. Sized L (stateOf q)) same (sized-after L z sized T x o))
-        (ap (λ q. stateOf q .groupLog) (sym same) ∙ groups-after T L x o z (own-is-no-global o own-op)) A)
+        (by w (subst (λ q. OwnAfter L z (stateOf q) (stateOf w)) same O) (subst (λ q. Sized L (stateOf q)) same Y) (ap (λ q. stateOf q .groupLog) (sym same) ∙ g) A)
       where
         back : LockState → LockState
         back y = putView (ownFrom L) y z
-
-        same : runRow T L x z o ≡ mapStep back (runRow T (alone n (L .cells)) x view o)
-        same = own-row L z sized T x o own-op
 
         here : (w : LockState) → OwnAfter L z (back w) w → Sized L (back w) → back w .groupLog ≡ z .groupLog → (s′ : State)
             → Represents n w s′ regs′ cells′ log′ saved′ openers′ → GroupStands L (back w) s′ regs′ cells′ log′ saved′ openers′ global shared masks
@@ -126,6 +125,23 @@ module _ (L : Shape) (z : LockState) (s : State) (regs cells log saved openers g
             → After n A r regs′ cells′ log′ saved′ openers′ → GroupAfter L (mapStep back A) r regs′ cells′ log′ saved′ openers′ global shared masks
         by (continues w) O Y g (s′, e, R) = (s′, e, here w O Y g s′ R)
         by (stops v w) O Y g (s′, e, R) = (s′, e, here w O Y g s′ R)
+
+    -- One that computes, by the function that the definition's row has in this group.
+    pub calc-group : (c : Calc) → After n (forEnabled (computeTurn x (λ t p q. value c n t (launchNumber L t) (x .a) (x .b) p q)) view) r regs′ cells′ log′ saved′ openers′
+        → GroupAfter L (runRow T L x z (CALC c)) r regs′ cells′ log′ saved′ openers′ global shared masks
+    unfolding runRow
+    calc-group c A =
+        let f : ℕ → ℕ → ℕ → ℕ = λ t p q. value c n t (launchNumber L t) (x .a) (x .b) p q in
+        put-back (forEnabled (computeTurn x f) z) (forEnabled (computeTurn x f) view) (compute-rows L z sized x f) (compute-rows-after L z sized x f)
+        (sized-after L z sized T x (CALC c)) (groups-after T L x (CALC c) z (calc-is-no-global c)) A
+
+  -- One that names no global cell, tells no group by its number and is no BARRIER: as in a group alone.
+  module _ (o : Op) (own-op : isOwnRow o ≡ true) (r : Next) (regs′ cells′ log′ saved′ openers′ : List ℕ) where
+    pub own-group : After n (runRow T (alone n (L .cells)) x view o) r regs′ cells′ log′ saved′ openers′
+        → GroupAfter L (runRow T L x z o) r regs′ cells′ log′ saved′ openers′ global shared masks
+    own-group A =
+        put-back r regs′ cells′ log′ saved′ openers′ (runRow T L x z o) (runRow T (alone n (L .cells)) x view o) (own-row L z sized T x o own-op)
+        (own-row-after L z sized T x o own-op) (sized-after L z sized T x o) (groups-after T L x o z (own-is-no-global o own-op)) A
 
   -- BARRIER: where it is passed, the global log is cleared too.
   module _ (r : Next) (regs′ cells′ log′ saved′ openers′ shared′ : List ℕ) where

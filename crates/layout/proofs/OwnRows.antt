@@ -405,6 +405,13 @@ module _ (L : Shape) (z : LockState) (S : Sized L z) where
       (sym (ap stateOf (own-row T x o e) ∙ step-state own (runRow T (alone (L .threads) (L .cells)) x view o)))
       (own-after z _ (sized-fits L z S) (alone-fits (L .threads) (L .cells) T x o view own-fits))
 
+  pub compute-rows-after : (x : Row) (f : ℕ → ℕ → ℕ → ℕ)
+      → OwnAfter L z (stateOf (forEnabled (computeTurn x f) z)) (stateOf (forEnabled (computeTurn x f) (viewOf (ownFrom L) (L .cells) z)))
+  compute-rows-after x f =
+      subst (λ y. OwnAfter L z y (stateOf (forEnabled (computeTurn x f) view)))
+      (sym (ap stateOf (compute-rows x f) ∙ step-state own (forEnabled (computeTurn x f) view)))
+      (own-after z _ (sized-fits L z S) (compute-row-fits (L .threads) (L .cells) x f view own-fits))
+
   pub barrier-after : (T : Table) (x : Row) → let w = stateOf (runRow T (alone (L .threads) (L .cells)) x (viewOf (ownFrom L) (L .cells) z) BARRIER) in
       OwnAfter L (outside w) (stateOf (runRow T L x z BARRIER)) w
   barrier-after T x =

@@ -1,11 +1,12 @@
 -- `grouprow::group_row` meets its contract. Assumes nothing.
 use mathlib.Core.Path.{_≡_, sym, ap, _∙_, subst, subst₂}
 use mathlib.Core.Logic.{⊎-elim, inl}
-use Prim.Native.Nat.{_-_, _*_, _^_, _<_, _≤_}
+use Prim.Native.Nat.{ℕ, _-_, _*_, _^_, _<_, _≤_}
 use native.Mathlib.Omega.{arith}
 use borrow.Author.Tests.{ltb-true, ltb-false}
 use lib.ListN.{length, getD}
 use Rattle.masks.proofs.Words.{word-lt}
+use Rattle.layout.specs.declared.Access.the-variants.{Done}
 use Rattle.layout.specs.Represents.{Represents}
 use Rattle.layout.specs.Views.{viewOf, ownFrom}
 use Rattle.layout.specs.Shared.{GlobalAsks}
@@ -13,7 +14,8 @@ use Rattle.layout.proofs.Saving.{slots-kept}
 use Rattle.stepcounts.proofs.NextCounts.{counts-on}
 use Rattle.step.proofs.Registers.{regs-accessed}
 use Rattle.step.proofs.Recorded.{recorded-plain}
-use Rattle.grouprow.proofs.RowKinds.{own-done, barrier-done, global-done, accessed-counts, accessed-free}
+use Rattle.grouprow.proofs.RowKinds.{own-done, barrier-done, launch-done, global-done, accessed-counts, accessed-free}
+use Rattle.grouprow.specs.Rows.{Numbered}
 use borrow.Author.Needs.{needs}
 use Rattle.grouprow.proofs.group_row.Statement.{statement}
 use Rattle.grouprow.proofs.group_row.Tie as tie
@@ -28,15 +30,65 @@ mask-below c =
     let R = G .stands .own in
     subst₂ (λ m k. m < 2 ^ k) (sym (R .enabled-is)) (R .enabled-size ∙ G .threads-are) (word-lt _)
 
+above-launch : (k : ℕ) → 18 < k → (k ≡ 19 → ⊥) → 19 < k
+above-launch k h f = omega arith
+
+launch-row-requires : tie.Need-launch-row-requires
+launch-row-requires c κs =
+    let is-launch = c .before .if3 .taken in
+    let d = c .before .before .index in
+    let start = c .before .before .before .before .before .before .before .before .before .before .before .before .before .before in
+    let R = start .pre .0 in (
+      R .room,
+      few start,
+      R .group-few,
+      subst (λ k. k < 16) (sym (d .ensures .0)) (R .launch-asks is-launch .target),
+      R .stands .own .memory .regs-are .size,
+    )
+
+returns : tie.Need-returns
+returns c =
+    let launch-row = c .launch-row in
+    let is-launch = c .before .before .if3 .taken in
+    let d = c .before .before .before .index in
+    let below = ltb-true _ _ (c .before .before .before .before .before .if2 .taken) in
+    let start = c .before .before .before .before .before .before .before .before .before .before .before .before .before .before .before in
+    let args = start .args in
+    let R = start .pre .0 in
+    let table = args .table .now in
+    let code = getD table (args .s .row * 4) 0 in
+    let D = launch-row .ensures in
+    let left = accessed-counts (args .s) Done (launch-row .result) (D .0) in
+    let slots = slots-kept code (args .s) (args .saved .now) (args .openers .now) (inl below) in (
+      record {
+        counts = left .0;
+        done = λ L z en eg G.
+            launch-done table (args .n) (args .group) (args .s) (args .regs .now) (args .cells .now) (args .log .now) (args .saved .now) (args .openers .now)
+            (args .global .now) (args .shared .now) (args .masks .now) (launch-row .result) (launch-row .last .0) (R .inside) L z en G eg
+            (d .result) (d .ensures .0) (R .launch-asks is-launch) D;
+        regs-are = record {
+          numbered = λ e. subst (λ k. Numbered (args .n) (args .group) (args .s .mask) k (args .regs .now) (launch-row .last .0)) (d .ensures .0) (D .1);
+          others = λ f. absurd (f is-launch);
+        };
+        saved-are = slots .0;
+        openers-are = slots .1;
+      },
+      counts-on code (args .s) (launch-row .result) (args .counts .now) below (start .pre .1 .size) (left .1),
+      recorded-plain code (args .n) (args .group) _ (args .s) (args .records .now) (args .stamps .now) (args .memo .now) (launch-row .result) _
+          (λ h l. omega (arith, is-launch)) (start .pre .2) (start .pre .3)
+          (accessed-free (args .group) (args .s) Done (launch-row .result) (args .records .now) (D .0)),
+    )
+
 global-row-requires : tie.Need-global-row-requires
 global-row-requires c κs =
     let a = c .before .before .before .before .index2 in
-    let d = c .before .before .before .before .before .before .index in
-    let below = ltb-true _ _ (c .before .before .before .before .before .before .before .before .if2 .taken) in
-    let above = c .before .before .before .before .before .before .before .before .before .if1 .taken in
-    let start = c .before .before .before .before .before .before .before .before .before .before .before .before .before .before .before .before .before .before in
+    let no-launch = c .before .before .before .before .before .before .if3 .left in
+    let d = c .before .before .before .before .before .before .before .index in
+    let below = ltb-true _ _ (c .before .before .before .before .before .before .before .before .before .if2 .taken) in
+    let above = c .before .before .before .before .before .before .before .before .before .before .if1 .taken in
+    let start = c .before .before .before .before .before .before .before .before .before .before .before .before .before .before .before .before .before .before .before in
     let R = start .pre .0 in
-    let A = R .global-asks above below in (
+    let A = R .global-asks (above-launch _ above no-launch) below in (
       R .room,
       few start,
       mask-below start,
@@ -55,17 +107,19 @@ global-row-requires c κs =
       },
     )
 
-returns : tie.Need-returns
-returns c =
+returns-2 : tie.Need-returns-2
+returns-2 c =
     let global-row = c .before .before .before .before .before .before .global-row in
     let a = c .before .before .before .before .before .before .before .before .before .before .before .index2 in
-    let d = c .before .before .before .before .before .before .before .before .before .before .before .before .before .index in
-    let below = ltb-true _ _ (c .before .before .before .before .before .before .before .before .before .before .before .before .before .before .before .if2 .taken) in
-    let above = c .before .before .before .before .before .before .before .before .before .before .before .before .before .before .before .before .if1 .taken in
-    let start = c .before .before .before .before .before .before .before .before .before .before .before .before .before .before .before .before .before .before .before .before .before .before .before .before .before in
+    let no-launch = c .before .before .before .before .before .before .before .before .before .before .before .before .before .if3 .left in
+    let d = c .before .before .before .before .before .before .before .before .before .before .before .before .before .before .index in
+    let below = ltb-true _ _ (c .before .before .before .before .before .before .before .before .before .before .before .before .before .before .before .before .if2 .taken) in
+    let above = c .before .before .before .before .before .before .before .before .before .before .before .before .before .before .before .before .before .if1 .taken in
+    let far = c .before .before .before .before .before .before .before .before .before .before .before .before .before .before in
+    let start = far .before .before .before .before .before .before .before .before .before .before .before .before in
     let args = start .args in
     let R = start .pre .0 in
-    let A = R .global-asks above below in
+    let A = R .global-asks (above-launch _ above no-launch) below in
     let table = args .table .now in
     let code = getD table (args .s .row * 4) 0 in
     let D = global-row .ensures in
@@ -77,8 +131,11 @@ returns c =
             global-done table (args .n) (args .group) (args .s) (args .regs .now) (args .cells .now) (args .log .now) (args .saved .now) (args .openers .now)
             (args .global .now) (args .shared .now) (args .masks .now) (global-row .result) (global-row .last .0) (R .inside) L z en G eg
             (d .result) (a .result) (d .ensures .0) (a .ensures .0) A _ _ _ D;
-        regs-are = regs-accessed code (args .n) (args .s .mask) _ _ _ (args .regs .now) (d .result) (global-row .last .0) (omega (arith, above)) below
-            (d .ensures .0) (D .3);
+        regs-are = record {
+          numbered = λ e. absurd (no-launch e);
+          others = λ f. regs-accessed code (args .n) (args .s .mask) _ _ _ (args .regs .now) (d .result) (global-row .last .0) (omega (arith, above)) below
+              (d .ensures .0) (D .3);
+        };
         saved-are = slots .0;
         openers-are = slots .1;
       },
@@ -92,12 +149,15 @@ step-requires : tie.Need-step-requires
 step-requires c κs =
     let start = c .before .before .before .before .before .before .before .before .before .before .before .before .before .before .before .before .before .before in
     let R = start .pre .0 in
-    let byte = getD (start .args .table .now) (start .args .s .row * 4) 0 in (
+    let byte = getD (start .args .table .now) (start .args .s .row * 4) 0 in
+    let no-global : 18 < byte → byte < 32 → ⊥ =
+    ⊎-elim (λ w h l. omega (arith, ltb-false byte 32 (w .1 .left))) (λ w h l. omega (arith, w .left))
+    (c .before .before .before .before .before .before .before .before .before .if1 .came) in (
       record {
         some = R .some;
         inside = R .inside;
         room = R .room;
-        asks = R .own-asks (⊎-elim (λ w h l. omega (arith, ltb-false byte 32 (w .1 .left))) (λ w h l. omega (arith, w .left)) (c .before .before .before .before .before .before .before .before .before .if1 .came));
+        asks = R .own-asks no-global;
         depths = R .depths;
         ends-right = R .ends-right;
         stands = record {
@@ -116,14 +176,17 @@ step-requires c κs =
     )
 
 after-barrier-requires : tie.Need-after-barrier-requires
-after-barrier-requires c κs = let start = c .before .before .before .before .before .before .before .before .before .before .before .before .before .before .before .before .before .before .before .before .before .before .before .before .before .before .before in start .pre .0 .sizes .shared-sized
+after-barrier-requires c κs =
+    let far = c .before .before .before .before .before .before .before .before .before .before .before .before .before .before in
+    far .before .before .before .before .before .before .before .before .before .before .before .before .before .pre .0 .sizes .shared-sized
 
-returns-2 : tie.Need-returns-2
-returns-2 c =
+returns-3 : tie.Need-returns-3
+returns-3 c =
     let after-barrier = c .before .before .after-barrier in
-    let is-barrier = c .before .before .before .before .if3 .taken in
+    let is-barrier = c .before .before .before .before .if4 .taken in
     let step = c .before .before .before .before .before .before .before .before .before .before .before .step in
-    let start = c .before .before .before .before .before .before .before .before .before .before .before .before .before .before .before .before .before .before .before .before .before .before .before .before .before .before .before .before .before .before in
+    let far = c .before .before .before .before .before .before .before .before .before .before .before .before .before .before in
+    let start = far .before .before .before .before .before .before .before .before .before .before .before .before .before .before .before .before in
     let args = start .args in
     let R = start .pre .0 in
     let S = step .ensures .0 in (
@@ -133,7 +196,7 @@ returns-2 c =
             barrier-done (args .table .now) (args .n) (args .group) (args .s) (args .regs .now) (args .cells .now) (args .log .now) (args .saved .now) (args .openers .now)
             (args .global .now) (args .shared .now) (args .masks .now) (step .result) _ (R .inside) L z en G _ _ _ _ S is-barrier (after-barrier .last .0)
             (after-barrier .ensures);
-        regs-are = S .regs-are;
+        regs-are = record { numbered = λ e. absurd (omega (arith, is-barrier)); others = λ f. S .regs-are };
         saved-are = S .saved-are;
         openers-are = S .openers-are;
       },
@@ -141,16 +204,18 @@ returns-2 c =
       step .ensures .2,
     )
 
-returns-3 : tie.Need-returns-3
-returns-3 c =
-    let no-barrier = c .if3 .left in
+returns-4 : tie.Need-returns-4
+returns-4 c =
+    let no-barrier = c .if4 .left in
     let step = c .before .before .before .before .before .before .before .step in
-    let start = c .before .before .before .before .before .before .before .before .before .before .before .before .before .before .before .before .before .before .before .before .before .before .before .before .before .before in
+    let far = c .before .before .before .before .before .before .before .before .before .before .before .before .before .before in
+    let start = far .before .before .before .before .before .before .before .before .before .before .before .before in
     let args = start .args in
     let R = start .pre .0 in
     let byte = getD (args .table .now) (args .s .row * 4) 0 in
     let no-global : 18 < byte → byte < 32 → ⊥ =
-    ⊎-elim (λ w h l. omega (arith, ltb-false byte 32 (w .1 .left))) (λ w h l. omega (arith, w .left)) (c .before .before .before .before .before .before .before .before .before .before .before .before .before .before .before .before .before .if1 .came) in
+    ⊎-elim (λ w h l. omega (arith, ltb-false byte 32 (w .1 .left))) (λ w h l. omega (arith, w .left))
+    (c .before .before .before .before .before .before .before .before .before .before .before .before .before .before .before .before .before .if1 .came) in
     let S = step .ensures .0 in (
       record {
         counts = S .counts;
@@ -158,7 +223,7 @@ returns-3 c =
             own-done (args .table .now) (args .n) (args .group) (args .s) (args .regs .now) (args .cells .now) (args .log .now) (args .saved .now) (args .openers .now)
             (args .global .now) (args .shared .now) (args .masks .now) (step .result) _ (R .inside) L z en G _ _ _ _ S
             (R .own-asks no-global .known) no-global no-barrier;
-        regs-are = S .regs-are;
+        regs-are = record { numbered = λ e. absurd (no-global (omega arith) (omega arith)); others = λ f. S .regs-are };
         saved-are = S .saved-are;
         openers-are = S .openers-are;
       },
@@ -171,13 +236,16 @@ group-row-spec =
     tie.close
     (tie.spec
     (λ c. search needs) (λ c. search needs) (λ c. search needs) (λ c. search needs) (λ c. search needs)
-    (λ c κs. search needs) (λ c. search needs) (λ c. search needs) (λ c. search needs) (λ c κs. search needs)
+    (λ c κs. search needs)
+    launch-row-requires
+    returns
+    (λ c. search needs) (λ c. search needs) (λ c. search needs) (λ c κs. search needs)
     global-row-requires
     (λ c. search needs) (λ c. search needs) (λ c. search needs)
-    returns
+    returns-2
     step-requires
     after-barrier-requires
     (λ c. search needs) (λ c. search needs) (λ c. search needs) (λ c. search needs)
-    returns-2
+    returns-3
     (λ c. search needs) (λ c. search needs) (λ c. search needs)
-    returns-3)
+    returns-4)
