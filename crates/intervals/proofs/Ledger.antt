@@ -160,7 +160,7 @@ module _ (whole : List Interval) (lent : List ℕ) (rest : Intervals) (earlier r
   in-use : k ≤ 1024
   in-use = unfold inUse in omega arith
 
-  rows-word : getD records (k * 3 + 1) 0 ≡ B .before
+  pub rows-word : getD records (k * 3 + 1) 0 ≡ B .before
   rows-word = ap (λ l. getD l (k * 3 + 1) 0) (B .words) ∙ get-word (B .finished) k (B .count) (B .start ∷ B .before ∷ B .cost ∷ behind) 1
 
   cost-word : getD records (k * 3 + 2) 0 ≡ B .cost

@@ -35,7 +35,7 @@ use Rattle.layout.proofs.GlobalTurn.{group-part-masks}
 use Rattle.banks.specs.Counting.{Older}
 use Rattle.banks.specs.Remembering.{Memo}
 use Rattle.intervals.specs.Records.{inUse, ended, released, costsUpTo, EndAsks, Ledger}
-use Rattle.intervals.proofs.Ledger.{endsHere, ledger-opens, ledger-words, ledger-conflicts, ledger-ends}
+use Rattle.intervals.proofs.Ledger.{endsHere, rows-word, ledger-opens, ledger-words, ledger-conflicts, ledger-ends}
 use Rattle.stepcounts.proofs.Tallies.{over-zeros}
 use Rattle.placing.specs.Kinds.{kindsPlaced}
 use Rattle.placing.proofs.Stretches.{put-behind, put-before, put-front, counts-put}
@@ -65,6 +65,17 @@ pub runs-split : (T : Table) (Z : Sizes) (limit j g : ℕ) (s : LockState) → r
 unfolding runsFrom later
 runs-split T Z limit zero g s = refl
 runs-split T Z limit (suc j) g s = refl
+
+-- There is none behind a group that has not passed, nor behind the last one.
+pub later-stopped : (T : Table) (Z : Sizes) (limit j g : ℕ) (s : LockState) → isPassed (groupResult T limit (runAt Z g s) .verdict) ≡ false
+    → later T Z limit j g s ≡ []
+unfolding later
+later-stopped T Z limit zero g s e = refl
+later-stopped T Z limit (suc j) g s e = ap (λ b. cond b (runsFrom T Z limit j (suc g) (startBehind T Z limit g s)) []) e
+
+pub later-last : (T : Table) (Z : Sizes) (limit j g : ℕ) (s : LockState) → j ≡ 0 → later T Z limit j g s ≡ []
+unfolding later
+later-last T Z limit j g s e = ap (λ i. later T Z limit i g s) e
 
 -- One more behind others.
 joined-more : {A : Type 0} (f : GroupRun → List A) (us : List GroupRun) (u : GroupRun) → joined (map f (us ++ (u ∷ []))) ≡ joined (map f us) ++ f u
@@ -200,6 +211,13 @@ module _ (table : List ℕ) (Z : Sizes) (limit : ℕ) (all lent : List ℕ) (j g
 
     sizedₛ : Sized L s
     sizedₛ = P .start .sized
+
+    -- the interval that goes on began no later
+    pub ledger-began : getD records′ (inUse (r .barriers + g) * 3 + 1) 0 ≤ r .rows
+    ledger-began =
+        let led = came .1 .1 in
+        let word = rows-word whole lent (followed (started (came .1 .0)) more) (r .barriers + g) (r .rows) records′ led in
+        omega (arith, word, led .began)
 
     -- all cells
     pub cells-long-after : length cells′ ≡ length cells

@@ -2,3 +2,4 @@ mod Stretches
 mod Between
 mod Launching
 mod LaunchStart
+mod Turns

@@ -17,7 +17,7 @@ use Rattle.layout.specs.Views.{part, putPart}
 use Rattle.layout.specs.Shared.{groupsPerCell, groupWords}
 use Rattle.banks.specs.Counting.{Older}
 use Rattle.banks.specs.Remembering.{Memo}
-use Rattle.intervals.specs.Records.{inUse, ended, costsUpTo, EndAsks}
+use Rattle.intervals.specs.Records.{inUse, begun, ended, costsUpTo, EndAsks}
 use Rattle.placing.specs.Kinds.{kindsPlaced}
 use Rattle.grouprun.specs.declared.Ended.{Ended}
 use Rattle.grouprun.specs.Groups.{GroupRan, SomeStart}
@@ -103,3 +103,19 @@ pub record LaunchIs (table : List ℕ) (Z : Sizes) (limit : ℕ) (all lent : Lis
   pub log-is : log ≡ launchWords (lockstep (rowsOf table) Z all limit .state)
   pub records-are : records ≡ over (recordWords (intervalRecords (rowsOf table) Z all limit)) lent
   pub steps-are : steps ≡ over (stepsByLaunch (rowsOf table) Z all limit) (replicate 256 0)
+
+-- The sizes of a launch, by its numbers and its global cells.
+abbrev pub sizesBy : (n groups k : ℕ) → (global : List ℕ) → Sizes
+sizesBy n groups k global = record { threads = n; cells = k; groups = groups; global = length global }
+
+-- The buffers at the launch: nothing is logged or counted, and the first record is begun.
+pub record Fresh (k : ℕ) (global log own shared masks records steps stamps memo : List ℕ) : Type 0 where
+  pub log-empty : log ≡ replicate (length log) 0
+  pub own-sized : length own ≡ logPerCell * k
+  pub shared-sized : length shared ≡ logPerCell * length global
+  pub masks-sized : length masks ≡ groupsPerCell * length global
+  pub masks-empty : masks ≡ replicate (length masks) 0
+  pub begun-once : records ≡ begun 0 0 0 records
+  pub steps-empty : steps ≡ replicate 256 0
+  pub older : Older 1 stamps
+  pub remembered : Memo memo

@@ -4,7 +4,7 @@ ghost use mathlib.Core.List.{_++_};
 ghost use Prim.Native.Nat.{_+_, _*_, _<_, _≤_};
 ghost use lib.ListN.{length};
 ghost use Rattle.spec.specs.Answers.{isPassed};
-ghost use Rattle.launchrun.specs.Launches.{TurnAsks, TurnDone, CloseAsks, Closed, LaunchAsks, LaunchIs};
+ghost use Rattle.launchrun.specs.Launches.{TurnAsks, TurnDone, CloseAsks, Closed, LaunchAsks, LaunchIs, Fresh, sizesBy};
 
 // The outcome of a launch, and the group that it ended in.
 pub struct Ran {
@@ -108,4 +108,167 @@ fn close(
         conflicts: conflicts,
     };
     Ran { outcome, group }
+}
+
+// The launch number of a group's first thread.
+fn first_thread(group: u32, n: u32) -> usize
+    requires { ⌜ (group < 8) × (n ≤ 32) ⌝ }
+    ensures { λ r. ⌜ r ≡ group * n ⌝ }
+{
+    let first = threadnumbers::InGroup { number: 0 };
+    let t = threadnumbers::in_launch(group, n, first);
+    t.number as usize
+}
+
+// The first cell of a group among all.
+fn first_cell(group: u32, k: usize) -> usize
+    requires { ⌜ (group < 8) × (k ≤ 1024) ⌝ }
+    ensures { λ r. ⌜ r ≡ group * k ⌝ }
+{
+    (group as usize) * k
+}
+
+// Group after group, up to one that has not passed.
+fn run_groups(
+    table: &[u8],
+    ends: &[u8; 256],
+    n: u32,
+    groups: u32,
+    k: usize,
+    limit: u32,
+    cells: &mut [u32],
+    global: &mut [u32],
+    log: &mut [u32],
+    own: &mut [u32],
+    shared: &mut [u32],
+    masks: &mut [u32],
+    records: &mut [u32],
+    counts: &mut [u32; 32],
+    steps: &mut [u32; 256],
+    stamps: &mut [u32; 1024],
+    memo: &mut [u32; 544],
+) -> Ran
+    requires { ⌜ LaunchAsks (now table) (now ends) n groups k limit (now cells) (now global) (now log) (now records)
+        × Fresh k (now global) (now log) (now own) (now shared) (now masks) (now records) (now steps) (now stamps) (now memo) ⌝ }
+    ensures { λ r. ⌜ LaunchIs (now (table .entry)) (sizesBy n groups k (now (global .entry))) limit (now (cells .entry) ++ now (global .entry)) (now (records .entry)) r
+        (now (cells .exit)) (now (global .exit)) (now (log .exit)) (now (records .exit)) (now (steps .exit)) ⌝ }
+{
+    let m = global.len();
+    let at = cells.len();
+    let total = at + m;
+    let mut g: u32 = 0;
+    let mut rows: u32 = 0;
+    let mut barriers: u32 = 0;
+    while g + 1 < groups {
+        let place = first_cell(g, k);
+        let by = first_thread(g, n);
+        let r = turn(
+            table,
+            ends,
+            n,
+            g,
+            limit,
+            rows,
+            barriers,
+            k,
+            total,
+            place,
+            by,
+            cells,
+            global,
+            log,
+            own,
+            shared,
+            masks,
+            records,
+            counts,
+            steps,
+            stamps,
+            memo,
+        );
+        let v = r.verdict;
+        if !passed(v) {
+            return close(log, shared, masks, records, m, total, at, g, r);
+        }
+        rows = r.rows;
+        barriers = r.barriers;
+        intervals::release(records, barriers + g, 0, rows);
+        g = g + 1;
+    }
+    let place = first_cell(g, k);
+    let by = first_thread(g, n);
+    let r = turn(
+        table,
+        ends,
+        n,
+        g,
+        limit,
+        rows,
+        barriers,
+        k,
+        total,
+        place,
+        by,
+        cells,
+        global,
+        log,
+        own,
+        shared,
+        masks,
+        records,
+        counts,
+        steps,
+        stamps,
+        memo,
+    );
+    close(log, shared, masks, records, m, total, at, g, r)
+}
+
+// The run of a launch. `cells` holds the own cells of all groups, k each, `log` eight words for each cell of the launch, the global ones too.
+pub fn run_launch(
+    table: &[u8],
+    ends: &[u8; 256],
+    n: u32,
+    groups: u32,
+    k: usize,
+    limit: u32,
+    cells: &mut [u32],
+    global: &mut [u32],
+    log: &mut [u32],
+    records: &mut [u32],
+    steps: &mut [u32; 256],
+) -> Ran
+    requires { ⌜ LaunchAsks (now table) (now ends) n groups k limit (now cells) (now global) (now log) (now records) ⌝ }
+    ensures { λ r. ⌜ LaunchIs (now (table .entry)) (sizesBy n groups k (now (global .entry))) limit (now (cells .entry) ++ now (global .entry)) (now (records .entry)) r
+        (now (cells .exit)) (now (global .exit)) (now (log .exit)) (now (records .exit)) (now (steps .exit)) ⌝ }
+{
+    let m = global.len();
+    let mut own: [u32; 5120] = [0; 5120];
+    let mut shared: [u32; 5120] = [0; 5120];
+    let mut masks: [u32; 3072] = [0; 3072];
+    let mut counts: [u32; 32] = [0; 32];
+    let mut stamps: [u32; 1024] = [0; 1024];
+    let mut memo: [u32; 544] = [0; 544];
+    placing::zero(log);
+    intervals::launch(records);
+    *steps = [0; 256];
+    run_groups(
+        table,
+        ends,
+        n,
+        groups,
+        k,
+        limit,
+        cells,
+        global,
+        log,
+        &mut own[..5 * k],
+        &mut shared[..5 * m],
+        &mut masks[..3 * m],
+        records,
+        &mut counts,
+        steps,
+        &mut stamps,
+        &mut memo,
+    )
 }
