@@ -5,6 +5,7 @@ use mathlib.Core.Logic.{_⊎_, inl, inr}
 use mathlib.Core.Bool.{true}
 use Prim.Native.Nat.{ℕ, _+_, _-_, _*_, _<_, _≤_}
 use native.Mathlib.Omega.{arith}
+use native.Mathlib.Decide.{ℕ-discrete}
 use lib.ListN.{length, getD}
 use Rattle.spec.specs.Op.{Op, opOf, opTable, CALC, LAUNCHTID, GLOBAL, MEM, BARRIER, value}
 use Rattle.spec.specs.Shape.{Shape, launchNumber}
@@ -19,7 +20,7 @@ use Rattle.layout.specs.declared.Access.the-variants.{Done, Stop}
 use Rattle.layout.specs.Represents.{Represents, After, Counts, movedOn, accessed}
 use Rattle.layout.specs.Running.{Steps}
 use Rattle.layout.specs.Views.{viewOf, ownFrom, alone, isOwnCalc, isOwnSpace, isOwnRow}
-use Rattle.layout.specs.Groups.{GroupStands, GroupAfter, SharedAfter}
+use Rattle.layout.specs.Groups.{GroupStands, GroupAfter, SharedAfter, SharedLeft}
 use Rattle.layout.specs.Counting.{StepsOn}
 use Rattle.layout.proofs.Parts.{part-size, own-within}
 use Rattle.layout.proofs.PlainRows.{plain-after}
@@ -95,19 +96,28 @@ module _ (table : List ℕ) (n group : ℕ) (s : State) (regs cells log saved op
         subst₂ (λ k c. After k (runRow T (alone k c) x view (x .op)) r regs′ cells′ log′ saved′ openers′) (sym en) own-count
         (S .done view (subst (λ k. Represents k view s regs cells log saved openers) en (G .own)))
 
-    pub own-done : byte ≤ 37 → (18 < byte → byte < 32 → ⊥) → (byte ≡ 37 → ⊥)
+    own-done : byte ≤ 37 → (18 < byte → byte < 32 → ⊥) → (byte ≡ 37 → ⊥)
         → GroupAfter L (runRow T L x z (x .op)) r regs′ cells′ log′ saved′ openers′ global shared masks
     own-done h f g =
         own-group L z s regs cells log saved openers global shared masks G T x (x .op) (ap isOwnRow op-here ∙ own-byte byte h f g) r regs′ cells′ log′ saved′ openers′
         alone-after
 
-    pub barrier-done : byte ≡ 37 → (shared′ : List ℕ) → SharedAfter s r shared shared′
+    barrier-done : byte ≡ 37 → (shared′ : List ℕ) → SharedAfter s r shared shared′
         → GroupAfter L (runRow T L x z (x .op)) r regs′ cells′ log′ saved′ openers′ global shared′ masks
     barrier-done e shared′ C =
         let is-barrier : x .op ≡ BARRIER = op-here ∙ ap opOf e ∙ byte-barrier in
         subst (λ o. GroupAfter L (runRow T L x z o) r regs′ cells′ log′ saved′ openers′ global shared′ masks) (sym is-barrier)
         (barrier-group L z s regs cells log saved openers global shared masks G T x r regs′ cells′ log′ saved′ openers′ shared′
         (subst (λ o. After (L .threads) (runRow T (alone (L .threads) (L .cells)) x view o) r regs′ cells′ log′ saved′ openers′) is-barrier alone-after) C)
+
+    -- by the byte
+    pub step-done : byte ≤ 37 → (18 < byte → byte < 32 → ⊥) → (shared′ : List ℕ) → SharedLeft byte s r shared shared′
+        → GroupAfter L (runRow T L x z (x .op)) r regs′ cells′ log′ saved′ openers′ global shared′ masks
+    step-done h f shared′ C = by (ℕ-discrete byte 37)
+      where
+        by : Dec (byte ≡ 37) → GroupAfter L (runRow T L x z (x .op)) r regs′ cells′ log′ saved′ openers′ global shared′ masks
+        by (yes e) = barrier-done e shared′ (C .0 e)
+        by (no g) = subst (λ w. GroupAfter L (runRow T L x z (x .op)) r regs′ cells′ log′ saved′ openers′ global w masks) (sym (C .1 g)) (own-done h f g)
 
   pub launch-done : L .group ≡ group → (d : ℕ) → d ≡ getD table (s .row * 4 + 1) 0 → LaunchRowAsks byte (getD table (s .row * 4 + 1) 0)
       → LaunchDone n group d s regs r regs′ → GroupAfter L (runRow T L x z (x .op)) r regs′ cells log saved openers global shared masks

@@ -3,10 +3,8 @@
 ghost use mathlib.Core.Path.{_≡_};
 ghost use Prim.Native.Nat.{_+_, _-_, _*_, _^_, _<_, _≤_};
 ghost use lib.ListN.{length, getD};
-ghost use Rattle.spec.specs.Limits.{logPerCell};
 ghost use Rattle.layout.specs.Represents.{Room, accessed};
 ghost use Rattle.layout.specs.Shared.{GlobalAsks};
-ghost use Rattle.layout.specs.Groups.{SharedAfter};
 ghost use Rattle.layout.specs.Counting.{Roomy, NextCounted};
 ghost use Rattle.banks.specs.Counting.{Older};
 ghost use Rattle.banks.specs.Remembering.{Memo};
@@ -56,21 +54,6 @@ fn global_row(
     after_access(c, s)
 }
 
-// Where a BARRIER was passed, the log of the global cells is cleared; the group masks stay.
-fn after_barrier(shared: &mut [u32], cells: usize, s: layout::State, r: layout::Next)
-    requires { ⌜ length (now shared) ≡ logPerCell * cells ⌝ }
-    ensures { λ _. ⌜ SharedAfter s r (now (shared .entry)) (now (shared .exit)) ⌝ }
-{
-    match r {
-        layout::Next::Go(z) => {
-            if s.barriers < z.barriers {
-                accesslog::clear(shared, cells);
-            }
-        }
-        layout::Next::Stop(_, _) => {}
-    }
-}
-
 pub fn group_row(
     table: &[u8],
     ends: &[u8; 256],
@@ -111,13 +94,16 @@ pub fn group_row(
         let a = step::index(table[row * 4 + 2]);
         return global_row(regs, global, shared, masks, n, group, op, d, a, s);
     }
-    let r = step::step(
+    let count = global.len();
+    step::step(
         table,
         ends,
         n,
         regs,
         cells,
         log,
+        shared,
+        count,
         saved,
         openers,
         counts,
@@ -126,9 +112,5 @@ pub fn group_row(
         records,
         group,
         s,
-    );
-    if op == 37 {
-        after_barrier(shared, global.len(), s, r);
-    }
-    r
+    )
 }

@@ -31,3 +31,7 @@ GroupAfter L (stops v z) r regs cells log saved openers global shared masks =
 abbrev pub SharedAfter : State → Next → (shared shared′ : List ℕ) → Type 0
 SharedAfter s (next.Go r) shared shared′ = shared′ ≡ cond (ltb (s .barriers) (r .barriers)) (replicate (length shared) 0) shared
 SharedAfter s (next.Stop v r) shared shared′ = shared′ ≡ shared
+
+-- By the row's op: only a BARRIER touches it.
+abbrev pub SharedLeft : (op : ℕ) → State → Next → (shared shared′ : List ℕ) → Type 0
+SharedLeft op s r shared shared′ = (op ≡ 37 → SharedAfter s r shared shared′) × ((op ≡ 37 → ⊥) → shared′ ≡ shared)

@@ -8,6 +8,7 @@ ghost use Rattle.layout.specs.Constructs.{barrierNext, barrierLog};
 ghost use Rattle.layout.specs.Memory.{AccessAsks, InMemory, KeptBut, cellIn};
 ghost use Rattle.layout.specs.Represents.{Room, reached, accessed};
 ghost use Rattle.layout.specs.Running.{AccessDone, Ready, Steps};
+ghost use Rattle.layout.specs.Groups.{SharedAfter, SharedLeft};
 ghost use Rattle.layout.specs.Counting.{Roomy, StepsOn, NextCounted};
 ghost use Rattle.banks.specs.Counting.{Older};
 ghost use Rattle.banks.specs.Remembering.{Memo};
@@ -99,32 +100,47 @@ fn access_row(
     )
 }
 
-// After a barrier that lets the run go on: where all have passed it, the next interval starts at the row behind it.
-fn next_interval(records: &mut [u32], group: u32, s: layout::State, z: layout::State)
-    requires { ⌜ Room s × (group < 8) × RecordAsks (s .barriers + group) (s .rows) (now records) × (s .rows ≤ z .rows) × (z .row ≤ 256) ⌝ }
-    ensures { λ _. ⌜ now (records .exit) ≡ recordsAfter group 0 s (next.Go z) (now (records .entry)) ⌝ }
+// After a barrier that lets the run go on: where all have passed it, the next interval starts at the row behind it, and the log of the global cells is
+// cleared too; the group masks stay.
+fn next_interval(
+    records: &mut [u32],
+    shared: &mut [u32],
+    global: usize,
+    group: u32,
+    s: layout::State,
+    z: layout::State,
+)
+    requires { ⌜ Room s × (group < 8) × RecordAsks (s .barriers + group) (s .rows) (now records) × (s .rows ≤ z .rows) × (z .row ≤ 256)
+        × (length (now shared) ≡ logPerCell * global) ⌝ }
+    ensures { λ _. ⌜ (now (records .exit) ≡ recordsAfter group 0 s (next.Go z) (now (records .entry)))
+        × SharedAfter s (next.Go z) (now (shared .entry)) (now (shared .exit)) ⌝ }
 {
     if s.barriers < z.barriers {
         intervals::release(records, s.barriers + group, z.row as u32, z.rows);
+        accesslog::clear(shared, global);
     }
 }
 
 fn barrier_row(
     log: &mut [u32],
+    shared: &mut [u32],
     records: &mut [u32],
     cells: usize,
+    global: usize,
     n: u32,
     group: u32,
     s: layout::State,
 ) -> layout::Next
     requires { ⌜ Room s × (1 ≤ n) × (n ≤ 32) × (group < 8) × (length (now log) ≡ logPerCell * cells)
-        × RecordAsks (s .barriers + group) (s .rows) (now records) ⌝ }
+        × RecordAsks (s .barriers + group) (s .rows) (now records)
+        × (length (now shared) ≡ logPerCell * global) ⌝ }
     ensures { λ r. ⌜ (r ≡ barrierNext n s) × (now (log .exit) ≡ barrierLog n s cells (now (log .entry)))
-        × (now (records .exit) ≡ recordsAfter group 0 s r (now (records .entry))) ⌝ }
+        × (now (records .exit) ≡ recordsAfter group 0 s r (now (records .entry)))
+        × SharedAfter s r (now (shared .entry)) (now (shared .exit)) ⌝ }
 {
     match constructs::barrier_row(log, cells, n, s) {
         layout::Next::Go(z) => {
-            next_interval(records, group, s, z);
+            next_interval(records, shared, global, group, s, z);
             layout::Next::Go(z)
         }
         layout::Next::Stop(v, z) => layout::Next::Stop(v, z),
@@ -139,6 +155,8 @@ pub fn step(
     regs: &mut [u32; 512],
     cells: &mut [u32],
     log: &mut [u32],
+    shared: &mut [u32],
+    global: usize,
     saved: &mut [u32; 8],
     openers: &mut [usize; 8],
     counts: &mut [u32; 32],
@@ -150,13 +168,15 @@ pub fn step(
 ) -> layout::Next
     requires { ⌜ Ready (now table) (now ends) n s (now regs) (now cells) (now log) (now saved) (now openers)
         × Roomy (s .mask) (s .since + 1) (now counts) × Older (s .rows + 1) (now stamps) × Memo (now memo)
-        × (group < 8) × RecordAsks (s .barriers + group) (s .rows) (now records) ⌝ }
+        × (group < 8) × RecordAsks (s .barriers + group) (s .rows) (now records)
+        × (length (now shared) ≡ logPerCell * global) ⌝ }
     ensures { λ r. ⌜ Steps (now (table .entry)) n s
         (now (regs .entry)) (now (cells .entry)) (now (log .entry)) (now (saved .entry)) (now (openers .entry)) r
         (now (regs .exit)) (now (cells .exit)) (now (log .exit)) (now (saved .exit)) (now (openers .exit))
         × NextCounted (getD (now (table .entry)) (s .row * 4) 0) s r (now (counts .entry)) (now (counts .exit))
         × RowRecorded (getD (now (table .entry)) (s .row * 4) 0) n group (cellDue (now (table .entry)) s (now (regs .entry))) s r
-        (now (records .entry)) (now (records .exit)) (now (stamps .exit)) (now (memo .exit)) ⌝ }
+        (now (records .entry)) (now (records .exit)) (now (stamps .exit)) (now (memo .exit))
+        × SharedLeft (getD (now (table .entry)) (s .row * 4) 0) s r (now (shared .entry)) (now (shared .exit)) ⌝ }
 {
     let row = s.row;
     let op = table[row * 4];
@@ -188,5 +208,5 @@ pub fn step(
         let z = constructs::construct_row(regs, saved, openers, op, a, end, s);
         return layout::Next::Go(stepcounts::settle(counts, op, s.mask, z));
     }
-    barrier_row(log, records, cells.len(), n, group, s)
+    barrier_row(log, shared, records, cells.len(), global, n, group, s)
 }

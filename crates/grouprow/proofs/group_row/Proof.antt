@@ -14,7 +14,7 @@ use Rattle.layout.proofs.Saving.{slots-kept}
 use Rattle.stepcounts.proofs.NextCounts.{counts-on}
 use Rattle.step.proofs.Registers.{regs-accessed}
 use Rattle.step.proofs.Recorded.{recorded-plain}
-use Rattle.grouprow.proofs.RowKinds.{own-done, barrier-done, launch-done, global-done, accessed-counts, accessed-free}
+use Rattle.grouprow.proofs.RowKinds.{step-done, launch-done, global-done, accessed-counts, accessed-free}
 use Rattle.grouprow.specs.Rows.{Numbered}
 use borrow.Author.Needs.{needs}
 use Rattle.grouprow.proofs.group_row.Statement.{statement}
@@ -147,12 +147,12 @@ returns-2 c =
 
 step-requires : tie.Need-step-requires
 step-requires c κs =
-    let start = c .before .before .before .before .before .before .before .before .before .before .before .before .before .before .before .before .before .before in
+    let start = c .before .before .before .before .before .before .before .before .before .before .before .before .before .before .before .before .before .before .before in
     let R = start .pre .0 in
     let byte = getD (start .args .table .now) (start .args .s .row * 4) 0 in
     let no-global : 18 < byte → byte < 32 → ⊥ =
     ⊎-elim (λ w h l. omega (arith, ltb-false byte 32 (w .1 .left))) (λ w h l. omega (arith, w .left))
-    (c .before .before .before .before .before .before .before .before .before .if1 .came) in (
+    (c .before .before .before .before .before .before .before .before .before .before .if1 .came) in (
       record {
         some = R .some;
         inside = R .inside;
@@ -173,56 +173,26 @@ step-requires c κs =
       start .pre .3,
       R .group-few,
       start .pre .4,
+      R .sizes .shared-sized,
     )
-
-after-barrier-requires : tie.Need-after-barrier-requires
-after-barrier-requires c κs =
-    let far = c .before .before .before .before .before .before .before .before .before .before .before .before .before .before in
-    far .before .before .before .before .before .before .before .before .before .before .before .before .before .pre .0 .sizes .shared-sized
 
 returns-3 : tie.Need-returns-3
 returns-3 c =
-    let after-barrier = c .before .before .after-barrier in
-    let is-barrier = c .before .before .before .before .if4 .taken in
-    let step = c .before .before .before .before .before .before .before .before .before .before .before .step in
+    let step = c .before .before .before .before .before .before .before .before .step in
     let far = c .before .before .before .before .before .before .before .before .before .before .before .before .before .before in
-    let start = far .before .before .before .before .before .before .before .before .before .before .before .before .before .before .before .before in
-    let args = start .args in
-    let R = start .pre .0 in
-    let S = step .ensures .0 in (
-      record {
-        counts = S .counts;
-        done = λ L z en eg G.
-            barrier-done (args .table .now) (args .n) (args .group) (args .s) (args .regs .now) (args .cells .now) (args .log .now) (args .saved .now) (args .openers .now)
-            (args .global .now) (args .shared .now) (args .masks .now) (step .result) _ (R .inside) L z en G _ _ _ _ S is-barrier (after-barrier .last .0)
-            (after-barrier .ensures);
-        regs-are = record { numbered = λ e. absurd (omega (arith, is-barrier)); others = λ f. S .regs-are };
-        saved-are = S .saved-are;
-        openers-are = S .openers-are;
-      },
-      step .ensures .1,
-      step .ensures .2,
-    )
-
-returns-4 : tie.Need-returns-4
-returns-4 c =
-    let no-barrier = c .if4 .left in
-    let step = c .before .before .before .before .before .before .before .step in
-    let far = c .before .before .before .before .before .before .before .before .before .before .before .before .before .before in
-    let start = far .before .before .before .before .before .before .before .before .before .before .before .before in
+    let start = far .before .before .before .before .before .before .before .before .before .before .before .before .before .before in
     let args = start .args in
     let R = start .pre .0 in
     let byte = getD (args .table .now) (args .s .row * 4) 0 in
     let no-global : 18 < byte → byte < 32 → ⊥ =
-    ⊎-elim (λ w h l. omega (arith, ltb-false byte 32 (w .1 .left))) (λ w h l. omega (arith, w .left))
-    (c .before .before .before .before .before .before .before .before .before .before .before .before .before .before .before .before .before .if1 .came) in
+    ⊎-elim (λ w h l. omega (arith, ltb-false byte 32 (w .1 .left))) (λ w h l. omega (arith, w .left)) (far .before .before .before .before .before .if1 .came) in
     let S = step .ensures .0 in (
       record {
         counts = S .counts;
         done = λ L z en eg G.
-            own-done (args .table .now) (args .n) (args .group) (args .s) (args .regs .now) (args .cells .now) (args .log .now) (args .saved .now) (args .openers .now)
+            step-done (args .table .now) (args .n) (args .group) (args .s) (args .regs .now) (args .cells .now) (args .log .now) (args .saved .now) (args .openers .now)
             (args .global .now) (args .shared .now) (args .masks .now) (step .result) _ (R .inside) L z en G _ _ _ _ S
-            (R .own-asks no-global .known) no-global no-barrier;
+            (R .own-asks no-global .known) no-global _ (step .ensures .3);
         regs-are = record { numbered = λ e. absurd (no-global (omega arith) (omega arith)); others = λ f. S .regs-are };
         saved-are = S .saved-are;
         openers-are = S .openers-are;
@@ -244,8 +214,5 @@ group-row-spec =
     (λ c. search needs) (λ c. search needs) (λ c. search needs)
     returns-2
     step-requires
-    after-barrier-requires
     (λ c. search needs) (λ c. search needs) (λ c. search needs) (λ c. search needs)
-    returns-3
-    (λ c. search needs) (λ c. search needs) (λ c. search needs)
-    returns-4)
+    returns-3)

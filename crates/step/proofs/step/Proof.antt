@@ -1,5 +1,5 @@
 -- `step::step` meets its contract. Assumes nothing.
-use mathlib.Core.Path.{_≡_, sym, ap, _∙_, subst, subst₂}
+use mathlib.Core.Path.{_≡_, refl, sym, ap, _∙_, subst, subst₂}
 use mathlib.Core.Logic.{inl, inr}
 use Prim.Native.Nat.{_*_, _^_, _<_, _≤_}
 use native.Mathlib.Omega.{arith}
@@ -39,7 +39,7 @@ compute-row-requires c κs =
     let b = c .before .before .index3 in
     let a = c .before .before .before .before .index2 in
     let d = c .before .before .before .before .before .before .index in
-    let start = c .before .before .before .before .before .before .before .before .before .before .before .before .before in (
+    let start = c .before .before .before .before .before .before .before .before .before .before .before .before .before .before in (
       few start,
       a .ensures .1,
       b .ensures .1,
@@ -54,7 +54,7 @@ returns c =
     let b = c .before .before .before .before .index3 in
     let a = c .before .before .before .before .before .before .index2 in
     let d = c .before .before .before .before .before .before .before .before .index in
-    let start = c .before .before .before .before .before .before .before .before .before .before .before .before .before .before .before in
+    let start = c .before .before .before .before .before .before .before .before .before .before .before .before .before .before .before .before in
     let args = start .args in
     let table = args .table .now in
     let regs = args .regs .now in
@@ -87,6 +87,7 @@ returns c =
       recorded-plain code (args .n) (args .group) _ (args .s) (args .records .now) (args .stamps .now) (args .memo .now) (next.Go (c .moved .result)) _
           (λ h l. omega (arith, computes)) (start .pre .2) (start .pre .3)
           (sym (after-plain (args .group) (args .s) (c .moved .result) (args .records .now) (ap (λ z. z .barriers) (c .moved .ensures)))),
+      ((λ e. absurd (omega (arith, computes))), (λ e. refl)),
     )
 
 access-row-requires : tie.Need-access-row-requires
@@ -96,7 +97,7 @@ access-row-requires c κs =
     let a = c .before .before .before .before .before .before .before .before .before .before .index2 in
     let at-index = c .before .before .before .before .before .before .before .before .before .before .before .before in
     let d = at-index .index in
-    let start = at-index .before .before .before .before .before .before .before in
+    let start = at-index .before .before .before .before .before .before .before .before in
     let pre = start .pre .0 in
     let q = pre .asks .accesses no-computing accesses in (
       pre .room,
@@ -125,7 +126,7 @@ returns-2 c =
     let a = at-access-row .before .before .before .before .before .before .before .before .before .before .before .index2 in
     let at-index = at-access-row .before .before .before .before .before .before .before .before .before .before .before .before .before in
     let d = at-index .index in
-    let start = at-index .before .before .before .before .before .before .before in
+    let start = at-index .before .before .before .before .before .before .before .before in
     let args = start .args in
     let table = args .table .now in
     let saved = args .saved .now in
@@ -146,6 +147,7 @@ returns-2 c =
       },
       counts-on code (args .s) (access-row .result) (args .counts .now) accesses (start .pre .1 .size) (access-row .ensures .2),
       recorded-at (args .s) _ _ _ _ _ _ _ _ _ _ _ _ (args .regs .now) (d .ensures .0) (a .ensures .0) (access-row .ensures .3),
+      ((λ e. absurd (omega (arith, accesses))), (λ e. refl)),
     )
 
 construct-row-requires : tie.Need-construct-row-requires
@@ -155,7 +157,7 @@ construct-row-requires c κs =
     let no-access = at-index4 .before .before .before .if2 .left in
     let at-index2 = at-index4 .before .before .before .before .before .before .before in
     let a = at-index2 .index2 in
-    let pre = at-index2 .before .before .before .before .before .before .before .before .before .pre .0 in (
+    let pre = at-index2 .before .before .before .before .before .before .before .before .before .before .pre .0 in (
       pre .room,
       at-index4 .index4 .ensures .1,
       no-access,
@@ -171,7 +173,7 @@ construct-row-requires c κs =
 settle-requires : tie.Need-settle-requires
 settle-requires c κs =
     let o = c .before .construct-row in
-    let start = c .before .before .before .before .before .before .before .before .before .before .before .before .before .before .before .before .before .before .before .before .before in
+    let start = c .before .before .before .before .before .before .before .before .before .before .before .before .before .before .before .before .before .before .before .before .before .before in
     let since = done-since (o .ensures) in
     (omega (arith, since), subst (λ k. Roomy (start .args .s .mask) k (start .args .counts .now)) (sym since) (start .pre .1))
 
@@ -184,7 +186,7 @@ returns-3 c =
     let no-access = at-index4 .before .before .before .if2 .left in
     let at-index2 = at-index4 .before .before .before .before .before .before .before in
     let a = at-index2 .index2 in
-    let start = at-index2 .before .before .before .before .before .before .before .before .before in
+    let start = at-index2 .before .before .before .before .before .before .before .before .before .before in
     let args = start .args in
     let pre = start .pre .0 in
     let table = args .table .now in
@@ -218,14 +220,15 @@ returns-3 c =
       recorded-plain code (args .n) (args .group) _ (args .s) (args .records .now) (args .stamps .now) (args .memo .now) (next.Go (c .settle .result)) _
           (λ h l. omega (arith, no-access)) (start .pre .2) (start .pre .3)
           (sym (after-plain (args .group) (args .s) (c .settle .result) (args .records .now) same-barriers)),
+      ((λ e. absurd (omega (arith, constructs))), (λ e. refl)),
     )
 
 returns-4 : tie.Need-returns-4
 returns-4 c =
-    let at-barrier-row = c .before .before .before .before in
+    let at-barrier-row = c .before .before .before .before .before .before in
     let barrier-row = at-barrier-row .barrier-row in
-    let no-construct = at-barrier-row .before .before .before .if3 .left in
-    let start = at-barrier-row .before .before .before .before .before .before .before .before .before .before .before .before .before .before .before .before .before in
+    let no-construct = at-barrier-row .before .before .before .before .if3 .left in
+    let start = at-barrier-row .before .before .before .before .before .before .before .before .before .before .before .before .before .before .before .before .before .before .before in
     let args = start .args in
     let table = args .table .now in
     let regs = args .regs .now in
@@ -249,6 +252,7 @@ returns-4 c =
       counts-barrier code (args .n) (args .s) (barrier-row .result) (args .counts .now) e (start .pre .1 .size) (barrier-row .ensures .0),
       recorded-plain code (args .n) (args .group) _ (args .s) (args .records .now) (args .stamps .now) (args .memo .now) (barrier-row .result) _
           (λ h l. omega (arith, e)) (start .pre .2) (start .pre .3) (barrier-row .ensures .2),
+      ((λ w. barrier-row .ensures .3), (λ f. absurd (f e))),
     )
 
 pub step-spec : {M : Type 1} → statement M
@@ -268,5 +272,5 @@ step-spec =
     construct-row-requires
     settle-requires
     returns-3
-    (λ c κs. search needs) (λ c. search needs) (λ c. search needs)
+    (λ c κs. search needs) (λ c. search needs) (λ c. search needs) (λ c. search needs)
     returns-4)
