@@ -56,11 +56,11 @@ pub puts-same : (d : ℕ) (F G : ℕ → ℕ) (regs ys : List ℕ) → Puts d F 
 puts-same d F G regs ys P same = record { few = P .few; size = P .size; below = λ j h. P .below j h ∙ same j h; above = P .above }
 
 -- A lane, by whether it is on.
-pub given-on : (on : ℕ) (v : List ℕ) (d : ℕ) (regs : List ℕ) (t : ℕ) → on ≡ 1 → getD v t 0 ≡ given on v d regs t
-given-on on v d regs t e = sym (rw (eq-eqb on 1 e))
+pub given-on : (on x d : ℕ) (regs : List ℕ) (t : ℕ) → on ≡ 1 → x ≡ given on x d regs t
+given-on on x d regs t e = sym (rw (eq-eqb on 1 e))
 
-pub given-off : (on : ℕ) (v : List ℕ) (d : ℕ) (regs : List ℕ) (t : ℕ) → (on ≡ 1 → ⊥) → lane d regs t ≡ given on v d regs t
-given-off on v d regs t n = sym (rw (ne-eqb on 1 n))
+pub given-off : (on x d : ℕ) (regs : List ℕ) (t : ℕ) → (on ≡ 1 → ⊥) → lane d regs t ≡ given on x d regs t
+given-off on x d regs t n = sym (rw (ne-eqb on 1 n))
 
 -- Every bit of 2 ^ n - 1 is 1.
 all-bits : (j t : ℕ) → (2 ^ (suc j + t) - 1) / 2 ^ t % 2 ≡ 1

@@ -1,4 +1,4 @@
--- The values of a computing row: SET, TID, COUNT and the launch number, and the ops that read two registers. Assumes nothing.
+-- The values of a computing row: SET, TID and COUNT, and the ops that read two registers. Assumes nothing.
 use mathlib.Core.Path.{_≡_, refl, sym, _∙_, ap, ap₂}
 use mathlib.Core.List.{List}
 use Prim.Native.Nat.{ℕ, _+_, _*_, _<_, _≤_}
@@ -9,7 +9,7 @@ use Rattle.spec.specs.Op.{Calc, SET, TID, COUNT, LAUNCHTID, CALC, value, opTabl
 use Rattle.layout.specs.Memory.{ComputeAsks, lane}
 use Rattle.lanes.specs.Lanes.{Filled, zip}
 use Rattle.lanes.proofs.Ops.{OpIs, same-op}
-use Rattle.compute.specs.RowLanes.{CalcLanes, RowLanes}
+use Rattle.compute.specs.RowLanes.{RowLanes}
 
 module _ {op n a b : ℕ} {regs : List ℕ} where
   pub by-set : {k : ℕ} → op ≡ 1 → k ≡ a + 256 * b → RowLanes op n a b regs (replicate 32 k)
@@ -69,7 +69,3 @@ reads-there op d a b n c o A t u p q p′ q′ ep eq = by (ℕ-discrete op 1) (�
 pub launch-reads : (n a b : ℕ) → ReadsThere LAUNCHTID n a b
 unfolding value
 launch-reads n a b t u p q p′ q′ ep eq = refl
-
-pub launch-lanes : {group n a b : ℕ} {regs v : List ℕ} → Filled (λ t. group * n + t) v 32 → CalcLanes LAUNCHTID group n a b regs v
-unfolding value
-launch-lanes F = record { at = F .below }

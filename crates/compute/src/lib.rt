@@ -5,7 +5,7 @@ ghost use lib.ListN.{length, getD};
 ghost use Rattle.spec.specs.Op.{LAUNCHTID};
 ghost use Rattle.layout.specs.Memory.{ComputeAsks, lane, Puts, computedLane, Computed};
 ghost use Rattle.lanes.specs.Lanes.{Filled};
-ghost use Rattle.compute.specs.RowLanes.{picked, RowLanes};
+ghost use Rattle.compute.specs.RowLanes.{picked, numbered, RowLanes};
 
 // Register r of all threads.
 fn lanes_of(regs: &[u32; 512], r: usize) -> [u32; 32]
@@ -29,22 +29,6 @@ fn threads() -> [u32; 32]
     let mut t = 0;
     while t < 32 {
         v[t] = t as u32;
-        t += 1;
-    }
-    v
-}
-
-// Lane t holds the launch number of the group's thread t.
-fn launch_numbers(group: u32, n: u32) -> [u32; 32]
-    requires { ⌜ (group < 8) × (n ≤ 32) ⌝ }
-    ensures { λ v. ⌜ Filled (λ t. group * n + t) v 32 ⌝ }
-{
-    let mut v: [u32; 32] = [0; 32];
-    let mut t = 0;
-    while t < 32 {
-        let local = threadnumbers::InGroup { number: t as u32 };
-        let whole = threadnumbers::in_launch(group, n, local);
-        v[t] = whole.number;
         t += 1;
     }
     v
@@ -127,16 +111,33 @@ pub fn compute_row(regs: &mut [u32; 512], n: u32, mask: u32, op: u8, d: usize, a
     put(regs, d, v, bits_of(mask));
 }
 
+// The launch numbers of the group's threads go to the lanes of register d whose bit of `on` is 1. This loop is its own: were `put` called
+// from here as well, the compiler would no longer inline it into the run's loop, and every masked computing row would take twice as long.
+fn put_numbers(regs: &mut [u32; 512], group: u32, n: u32, d: usize, on: u32)
+    requires { ⌜ (group < 8) × (n ≤ 32) × (d < 16) × (length (now regs) ≡ 512) ⌝ }
+    ensures { λ _. ⌜ Puts d (numbered group n on d (now (regs .entry))) (now (regs .entry)) (now (regs .exit)) 32 ⌝ }
+{
+    let mut t = 0;
+    while t < 32 {
+        let local = threadnumbers::InGroup { number: t as u32 };
+        let whole = threadnumbers::in_launch(group, n, local);
+        let i = d * 32 + t;
+        let old = regs[i];
+        regs[i] = if (on >> t) % 2 == 1 {
+            whole.number
+        } else {
+            old
+        };
+        t += 1;
+    }
+}
+
 // A row of the launch number, whose byte no table has yet. It stores as every computing row does.
 pub fn launch_row(regs: &mut [u32; 512], group: u32, n: u32, mask: u32, d: usize)
     requires { ⌜ (group < 8) × (n ≤ 32) × (d < 16) × (length (now regs) ≡ 512) ⌝ }
     ensures { λ _. ⌜ Puts d (computedLane LAUNCHTID group n mask d 0 0 (now (regs .entry))) (now (regs .entry)) (now (regs .exit)) 32 ⌝ }
 {
-    let numbers = launch_numbers(group, n);
     let full = masks::all(n);
-    if mask == full {
-        put_all(regs, d, numbers);
-        return;
-    }
-    put(regs, d, numbers, bits_of(mask));
+    let on = if mask == full { 4294967295 } else { mask };
+    put_numbers(regs, group, n, d, on);
 }

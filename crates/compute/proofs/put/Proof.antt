@@ -22,8 +22,8 @@ loop-again c =
     let F = picked (args .t3) (args .t4) (args .d) regs in
     puts-more (args .d) F regs (turn .regs) (turn .t) (turn .inv) (c .if1 .regs) (search putting) (search putting) (search putting)
     (⊎-elim
-    (λ w. w .1 ∙ given-on _ (args .t3) (args .d) regs (turn .t) (w .0 .taken))
-    (λ w. w .1 ∙ puts-old (args .d) F regs (turn .regs) (turn .t) (turn .inv) ∙ given-off _ (args .t3) (args .d) regs (turn .t) (w .0 .left))
+    (λ w. w .1 ∙ given-on _ _ (args .d) regs (turn .t) (w .0 .taken))
+    (λ w. w .1 ∙ puts-old (args .d) F regs (turn .regs) (turn .t) (turn .inv) ∙ given-off _ _ (args .d) regs (turn .t) (w .0 .left))
     (c .if1 .came))
 
 pub put-spec : {M : Type 1} → statement M
