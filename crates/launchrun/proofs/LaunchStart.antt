@@ -3,10 +3,10 @@ use mathlib.Core.Path.{_≡_, refl, sym, _∙_, ap, ap₂, subst}
 use mathlib.Core.Logic.{_⊎_, inl, inr}
 use mathlib.Core.List.{List, [], _∷_, _++_, map}
 use mathlib.Core.Bool.{Bool, true, false}
-use Prim.Native.Nat.{ℕ, zero, suc, _+_, _-_, _*_, _<_, _≤_}
+use Prim.Native.Nat.{ℕ, zero, suc, _+_, _-_, _*_, _<_, _≤_, min}
 use native.Mathlib.Omega.{arith}
 use native.Mathlib.Nat.{suc-mul, mul-le-mul-right}
-use lib.ListN.{length, getD, replicate, take, drop, length-append, length-replicate, getD-replicate, List·getD-eq-default}
+use lib.ListN.{length, getD, replicate, take, drop, length-append, length-take, length-replicate, getD-replicate, List·getD-eq-default}
 use lib.Seq.{ext-getD, take-all, drop-append-seam}
 use Rattle.spec.specs.Access.{Mode, reads, writes, adds}
 use Rattle.spec.specs.Limits.{logPerCell, recordsLent, maxRecords}
@@ -18,7 +18,7 @@ use Rattle.spec.specs.Shape.{Sizes, Shape, shapeOf, total}
 use Rattle.spec.specs.Table.{Table, rowsOf}
 use Rattle.spec.specs.LockStep.{LockState, initialState}
 use Rattle.spec.specs.LaunchRun.{groupRuns, rowsLeft, runsFrom}
-use Rattle.spec.specs.Intervals.{Interval, Intervals, allOf, intervalsFrom, recordsOf, intervalRecords}
+use Rattle.spec.specs.Intervals.{Interval, Intervals, allOf, intervalsFrom, recordsOf, recordWords, intervalRecords}
 use Rattle.spec.proofs.Laws.{lt-or-le}
 use Rattle.allruns.proofs.LogRecord.{replicate-has}
 use Rattle.allruns.proofs.LaunchCounts.{runAt}
@@ -31,10 +31,13 @@ use Rattle.layout.proofs.LogBuffer.{empty-is}
 use Rattle.banks.specs.Counting.{Older}
 use Rattle.banks.specs.Remembering.{Memo}
 use Rattle.intervals.specs.Records.{begun, Ledger}
-use Rattle.intervals.proofs.Ledger.{ledger-start}
+use Rattle.intervals.proofs.Ledger.{ledger-start, over-begun}
+use Rattle.spec.specs.Entries.{over}
 use Rattle.grouprun.specs.Groups.{GroupStart, followed}
 use Rattle.grouprun.proofs.Recording.{intervals-start}
 use Rattle.placing.proofs.Logs.{empty-log-words, empty-group-words}
+use Rattle.launchrun.specs.declared.Ran.{Ran}
+use Rattle.launchrun.specs.Launches.{LaunchIs}
 use Rattle.launchrun.proofs.Launching.{Launched, later, intervalsOf, runs-split, part-front, zeros-more, empty-groups-masks}
 
 part-replicate : {A : Type 0} (d x : A) (a k t : ℕ) → a + k ≤ t → part a k (replicate t x) ≡ replicate k x
@@ -219,3 +222,34 @@ module _ (table : List ℕ) (Z : Sizes) (limit : ℕ) (cells global : List ℕ) 
           unfold intervalRecords groupRuns in
           (ap (λ us. recordsOf (maxRecords - 1) (joined (map (intervalsOf T limit) us))) (runs-split T Z limit j 0 s)
           ∙ (unfold joined allOf followed rowsLeft initialState in refl))
+
+-- ---- the buffers that a launch is run in
+
+pub zeros-long : (i k : ℕ) → i ≤ k → i ≡ length (take i (replicate {A = ℕ} k 0))
+zeros-long i k h = sym (length-take i (replicate k 0) ∙ (let n = length-replicate {A = ℕ} k 0 in let y : min i (length (replicate {A = ℕ} k 0)) ≡ i = omega (arith, n) in y))
+
+pub zeros-front : (i k : ℕ) → take i (replicate {A = ℕ} k 0) ≡ replicate (length (take i (replicate {A = ℕ} k 0))) 0
+zeros-front zero k = refl
+zeros-front (suc i) zero = refl
+zeros-front (suc i) (suc k) = ap (λ l. 0 ∷ l) (zeros-front i k)
+
+pub own-few : (groups k m : ℕ) → 1 ≤ groups → groups * k + m ≤ 1024 → k ≤ 1024
+own-few groups k m some few = let h : 1 * k ≤ groups * k = mul-le-mul-right k some in omega (arith, h)
+
+-- There is a record, so the words of the first one, with which the run began, are written over.
+some-words : (T : Table) (Z : Sizes) (all : List ℕ) (limit : ℕ) → 3 ≤ length (recordWords (intervalRecords T Z all limit))
+unfolding intervalRecords groupRuns joined allOf recordsOf recordWords
+some-words T Z all limit = rw (runs-split T Z limit (Z .groups - 1) 0 (initialState Z all)) (omega arith)
+
+pub lent-is : (table : List ℕ) (Z : Sizes) (limit : ℕ) (all lent begun-with : List ℕ) (r : Ran) (cells global log records steps : List ℕ)
+    → begun-with ≡ begun 0 0 0 lent → LaunchIs table Z limit all begun-with r cells global log records steps → LaunchIs table Z limit all lent r cells global log records steps
+lent-is table Z limit all lent begun-with r cells global log records steps e R =
+    let w = recordWords (intervalRecords (rowsOf table) Z all limit) in
+    record {
+      outcome-is = R .outcome-is;
+      group-is = R .group-is;
+      cells-are = R .cells-are;
+      log-is = R .log-is;
+      records-are = R .records-are ∙ ap (over w) e ∙ over-begun w lent (some-words (rowsOf table) Z all limit);
+      steps-are = R .steps-are;
+    }
