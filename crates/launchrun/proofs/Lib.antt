@@ -1,5 +1,5 @@
 mod Stretches
 mod Between
 mod Launching
-mod LaunchStart
+pub mod LaunchStart
 mod Turns

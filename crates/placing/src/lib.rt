@@ -6,7 +6,7 @@ ghost use Rattle.layout.specs.Views.{putPart};
 ghost use Rattle.placing.specs.Kinds.{kindPlaced, kindsPlaced, KindsAsk};
 
 // The first n words, from place `at` on.
-fn place_first(words: &[u32], n: usize, at: usize, to: &mut [u32])
+pub fn place_first(words: &[u32], n: usize, at: usize, to: &mut [u32])
     requires { ⌜ (n ≤ length (now words)) × (at + n ≤ length (now to)) ⌝ }
     ensures { λ _. ⌜ now (to .exit) ≡ putPart at (take n (now (words .entry))) (now (to .entry)) ⌝ }
 {

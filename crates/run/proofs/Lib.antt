@@ -1,3 +1,1 @@
-mod RowBytes
-mod Recording
-mod Going
+mod OneLaunch
