@@ -31,12 +31,6 @@ abbrev μ-loop : tie.MeasureT-loop
 μ-loop table ends n group limit rows barriers cells₀ log₀ global₀ shared₀ masks₀ records₀ counts₀ stamps₀ memo₀ count regs₀ saved₀ openers₀ s₀ cells log global shared masks records counts stamps memo regs saved openers s =
     limit - s .rows
 
-clear-requires : tie.Need-clear-requires Inv-loop μ-loop
-clear-requires c κs = c .before .before .before .before .before .before .before .before .pre .7 .log-sized
-
-clear-requires-2 : tie.Need-clear-requires-2 Inv-loop μ-loop
-clear-requires-2 c κs = c .before .before .before .before .before .before .before .before .before .before .before .before .pre .7 .shared-sized
-
 start-requires : tie.Need-start-requires Inv-loop μ-loop
 start-requires c κs = c .before .before .before .before .before .before .before .before .before .before .before .before .before .before .before .before .pre .2
 
@@ -275,8 +269,7 @@ run-group-spec =
     (tie.spec
     Inv-loop
     μ-loop
-    clear-requires
-    clear-requires-2
+    (λ c κs. search needs) (λ c κs. search needs)
     start-requires
     loop-holds
     finish-requires
