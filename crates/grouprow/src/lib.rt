@@ -86,13 +86,15 @@ pub fn group_row(
 {
     let row = s.row;
     let op = table[row * 4];
-    if 18 < op && op < 32 {
-        let d = step::index(table[row * 4 + 1]);
-        if op == 19 {
-            return launch_row(regs, n, group, d, s);
+    if 18 < op {
+        if op < 32 {
+            let d = step::index(table[row * 4 + 1]);
+            if op == 19 {
+                return launch_row(regs, n, group, d, s);
+            }
+            let a = step::index(table[row * 4 + 2]);
+            return global_row(regs, global, shared, masks, n, group, op, d, a, s);
         }
-        let a = step::index(table[row * 4 + 2]);
-        return global_row(regs, global, shared, masks, n, group, op, d, a, s);
     }
     let count = global.len();
     step::step(

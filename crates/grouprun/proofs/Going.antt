@@ -629,7 +629,8 @@ module _ (table ends : List ℕ) (n group limit : ℕ) (L : Shape) (o : LockResu
               (first-followed after-row more ∙ intervals-start T L (limit - s′ .rows) z ∙ sym row)
               (words ∙ after-more group (K .cost) s s′ records (omega (arith, grew)) ∙ ap (λ k. released (s .barriers + group) (s′ .row) k records) (one .rows-one)))
 
-      pub go-next : (s′ : State) → r ≡ next.Go s′ → Going table n group limit L o whole lent more s′ regs′ cells′ log′ saved′ openers′ global′ shared′ masks′ counts′ stamps′ memo′ records′
+      pub go-next : (s′ : State) → r ≡ next.Go s′ → Going table n group limit L o whole lent more s′ regs′ cells′ log′ saved′ openers′ global′ shared′ masks′
+          counts′ stamps′ memo′ records′
       go-next s′ e = by done refl stepped sims came
         where
           one : Counted s s′

@@ -406,7 +406,13 @@ module _ (table : List ℕ) (Z : Sizes) (limit : ℕ) (all lent : List ℕ) (j g
           later-unentered h l m i = keeps .groups .beside m i h (λ e. omega arith) ∙ P .unentered h (omega arith) m i
 
           own₁ : part (suc g * Z .cells) (Z .cells) cells′ ≡ part (suc g * Z .cells) (Z .cells) (z .cells)
-          own₁ = part-front (suc g * Z .cells) (Z .cells) cells′ global′ (omega (arith, cells-long-after, P .cells-long, own-before L₁ s₁ (next-sized Z g s z sizedₛ (ending .sized) keeps few-more)))
+          own₁ = part-front (suc g * Z .cells) (Z .cells) cells′ global′ (omega (
+            arith,
+            cells-long-after,
+            P .cells-long,
+            own-before L₁ s₁ (next-sized Z g s z sizedₛ (ending
+                .sized) keeps few-more),
+          ))
               ∙ ap (part (suc g * Z .cells) (Z .cells)) cells-after
 
     -- ---- the end

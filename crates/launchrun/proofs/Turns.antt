@@ -131,7 +131,8 @@ module _ (table ends : List ℕ) (n groups k limit : ℕ) (cells₀ global₀ lo
         next-is g′ eg records″ e =
             subst (λ i. Launched table Z limit (cells₀ ++ global₀) records₀ j′ i (r .rows) (r .barriers) cells′ global′ log′ masks′ records″ steps′ stamps′ memo′) (sym eg)
             (launched-next table Z limit (cells₀ ++ global₀) records₀ j g rows barriers cells global log masks records steps stamps memo P k total place by n refl total-is ep eb refl
-            r cells′ global′ log′ own′ shared′ masks′ records′ counts′ steps′ stamps′ memo′ D j′ ej (ap isPassed (sym same-verdict) ∙ pass) (A .few-groups) (A .few-threads) records″ e)
+            r cells′ global′ log′ own′ shared′ masks′ records′ counts′ steps′ stamps′ memo′ D j′ ej (ap isPassed (sym same-verdict) ∙ pass) (A .few-groups) (A
+            .few-threads) records″ e)
 
       -- what the release of its interval asks
       pub release-asks : getD records′ (inUse (r .barriers + g) * 3 + 1) 0 ≤ r .rows

@@ -3,7 +3,6 @@ use mathlib.Core.Path.{_≡_, sym, ap, _∙_, subst, subst₂}
 use mathlib.Core.Logic.{⊎-elim, inl}
 use Prim.Native.Nat.{ℕ, _-_, _*_, _^_, _<_, _≤_}
 use native.Mathlib.Omega.{arith}
-use borrow.Author.Tests.{ltb-true, ltb-false}
 use lib.ListN.{length, getD}
 use Rattle.masks.proofs.Words.{word-lt}
 use Rattle.layout.specs.declared.Access.the-variants.{Done}
@@ -51,7 +50,7 @@ returns c =
     let launch-row = c .launch-row in
     let is-launch = c .before .before .if3 .taken in
     let d = c .before .before .before .index in
-    let below = ltb-true _ _ (c .before .before .before .before .before .if2 .taken) in
+    let below = c .before .before .before .before .before .if2 .taken in
     let start = c .before .before .before .before .before .before .before .before .before .before .before .before .before .before .before in
     let args = start .args in
     let R = start .pre .0 in
@@ -84,7 +83,7 @@ global-row-requires c κs =
     let a = c .before .before .before .before .index2 in
     let no-launch = c .before .before .before .before .before .before .if3 .left in
     let d = c .before .before .before .before .before .before .before .index in
-    let below = ltb-true _ _ (c .before .before .before .before .before .before .before .before .before .if2 .taken) in
+    let below = c .before .before .before .before .before .before .before .before .before .if2 .taken in
     let above = c .before .before .before .before .before .before .before .before .before .before .if1 .taken in
     let start = c .before .before .before .before .before .before .before .before .before .before .before .before .before .before .before .before .before .before .before in
     let R = start .pre .0 in
@@ -113,7 +112,7 @@ returns-2 c =
     let a = c .before .before .before .before .before .before .before .before .before .before .before .index2 in
     let no-launch = c .before .before .before .before .before .before .before .before .before .before .before .before .before .if3 .left in
     let d = c .before .before .before .before .before .before .before .before .before .before .before .before .before .before .index in
-    let below = ltb-true _ _ (c .before .before .before .before .before .before .before .before .before .before .before .before .before .before .before .before .if2 .taken) in
+    let below = c .before .before .before .before .before .before .before .before .before .before .before .before .before .before .before .before .if2 .taken in
     let above = c .before .before .before .before .before .before .before .before .before .before .before .before .before .before .before .before .before .if1 .taken in
     let far = c .before .before .before .before .before .before .before .before .before .before .before .before .before .before in
     let start = far .before .before .before .before .before .before .before .before .before .before .before .before in
@@ -151,7 +150,7 @@ step-requires c κs =
     let R = start .pre .0 in
     let byte = getD (start .args .table .now) (start .args .s .row * 4) 0 in
     let no-global : 18 < byte → byte < 32 → ⊥ =
-    ⊎-elim (λ w h l. omega (arith, ltb-false byte 32 (w .1 .left))) (λ w h l. omega (arith, w .left))
+    ⊎-elim (λ w h l. omega (arith, w .1 .left)) (λ w h l. omega (arith, w .left))
     (c .before .before .before .before .before .before .before .before .before .before .if1 .came) in (
       record {
         some = R .some;
@@ -185,7 +184,7 @@ returns-3 c =
     let R = start .pre .0 in
     let byte = getD (args .table .now) (args .s .row * 4) 0 in
     let no-global : 18 < byte → byte < 32 → ⊥ =
-    ⊎-elim (λ w h l. omega (arith, ltb-false byte 32 (w .1 .left))) (λ w h l. omega (arith, w .left)) (far .before .before .before .before .before .if1 .came) in
+    ⊎-elim (λ w h l. omega (arith, w .1 .left)) (λ w h l. omega (arith, w .left)) (far .before .before .before .before .before .if1 .came) in
     let S = step .ensures .0 in (
       record {
         counts = S .counts;

@@ -22,13 +22,17 @@ use Rattle.grouprun.proofs.run_group.Statement.{statement}
 use Rattle.grouprun.proofs.run_group.Tie as tie
 
 abbrev Inv-loop : tie.InvT-loop
-Inv-loop table ends n group limit rows barriers cells₀ log₀ global₀ shared₀ masks₀ records₀ counts₀ stamps₀ memo₀ count regs₀ saved₀ openers₀ s₀ cells log global shared masks records counts stamps memo regs saved openers s =
+Inv-loop table ends n group limit rows barriers cells₀ log₀ global₀ shared₀ masks₀ records₀ counts₀ stamps₀ memo₀ count regs₀ saved₀ openers₀ s₀ cells log global
+    shared masks records counts
+    stamps memo regs saved openers s =
     (length cells ≡ length cells₀) × (length log ≡ length log₀) × (length global ≡ length global₀) × (length shared ≡ length shared₀)
     × (length masks ≡ length masks₀) × (length records ≡ length records₀)
     × GoesOn table n group limit rows barriers cells₀ global₀ masks₀ records₀ s regs cells log saved openers global shared masks counts stamps memo records
 
 abbrev μ-loop : tie.MeasureT-loop
-μ-loop table ends n group limit rows barriers cells₀ log₀ global₀ shared₀ masks₀ records₀ counts₀ stamps₀ memo₀ count regs₀ saved₀ openers₀ s₀ cells log global shared masks records counts stamps memo regs saved openers s =
+μ-loop table ends n group limit rows barriers cells₀ log₀ global₀ shared₀ masks₀ records₀ counts₀ stamps₀ memo₀ count regs₀ saved₀ openers₀ s₀ cells log global
+    shared masks records counts
+    stamps memo regs saved openers s =
     limit - s .rows
 
 start-requires : tie.Need-start-requires Inv-loop μ-loop
@@ -93,7 +97,8 @@ finish-requires c κs =
     let at-turn = c .before .before .before .before .before in
     let start = start-of at-turn in
     let args = start .args in
-    go-room (args .table .now) (args .ends .now) (args .n) (args .group) (args .limit) _ _ _ _ _ _ _ _ _ _ _ _ _ _ _ _ _ _ (going at-turn) (start .pre .0) (at-turn .loop .s .since) (omega arith) (start .pre .4)
+    go-room (args .table .now) (args .ends .now) (args .n) (args .group) (args .limit) _ _ _ _ _ _ _ _ _ _ _ _ _ _ _ _ _ _ (going at-turn) (start .pre .0) (at-turn .loop .s .since) (omega
+    arith) (start .pre .4)
 
 same-length : tie.Need-same-length Inv-loop μ-loop
 same-length c = let at-turn = c .before .before .before .before .before .before in at-turn .loop .inv .0
@@ -122,7 +127,8 @@ returns c =
     let inside = c .before .before .before .before .if1 .taken in
     let finish = c .finish in
     λ L z S whole lent more B.
-    go-spent (args .table .now) (args .ends .now) (args .n) (args .group) (args .limit) L _ whole lent more _ _ _ _ _ _ _ _ _ _ _ _ _ (at-turn .loop .inv .6 L z S whole lent more B) (start .pre .0) inside spent (finish .result) (finish .last .0)
+    go-spent (args .table .now) (args .ends .now) (args .n) (args .group) (args .limit) L _ whole lent more _ _ _ _ _ _ _ _ _ _ _ _ _ (at-turn .loop .inv .6 L z S whole lent more B) (start
+    .pre .0) inside spent (finish .result) (finish .last .0)
     (finish .ensures .0) (finish .ensures .1)
 
 group-row-requires : tie.Need-group-row-requires Inv-loop μ-loop
@@ -133,8 +139,10 @@ group-row-requires c κs =
     let unspent = c .before .before .before .before .before .before .before .before .before .before .before .before .if2 .left in
     let inside = c .before .before .before .before .before .before .before .before .before .before .before .before .before .before .if1 .taken in
     let G = going at-turn in (
-      go-ready (args .table .now) (args .ends .now) (args .n) (args .group) (args .limit) _ _ _ _ _ _ _ _ _ _ _ _ _ _ _ _ _ _ G (start .pre .0) inside unspent (start .pre .1) (start .pre .3) (start .pre .4) (sizes at-turn),
-      go-room (args .table .now) (args .ends .now) (args .n) (args .group) (args .limit) _ _ _ _ _ _ _ _ _ _ _ _ _ _ _ _ _ _ G (start .pre .0) (at-turn .loop .s .since + 1) (omega arith) (start .pre .4),
+      go-ready (args .table .now) (args .ends .now) (args .n) (args .group) (args .limit) _ _ _ _ _ _ _ _ _ _ _ _ _ _ _ _ _ _ G (start .pre .0) inside unspent (start .pre .1) (start .pre .3)
+          (start .pre .4) (sizes at-turn),
+      go-room (args .table .now) (args .ends .now) (args .n) (args .group) (args .limit) _ _ _ _ _ _ _ _ _ _ _ _ _ _ _ _ _ _ G (start .pre .0) (at-turn .loop .s .since + 1) (omega arith)
+          (start .pre .4),
       G .older,
       G .remembered,
       go-asks (args .table .now) (args .ends .now) (args .n) (args .group) (args .limit) _ _ _ _ _ _ _ _ _ _ _ _ _ _ _ _ _ _ G (start .pre .0) unspent (start .pre .4) (records-lent at-turn),
@@ -142,21 +150,27 @@ group-row-requires c κs =
 
 loop-less : tie.Need-loop-less Inv-loop μ-loop
 loop-less c =
-    let at-turn = c .before .before .before .before .before .before .before .before .before .before .before .before .before .before .before .before .before .before .before .before .before .before .before .before .before .before .before .before .before .before .before .before in
+    let at-turn = c .before .before .before .before .before .before .before .before .before .before .before .before .before .before .before .before .before .before .before .before .before
+    .before .before .before .before .before .before .before .before .before .before .before in
     let start = start-of at-turn in
     let args = start .args in
-    let unspent = c .before .before .before .before .before .before .before .before .before .before .before .before .before .before .before .before .before .before .before .before .before .before .before .before .before .before .before .before .if2 .left in
-    let C = subst (Counts (at-turn .loop .s)) (c .before .z .given .1) (c .before .before .before .before .before .before .before .before .before .before .before .before .before .before .before .group-row .ensures .0 .counts) in
+    let unspent = c .before .before .before .before .before .before .before .before .before .before .before .before .before .before .before .before .before .before .before .before .before
+    .before .before .before .before .before .before .before .if2 .left in
+    let C = subst (Counts (at-turn .loop .s)) (c .before .z .given .1) (c .before .before .before .before .before .before .before .before .before .before .before .before .before .before
+    .before .group-row .ensures .0 .counts) in
     omega (arith, C .rows-one, going at-turn .rows-most, unspent)
 
 loop-again : tie.Need-loop-again Inv-loop μ-loop
 loop-again c =
-    let at-turn = c .before .before .before .before .before .before .before .before .before .before .before .before .before .before .before .before .before .before .before .before .before .before .before .before .before .before .before .before .before .before .before .before in
+    let at-turn = c .before .before .before .before .before .before .before .before .before .before .before .before .before .before .before .before .before .before .before .before .before
+    .before .before .before .before .before .before .before .before .before .before .before in
     let start = start-of at-turn in
     let args = start .args in
     let row = c .before .before .before .before .before .before .before .before .before .before .before .before .before .before .before .group-row in
-    let unspent = c .before .before .before .before .before .before .before .before .before .before .before .before .before .before .before .before .before .before .before .before .before .before .before .before .before .before .before .before .if2 .left in
-    let inside = c .before .before .before .before .before .before .before .before .before .before .before .before .before .before .before .before .before .before .before .before .before .before .before .before .before .before .before .before .before .before .if1 .taken in
+    let unspent = c .before .before .before .before .before .before .before .before .before .before .before .before .before .before .before .before .before .before .before .before .before
+    .before .before .before .before .before .before .before .if2 .left in
+    let inside = c .before .before .before .before .before .before .before .before .before .before .before .before .before .before .before .before .before .before .before .before .before
+    .before .before .before .before .before .before .before .before .before .if1 .taken in
     let inv = at-turn .loop .inv in
     let kept = row .kept .1 .1 .1 .1 .1 in (
       kept .0 ∙ inv .0,
@@ -166,7 +180,8 @@ loop-again c =
       kept .1 .1 .1 .1 .0 ∙ inv .4,
       kept .1 .1 .1 .1 .1 .1 .1 .1 .1 .1 .0 ∙ inv .5,
       (λ L z S whole lent more B.
-          go-next (args .table .now) (args .ends .now) (args .n) (args .group) (args .limit) L _ whole lent more _ _ _ _ _ _ _ _ _ _ _ _ _ (inv .6 L z S whole lent more B) (start .pre .0) inside unspent (sizes at-turn .cells-few) (row .result)
+          go-next (args .table .now) (args .ends .now) (args .n) (args .group) (args .limit) L _ whole lent more _ _ _ _ _ _ _ _ _ _ _ _ _ (inv .6 L z S whole lent more B) (start .pre .0)
+          inside unspent (sizes at-turn .cells-few) (row .result)
           _ _ _ _ _ _ _ _ _ _ _ _ (row .ensures .0) (row .ensures .1) (row .ensures .2) _ (c .before .z .given .1)),
     )
 
@@ -187,45 +202,65 @@ stops c v s′ e L z S whole lent more B =
     let at-turn = c .before .before .before .before .before .before .before .before .before .before .before .before .before .before .before .before .before in
     let start = start-of at-turn in
     let args = start .args in
-    go-stops (args .table .now) (args .ends .now) (args .n) (args .group) (args .limit) L _ whole lent more _ _ _ _ _ _ _ _ _ _ _ _ _ (at-turn .loop .inv .6 L z S whole lent more B) (start .pre .0) (c .before .before .before .before .before .before .before .before .before .before .before .before .before .before .before .if1 .taken) (c .before .before .before .before .before .before .before .before .before .before .before .before .before .if2 .left)
+    go-stops (args .table .now) (args .ends .now) (args .n) (args .group) (args .limit) L _ whole lent more _ _ _ _ _ _ _ _ _ _ _ _ _ (at-turn .loop .inv .6 L z S whole lent more B) (start
+    .pre .0) (c .before .before .before .before .before .before .before .before .before .before .before .before .before .before .before .if1 .taken) (c .before .before .before .before
+    .before .before .before .before .before .before .before .before .before .if2 .left)
     (sizes at-turn .cells-few) (row .result) _ _ _ _ _ _ _ _ _ _ _ _ (row .ensures .0) (row .ensures .1) (row .ensures .2) v s′ e (start .pre .4)
 
 stop-requires : tie.Need-stop-requires Inv-loop μ-loop
 stop-requires c κs =
-    let S = start-of (c .before .before .before .before .before .before .before .before .before .before .before .before .before .before .before .before .before .before .before .before .before .before .before .before .before .before .before .before .before .before .before .before .before) .pre .11 in
-    let T = stops (c .before .before .before .before .before .before .before .before .before .before .before .before .before .before .before .before) _ _ (c .before .before .v .given .1) (S .shape) (S .state) (S .start) (S .whole) (S .lent) (S .more) (S .ledger) in
+    let S = start-of (c .before .before .before .before .before .before .before .before .before .before .before .before .before .before .before .before .before .before .before .before
+    .before .before .before .before .before .before .before .before .before .before .before .before .before) .pre .11 in
+    let T = stops (c .before .before .before .before .before .before .before .before .before .before .before .before .before .before .before .before) _ _ (c .before .before .v .given .1) (S
+    .shape) (S .state) (S .start) (S .whole) (S .lent) (S .more) (S .ledger) in
     (T .fits, T .room)
 
 finish-requires-2 : tie.Need-finish-requires-2 Inv-loop μ-loop
 finish-requires-2 c κs =
     let stop = c .before .stop in
-    let S = start-of (c .before .before .before .before .before .before .before .before .before .before .before .before .before .before .before .before .before .before .before .before .before .before .before .before .before .before .before .before .before .before .before .before .before .before .before) .pre .11 in
-    stops (c .before .before .before .before .before .before .before .before .before .before .before .before .before .before .before .before .before .before) _ _ (c .before .before .before .before .v .given .1) (S .shape) (S .state) (S .start) (S .whole) (S .lent) (S .more) (S .ledger) .rest (stop .last .0) (stop .ensures)
+    let S = start-of (c .before .before .before .before .before .before .before .before .before .before .before .before .before .before .before .before .before .before .before .before
+    .before .before .before .before .before .before .before .before .before .before .before .before .before .before .before) .pre .11 in
+    stops (c .before .before .before .before .before .before .before .before .before .before .before .before .before .before .before .before .before .before) _ _ (c .before .before .before
+    .before .v .given .1) (S .shape) (S .state) (S .start) (S .whole) (S .lent) (S .more) (S .ledger) .rest (stop .last .0) (stop .ensures)
 
 same-length-7 : tie.Need-same-length-7 Inv-loop μ-loop
-same-length-7 c = let at-turn = c .before .before .before .before .before .before .before .before .before .before .before .before .before .before .before .before .before .before .before .before .before .before .before .before .before .before .before .before .before .before .before .before .before .before .before .before in c .before .before .before .before .before .before .before .before .before .before .before .before .before .before .before .before .before .before .before .group-row .kept .1 .1 .1 .1 .1 .0 ∙ at-turn .loop .inv .0
+same-length-7 c = let at-turn = c .before .before .before .before .before .before .before .before .before .before .before .before .before .before .before .before .before .before .before
+    .before .before .before .before .before .before .before .before .before .before .before .before .before .before .before .before .before in c .before .before .before .before .before
+    .before .before .before .before .before .before .before .before .before .before .before .before .before .before .group-row .kept .1 .1 .1 .1 .1 .0 ∙ at-turn .loop .inv .0
 
 same-length-8 : tie.Need-same-length-8 Inv-loop μ-loop
-same-length-8 c = let at-turn = c .before .before .before .before .before .before .before .before .before .before .before .before .before .before .before .before .before .before .before .before .before .before .before .before .before .before .before .before .before .before .before .before .before .before .before .before in c .before .before .before .before .before .before .before .before .before .before .before .before .before .before .before .before .before .before .before .group-row .kept .1 .1 .1 .1 .1 .1 .0 ∙ log-kept at-turn
+same-length-8 c = let at-turn = c .before .before .before .before .before .before .before .before .before .before .before .before .before .before .before .before .before .before .before
+    .before .before .before .before .before .before .before .before .before .before .before .before .before .before .before .before .before in c .before .before .before .before .before
+    .before .before .before .before .before .before .before .before .before .before .before .before .before .before .group-row .kept .1 .1 .1 .1 .1 .1 .0 ∙ log-kept at-turn
 
 same-length-9 : tie.Need-same-length-9 Inv-loop μ-loop
-same-length-9 c = let at-turn = c .before .before .before .before .before .before .before .before .before .before .before .before .before .before .before .before .before .before .before .before .before .before .before .before .before .before .before .before .before .before .before .before .before .before .before .before in c .before .before .before .before .before .before .before .before .before .before .before .before .before .before .before .before .before .before .before .group-row .kept .1 .1 .1 .1 .1 .1 .1 .0 ∙ at-turn .loop .inv .2
+same-length-9 c = let at-turn = c .before .before .before .before .before .before .before .before .before .before .before .before .before .before .before .before .before .before .before
+    .before .before .before .before .before .before .before .before .before .before .before .before .before .before .before .before .before in c .before .before .before .before .before
+    .before .before .before .before .before .before .before .before .before .before .before .before .before .before .group-row .kept .1 .1 .1 .1 .1 .1 .1 .0 ∙ at-turn .loop .inv .2
 
 same-length-10 : tie.Need-same-length-10 Inv-loop μ-loop
-same-length-10 c = let at-turn = c .before .before .before .before .before .before .before .before .before .before .before .before .before .before .before .before .before .before .before .before .before .before .before .before .before .before .before .before .before .before .before .before .before .before .before .before in c .before .before .before .before .before .before .before .before .before .before .before .before .before .before .before .before .before .before .before .group-row .kept .1 .1 .1 .1 .1 .1 .1 .1 .0 ∙ shared-kept at-turn
+same-length-10 c = let at-turn = c .before .before .before .before .before .before .before .before .before .before .before .before .before .before .before .before .before .before .before
+    .before .before .before .before .before .before .before .before .before .before .before .before .before .before .before .before .before in c .before .before .before .before .before
+    .before .before .before .before .before .before .before .before .before .before .before .before .before .before .group-row .kept .1 .1 .1 .1 .1 .1 .1 .1 .0 ∙ shared-kept at-turn
 
 same-length-11 : tie.Need-same-length-11 Inv-loop μ-loop
-same-length-11 c = let at-turn = c .before .before .before .before .before .before .before .before .before .before .before .before .before .before .before .before .before .before .before .before .before .before .before .before .before .before .before .before .before .before .before .before .before .before .before .before in c .before .before .before .before .before .before .before .before .before .before .before .before .before .before .before .before .before .before .before .group-row .kept .1 .1 .1 .1 .1 .1 .1 .1 .1 .0 ∙ at-turn .loop .inv .4
+same-length-11 c = let at-turn = c .before .before .before .before .before .before .before .before .before .before .before .before .before .before .before .before .before .before .before
+    .before .before .before .before .before .before .before .before .before .before .before .before .before .before .before .before .before in c .before .before .before .before .before
+    .before .before .before .before .before .before .before .before .before .before .before .before .before .before .group-row .kept .1 .1 .1 .1 .1 .1 .1 .1 .1 .0 ∙ at-turn .loop .inv .4
 
 same-length-12 : tie.Need-same-length-12 Inv-loop μ-loop
-same-length-12 c = let at-turn = c .before .before .before .before .before .before .before .before .before .before .before .before .before .before .before .before .before .before .before .before .before .before .before .before .before .before .before .before .before .before .before .before .before .before .before .before in c .before .before .before .before .before .before .before .before .before .before .before .before .before .before .before .before .before .before .before .group-row .kept .1 .1 .1 .1 .1 .1 .1 .1 .1 .1 .1 .1 .1 .1 .1 .0 ∙ at-turn .loop .inv .5
+same-length-12 c = let at-turn = c .before .before .before .before .before .before .before .before .before .before .before .before .before .before .before .before .before .before .before
+    .before .before .before .before .before .before .before .before .before .before .before .before .before .before .before .before .before in c .before .before .before .before .before
+    .before .before .before .before .before .before .before .before .before .before .before .before .before .before .group-row .kept .1 .1 .1 .1 .1 .1 .1 .1 .1 .1 .1 .1 .1 .1 .1 .0 ∙ at-turn
+    .loop .inv .5
 
 returns-2 : tie.Need-returns-2 Inv-loop μ-loop
 returns-2 c =
     let finish = c .finish2 in
     let stop = c .before .before .stop in
     λ L z S whole lent more B.
-    stops (c .before .before .before .before .before .before .before .before .before .before .before .before .before .before .before .before .before .before .before) _ _ (c .before .before .before .before .before .v .given .1) L z S whole lent more B .ran (stop .last .0) (finish .last .0) (finish .result) (stop .ensures) (finish .ensures .0)
+    stops (c .before .before .before .before .before .before .before .before .before .before .before .before .before .before .before .before .before .before .before) _ _ (c .before .before
+    .before .before .before .v .given .1) L z S whole lent more B .ran (stop .last .0) (finish .last .0) (finish .result) (stop .ensures) (finish .ensures .0)
     (finish .ensures .1)
 
 finish-requires-3 : tie.Need-finish-requires-3 Inv-loop μ-loop
@@ -233,7 +268,8 @@ finish-requires-3 c κs =
     let at-turn = c .before .before .before in
     let start = start-of at-turn in
     let args = start .args in
-    go-room (args .table .now) (args .ends .now) (args .n) (args .group) (args .limit) _ _ _ _ _ _ _ _ _ _ _ _ _ _ _ _ _ _ (going at-turn) (start .pre .0) (at-turn .loop .s .since) (omega arith) (start .pre .4)
+    go-room (args .table .now) (args .ends .now) (args .n) (args .group) (args .limit) _ _ _ _ _ _ _ _ _ _ _ _ _ _ _ _ _ _ (going at-turn) (start .pre .0) (at-turn .loop .s .since) (omega
+    arith) (start .pre .4)
 
 same-length-13 : tie.Need-same-length-13 Inv-loop μ-loop
 same-length-13 c = let at-turn = c .before .before .before .before in at-turn .loop .inv .0
@@ -260,7 +296,8 @@ returns-3 c =
     let args = start .args in
     let finish = c .finish3 in
     λ L z S whole lent more B.
-    go-passed (args .table .now) (args .ends .now) (args .n) (args .group) (args .limit) L _ whole lent more _ _ _ _ _ _ _ _ _ _ _ _ _ (at-turn .loop .inv .6 L z S whole lent more B) (start .pre .0) (c .before .before .if1 .left) (finish .result) (finish .last .0)
+    go-passed (args .table .now) (args .ends .now) (args .n) (args .group) (args .limit) L _ whole lent more _ _ _ _ _ _ _ _ _ _ _ _ _ (at-turn .loop .inv .6 L z S whole lent more B) (start
+    .pre .0) (c .before .before .if1 .left) (finish .result) (finish .last .0)
     (finish .ensures .0) (finish .ensures .1)
 
 pub run-group-spec : {M : Type 1} → statement M

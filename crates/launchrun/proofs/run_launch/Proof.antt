@@ -24,19 +24,23 @@ own-room : tie.Need-array-borrow-prefix-own
 own-room c = omega (arith, few (c .before .before .before .before .before .before .before .before .before .before .before .before .before .before .before .before .before))
 
 own-long : tie.Need-slice-aggregate-run-groups
-own-long c = let start = c .before .before .before .before .before .before .before .before .before .before .before .before .before .before .before .before .before .before in zeros-long (5 * start .args .k) 5120 (omega (arith, few start))
+own-long c = let start = c .before .before .before .before .before .before .before .before .before .before .before .before .before .before .before .before .before .before in zeros-long (5 *
+    start .args .k) 5120 (omega (arith, few start))
 
 shared-long : tie.Need-slice-aggregate-run-groups-2
-shared-long c = let start = c .before .before .before .before .before .before .before .before .before .before .before .before .before .before .before .before .before .before .before in zeros-long (5 * length (start .args .global .now)) 5120 (omega (arith, few-global start))
+shared-long c = let start = c .before .before .before .before .before .before .before .before .before .before .before .before .before .before .before .before .before .before .before in
+    zeros-long (5 * length (start .args .global .now)) 5120 (omega (arith, few-global start))
 
 masks-long : tie.Need-slice-aggregate-run-groups-3
-masks-long c = let start = c .before .before .before .before .before .before .before .before .before .before .before .before .before .before .before .before .before .before .before .before in zeros-long (3 * length (start .args .global .now)) 3072 (omega (arith, few-global start))
+masks-long c = let start = c .before .before .before .before .before .before .before .before .before .before .before .before .before .before .before .before .before .before .before .before
+    in zeros-long (3 * length (start .args .global .now)) 3072 (omega (arith, few-global start))
 
 run-groups-requires : tie.Need-run-groups-requires
 run-groups-requires c κs =
     let launch = c .before .before .before .before .before .before .before .before .before .before .before .before .before .before .launch in
     let zero = c .before .before .before .before .before .before .before .before .before .before .before .before .before .before .before .before .before .before .zero in
-    let start = c .before .before .before .before .before .before .before .before .before .before .before .before .before .before .before .before .before .before .before .before .before .before .before .before .before in
+    let start = c .before .before .before .before .before .before .before .before .before .before .before .before .before .before .before .before .before .before .before .before .before
+    .before .before .before .before in
     let args = start .args in
     let A = start .pre in
     let m = length (args .global .now) in
@@ -67,13 +71,17 @@ run-groups-requires c κs =
     )
 
 same-length-3 : tie.Need-same-length-3
-same-length-3 c = c .before .before .before .before .before .before .before .before .before .before .before .run-groups .kept .1 .1 .1 .1 .1 .1 .1 .1 .0 ∙ c .before .before .before .before .before .before .before .before .before .before .before .before .before .before .before .before .before .before .before .before .before .before .before .before .before .before .before .before .before .before .zero .kept .0
+same-length-3 c = c .before .before .before .before .before .before .before .before .before .before .before .run-groups .kept .1 .1 .1 .1 .1 .1 .1 .1 .0 ∙ c .before .before .before .before
+    .before .before .before .before .before .before .before .before .before .before .before .before .before .before .before .before .before .before .before .before .before .before .before
+    .before .before .before .zero .kept .0
 
 returns : tie.Need-returns
 returns c =
     let run = c .before .before .before .before .before .before .before .before .before .before .before .run-groups in
-    let launch = c .before .before .before .before .before .before .before .before .before .before .before .before .before .before .before .before .before .before .before .before .before .before .before .before .before .before .launch in
-    let args = c .before .before .before .before .before .before .before .before .before .before .before .before .before .before .before .before .before .before .before .before .before .before .before .before .before .before .before .before .before .before .before .before .before .before .before .before .before .args in
+    let launch = c .before .before .before .before .before .before .before .before .before .before .before .before .before .before .before .before .before .before .before .before .before
+    .before .before .before .before .before .launch in
+    let args = c .before .before .before .before .before .before .before .before .before .before .before .before .before .before .before .before .before .before .before .before .before
+    .before .before .before .before .before .before .before .before .before .before .before .before .before .before .before .before .args in
     lent-is (args .table .now) _ (args .limit) _ (args .records .now) (launch .last .0) (run .result) _ _ _ _ _ (launch .ensures) (run .ensures)
 
 pub run-launch-spec : {M : Type 1} → statement M

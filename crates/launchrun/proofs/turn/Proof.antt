@@ -47,7 +47,8 @@ run-group-requires c κs =
 
 place-kinds-requires : tie.Need-place-kinds-requires
 place-kinds-requires c κs =
-    let start = c .before .before .before .before .before .before .before .before .before .before .before .before .before .before .before .before .before .before .before .before .before .before .before .before .before .before .before .before .before .before .before .before in
+    let start = c .before .before .before .before .before .before .before .before .before .before .before .before .before .before .before .before .before .before .before .before .before
+    .before .before .before .before .before .before .before .before .before .before .before in
     let P = start .pre in
     record {
       words-are = c .before .before .before .before .before .before .before .before .before .before .before .before .before .before .run-group .kept .1 .1 .1 .1 .1 .1 .1 .1 .0 ∙ P .own-sized;
@@ -59,14 +60,16 @@ place-kinds-requires c κs =
     }
 
 copy-counts-requires : tie.Need-copy-counts-requires
-copy-counts-requires c κs = let P = c .before .before .before .before .before .before .before .before .before .before .before .before .before .before .before .before .before .before .before .before .before .before .before .before .before .before .before .before .before .before .before .before .before .before .before .before .before .pre in (P .few-threads, P .threads-in)
+copy-counts-requires c κs = let P = c .before .before .before .before .before .before .before .before .before .before .before .before .before .before .before .before .before .before .before
+    .before .before .before .before .before .before .before .before .before .before .before .before .before .before .before .before .before .before .pre in (P .few-threads, P .threads-in)
 
 returns : tie.Need-returns
 returns c =
     let steps = c .copy-counts in
     let placed = c .before .before .before .before .before .place-kinds in
     let run = c .before .before .before .before .before .before .before .before .before .before .before .before .before .before .before .before .before .before .before .before .run-group in
-    let start = c .before .before .before .before .before .before .before .before .before .before .before .before .before .before .before .before .before .before .before .before .before .before .before .before .before .before .before .before .before .before .before .before .before .before .before .before .before .before in
+    let start = c .before .before .before .before .before .before .before .before .before .before .before .before .before .before .before .before .before .before .before .before .before
+    .before .before .before .before .before .before .before .before .before .before .before .before .before .before .before .before .before in
     let args = start .args in
     let P = start .pre in
     let ys = run .last .1 .1 .1 .1 .1 .1 .1 .0 in

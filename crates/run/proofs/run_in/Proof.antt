@@ -29,7 +29,8 @@ returns c =
     let counts = c .before .place-first2 in
     let log = c .before .before .before .before .before .before .before .place-first in
     let run = c .before .before .before .before .before .before .before .before .before .before .before .before .before .before .before .before .before .before .run-launch in
-    let start = c .before .before .before .before .before .before .before .before .before .before .before .before .before .before .before .before .before .before .before .before .before .before .before .before .before .before .before .before .before .before in
+    let start = c .before .before .before .before .before .before .before .before .before .before .before .before .before .before .before .before .before .before .before .before .before
+    .before .before .before .before .before .before .before .before .before in
     let args = start .args in
     let pre = start .pre in
     let k = length (args .cells .now) in
