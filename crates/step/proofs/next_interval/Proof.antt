@@ -19,8 +19,10 @@ returns c =
     let clear = c .before .before .clear in
     let release = c .before .before .before .before .before .before .release in
     let passed = c .before .before .before .before .before .before .before .before .before .before .if1 .taken in
-    let shared = c .before .before .before .before .before .before .before .before .before .before .before .before .before .before .before .args .shared .now in
-    (rw (lt-ltb _ _ passed) (release .ensures), clear .ensures ∙ sym (ap (λ b. cond b (replicate (length shared) 0) shared) (lt-ltb _ _ passed)))
+    let args = c .before .before .before .before .before .before .before .before .before .before .before .before .before .before .before .args in
+    let shared = args .shared .now in
+    let test = lt-ltb (args .s .barriers) (args .z .barriers) passed in
+    (rw test (release .ensures), clear .ensures ∙ sym (ap (λ b. cond b (replicate (length shared) 0) shared) test))
 
 returns-2 : tie.Need-returns-2
 unfolding recordsAfter
