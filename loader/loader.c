@@ -87,11 +87,11 @@ static int decide(const uint8_t *report, size_t length)
  * that no other refusal comes up; if one did, the report would be empty, which is refused. */
 static size_t check(const uint8_t *file, size_t length, uint8_t report[SEKUFOYI_OUTPUT])
 {
-    static uint32_t cells[SEKUFOYI_CELLS], log[SEKUFOYI_LOG], records[SEKUFOYI_RECORDS];
+    static uint32_t cells[SEKUFOYI_CELLS], global[SEKUFOYI_GLOBAL], log[SEKUFOYI_LOG], records[SEKUFOYI_RECORDS];
     uint32_t refusal[2], ignored[2];
 
-    size_t written = sekufoyi_check_file(file, length, cells, SEKUFOYI_CELLS, log, SEKUFOYI_LOG, records, SEKUFOYI_RECORDS, report,
-                                         SEKUFOYI_OUTPUT, refusal);
+    size_t written = sekufoyi_check_file(file, length, cells, SEKUFOYI_CELLS, global, SEKUFOYI_GLOBAL, log, SEKUFOYI_LOG, records,
+                                         SEKUFOYI_RECORDS, report, SEKUFOYI_OUTPUT, refusal);
     if (written == 0)
         written = sekufoyi_write_refusal(refusal[0], refusal[1], report, SEKUFOYI_OUTPUT, ignored);
     return written;

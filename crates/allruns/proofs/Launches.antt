@@ -1,111 +1,109 @@
 -- Demand 3 holds of every launch that is not refused: nothing else is asked. Assumes nothing.
-use mathlib.Core.Path.{_≡_, refl, sym, subst}
-use mathlib.Core.List.{List}
-use mathlib.Core.Bool.{Bool, true, false}
+use mathlib.Core.Path.{_≡_, refl, sym, _∙_, ap, ap₂, subst}
+use mathlib.Core.List.{List, _++_}
+use mathlib.Core.Bool.{Bool, true, false, _&&_}
 use mathlib.Core.Option.{Option, none, some}
-use Prim.Native.Nat.{ℕ, _+_, _*_}
+use Prim.Native.Nat.{ℕ, zero, suc, _+_, _≤_}
 use native.Mathlib.Omega.{arith}
 use lib.Dec.{leb}
-use lib.ListN.{length, take, replicate}
-use Rattle.spec.specs.declared.Outcome.{Outcome}
+use borrow.Author.Tests.{eqb-true}
+use lib.ListN.{length, length-append, take, replicate, take-append-drop}
 use Rattle.spec.specs.declared.Refusal.{Refusal}
-use Rattle.spec.specs.declared.Refusal.the-variants.{FileTooLong}
-use Rattle.spec.specs.Limits.{maxFile, maxThreads}
-use Rattle.spec.specs.Answers.{first}
-use Rattle.spec.specs.Table.{Table, WellFormed, rowsOf}
+use Rattle.spec.specs.Limits.{maxLaunchThreads}
+use Rattle.spec.specs.Answers.{first, unless}
+use Rattle.spec.specs.Table.{rowsOf}
 use Rattle.spec.specs.TableCheck.{tableRefusal}
-use Rattle.spec.specs.LaunchFile.{Launch, Checked, refused, accepted, Read, stop, read, unlessRefused, checkedTable, launchLines, fileLaunch}
-use Rattle.spec.specs.LockStep.{LockResult, outcomeOf}
-use Rattle.spec.specs.LaunchRun.{lockstep}
-use Rattle.spec.specs.Shape.{oneGroup}
-use Rattle.spec.specs.AllRuns.{Demand3}
-use Rattle.spec.specs.Entries.{over, bareRefusal, bareRun, bareOutcome, answerOf, keptIf, bareAnswer, bareCells, bareSteps, launchRun, launchOutcome, sizesOf}
-use Rattle.spec.specs.Demands.{BareDemand3}
+use Rattle.spec.specs.Shape.{Sizes, allCells, allOwn, allThreads}
+use Rattle.spec.specs.Launch.{Launch, launchRun, launchOutcome, launchSteps, ownAfter, globalAfter, ownPart, globalPart}
+use Rattle.spec.specs.LaunchFile.{accepted, fileLaunch}
+use Rattle.spec.specs.Entries.{over, bareNumbers, bareLent, bareRefusal, bareLaunch, answerOf, keptIf, bareAnswer, bareCells, bareGlobal, bareSteps}
+use Rattle.spec.specs.Demands.{LaunchDemand3, BareDemand3}
 use Rattle.spec.proofs.Laws.{front-of}
-use Rattle.structure.proofs.Refusals.{orElse-none}
+use Rattle.structure.proofs.Refusals.{orElse-none, unless-none}
 use Rattle.structure.proofs.Acceptance.{well-formed}
-use Rattle.allruns.proofs.LockInvariants.{steps-size}
-use Rattle.allruns.proofs.OneGroup.{one-steps}
+use Rattle.allruns.proofs.LaunchSteps.{steps-long}
+use Rattle.allruns.proofs.AcceptedFiles.{Sized, accepted-file}
 use Rattle.allruns.proofs.Theorem.{demand3}
 
--- A launch of one group: the steps are that group's.
-one-group-demand3 : (T : Table) → WellFormed T → (n : ℕ) (cells : List ℕ) (limit conflicts : ℕ) → let o = lockstep T (oneGroup n cells) cells limit in
-    Demand3 T (oneGroup n cells) cells limit (outcomeOf o conflicts) (o .state .steps) (o .state .cells)
-one-group-demand3 T w n cells limit conflicts =
-    let o = lockstep T (oneGroup n cells) cells limit in
-    subst (λ steps. Demand3 T (oneGroup n cells) cells limit (outcomeOf o conflicts) steps (o .state .cells)) (one-steps T n cells limit)
-    (demand3 T w (oneGroup n cells) (omega arith) cells size limit conflicts)
-  where
-    size : length cells ≡ 1 * length cells + 0
-    size = omega arith
+-- The cells that a run leaves are the own ones and then the global ones.
+pub both-after : (launch : Launch) → ownAfter launch ++ globalAfter launch ≡ launchRun launch .state .cells
+unfolding ownAfter globalAfter ownPart globalPart
+both-after launch = take-append-drop (allOwn (launch .sizes)) (launchRun launch .state .cells)
 
--- The rows are the second thing that a bare launch tests.
-pub bare-table : (table : List ℕ) (threads cells limit : ℕ) (lentCells lentLog lentRecords : List ℕ)
-    → bareRefusal table threads cells limit lentCells lentLog lentRecords ≡ none → tableRefusal (rowsOf table) ≡ none
-unfolding bareRefusal first
-bare-table table threads cells limit lentCells lentLog lentRecords e = orElse-none _ _ .0 (orElse-none _ _ .0 e .1) .0
+-- A launch with a table that is not refused and with its cells, of its run.
+pub sized-demand3 : (launch : Launch) → tableRefusal (launch .table) ≡ none → Sized launch
+    → LaunchDemand3 launch (launchOutcome launch) (launchSteps launch) (ownAfter launch ++ globalAfter launch)
+unfolding launchRun launchOutcome launchSteps
+sized-demand3 launch t z =
+    subst (LaunchDemand3 launch (launchOutcome launch) (launchSteps launch)) (sym (both-after launch))
+    (demand3 (launch .table) (well-formed (launch .table) t) (launch .sizes) (z .some-group) (launch .cells) (z .cells-are) (launch .limit) _ _)
 
--- A bare launch, of its answer and of the cells and the step counts that it leaves.
-module _ (table : List ℕ) (threads cells limit : ℕ) (lentCells lentLog lentRecords lentSteps : List ℕ) where
-  ran-demand3 : bareRefusal table threads cells limit lentCells lentLog lentRecords ≡ none
-      → let run = bareRun table threads limit lentCells in let outcome = bareOutcome table threads limit lentCells in
-      Demand3 (rowsOf table) (oneGroup threads lentCells) lentCells limit outcome (run .state .steps) (run .state .cells)
-  unfolding bareRun bareOutcome
-  ran-demand3 e =
-      one-group-demand3 (rowsOf table) (well-formed (rowsOf table) (bare-table table threads cells limit lentCells lentLog lentRecords e)) threads lentCells limit _
+-- Of a launch that a file gives.
+pub file-demand3 : (file : List ℕ) (launch : Launch) → fileLaunch file ≡ accepted launch
+    → LaunchDemand3 launch (launchOutcome launch) (launchSteps launch) (ownAfter launch ++ globalAfter launch)
+file-demand3 file launch e = let a = accepted-file file launch e in sized-demand3 launch (a .0) (a .1)
 
-  steps-front : (behind : List ℕ) → let steps = bareRun table threads limit lentCells .state .steps in take threads (over steps behind) ≡ steps
-  unfolding bareRun
-  steps-front behind =
-      let steps = lockstep (rowsOf table) (oneGroup threads lentCells) lentCells limit .state .steps in
-      subst (λ k. take k (over steps behind) ≡ steps) (steps-size (rowsOf table) threads lentCells limit) (front-of steps behind _ refl)
+-- What a bare launch has that is not refused.
+module _ (table : List ℕ) (Z : Sizes) (limit : ℕ) (lentCells lentGlobal lentLog lentRecords : List ℕ) where
+  abbrev why : Option Refusal
+  why = bareRefusal table Z limit lentCells lentGlobal lentLog lentRecords
 
-  pub bare-demand3 : BareDemand3 table threads limit lentCells (bareAnswer table threads cells limit lentCells lentLog lentRecords)
-      (bareCells table threads cells limit lentCells lentLog lentRecords) (bareSteps table threads cells limit lentCells lentLog lentRecords lentSteps)
-  unfolding bareAnswer bareCells bareSteps answerOf keptIf
-  bare-demand3 = by (bareRefusal table threads cells limit lentCells lentLog lentRecords) refl
+  abbrev launch : Launch
+  launch = bareLaunch table Z limit lentCells lentGlobal
+
+  -- its numbers, its rows and what is lent are tested in this order
+  pub bare-passes : why ≡ none
+      → (bareNumbers (length table) Z limit ≡ none) × (tableRefusal (rowsOf table) ≡ none)
+      × (bareLent Z (length lentCells) (length lentGlobal) (length lentLog) (length lentRecords) ≡ none)
+  unfolding bareRefusal first
+  bare-passes e = let a = orElse-none _ _ .0 e in let b = orElse-none _ _ .0 (a .1) in (a .0, b .0, orElse-none _ _ .0 (b .1) .0)
+
+  groups-tested : bareNumbers (length table) Z limit ≡ none → 1 ≤ Z .groups
+  unfolding bareNumbers first
+  groups-tested e =
+      let a = orElse-none _ _ .0 e .1 in
+      let b = orElse-none _ _ .0 a .1 in
+      let c = orElse-none _ _ .0 b .1 in
+      let d = orElse-none _ _ .0 c .1 in
+      least (Z .groups) _ (unless-none _ _ .0 (orElse-none _ _ .0 d .0))
     where
-      run : LockResult
-      run = bareRun table threads limit lentCells
+      least : (n : ℕ) (b : Bool) → (leb 1 n && b) ≡ true → 1 ≤ n
+      least zero b e = absurd (let z : _≡_ {A = Bool} false true = e in let y : _≡_ {A = ℕ} 0 1 = cc in omega arith)
+      least (suc n) b e = omega arith
 
-      outcome : Outcome
-      outcome = bareOutcome table threads limit lentCells
+  lent-tested : bareLent Z (length lentCells) (length lentGlobal) (length lentLog) (length lentRecords) ≡ none
+      → (length lentCells ≡ allOwn Z) × (length lentGlobal ≡ Z .global)
+  unfolding bareLent first
+  lent-tested e =
+      let a = orElse-none _ _ .0 e in
+      let b = orElse-none _ _ .0 (a .1) in
+      (eqb-true _ _ (unless-none _ _ .0 (a .0)), eqb-true _ _ (unless-none _ _ .0 (b .0)))
 
-      by : (x : Option Refusal) → bareRefusal table threads cells limit lentCells lentLog lentRecords ≡ x
-          → BareDemand3 table threads limit lentCells (answerOf x outcome) (keptIf x lentCells (run .state .cells))
-          (keptIf x lentSteps (over (run .state .steps) (replicate maxThreads 0)))
+  pub bare-sized : why ≡ none → Sized launch
+  unfolding bareLaunch
+  bare-sized e =
+      let p = bare-passes e in
+      let l = lent-tested (p .2) in
+      record { some-group = groups-tested (p .0); cells-are = length-append lentCells lentGlobal ∙ ap₂ _+_ (l .0) (l .1) }
+
+  -- The counts at the front are the steps.
+  steps-front : why ≡ none → (behind : List ℕ) → take (allThreads Z) (over (launchSteps launch) behind) ≡ launchSteps launch
+  unfolding launchSteps bareLaunch
+  steps-front e behind =
+      subst (λ k. take k (over (launchSteps launch) behind) ≡ launchSteps launch)
+      (steps-long (rowsOf table) Z limit (lentCells ++ lentGlobal) (bare-sized e .some-group)) (front-of (launchSteps launch) behind _ refl)
+
+  -- A bare launch, of its answer and of the cells and the step counts that it leaves.
+  pub bare-demand3 : (lentSteps : List ℕ) → BareDemand3 table Z limit lentCells lentGlobal (bareAnswer table Z limit lentCells lentGlobal lentLog lentRecords)
+      (bareCells table Z limit lentCells lentGlobal lentLog lentRecords) (bareGlobal table Z limit lentCells lentGlobal lentLog lentRecords)
+      (bareSteps table Z limit lentCells lentGlobal lentLog lentRecords lentSteps)
+  unfolding bareAnswer bareCells bareGlobal bareSteps answerOf keptIf
+  bare-demand3 lentSteps = by why refl
+    where
+      by : (x : Option Refusal) → why ≡ x
+          → BareDemand3 table Z limit lentCells lentGlobal (answerOf x (launchOutcome launch)) (keptIf x lentCells (ownAfter launch))
+          (keptIf x lentGlobal (globalAfter launch)) (keptIf x lentSteps (over (launchSteps launch) (replicate maxLaunchThreads 0)))
       by none e =
-          subst (λ steps. Demand3 (rowsOf table) (oneGroup threads lentCells) lentCells limit outcome steps (run .state .cells)) (sym (steps-front _)) (ran-demand3 e)
-      by (some why) e = tt
-
--- The table of an accepted file is not refused.
-never : {A : Type 0} (r : Refusal) (launch : Launch) → refused r ≡ accepted launch → A
-never r launch e = let z : _≡_ {A = ℕ} 0 1 = cc in absurd (omega arith)
-
-kept : (found : Option Refusal) (launch goal : Launch) → tableRefusal (launch .table) ≡ found → unlessRefused found launch ≡ accepted goal
-    → tableRefusal (goal .table) ≡ none
-unfolding unlessRefused
-kept none launch goal q e = let same : launch ≡ goal = cc in subst (λ l. tableRefusal (l .table) ≡ none) same q
-kept (some r) launch goal q e = never r goal e
-
-lines-table : (lines : Read Launch) (goal : Launch) → checkedTable lines ≡ accepted goal → tableRefusal (goal .table) ≡ none
-unfolding checkedTable
-lines-table (stop r) goal e = never r goal e
-lines-table (read launch line rest) goal e = kept (tableRefusal (launch .table)) launch goal refl e
-
-pub file-table : (file : List ℕ) (launch : Launch) → fileLaunch file ≡ accepted launch → tableRefusal (launch .table) ≡ none
-unfolding fileLaunch
-file-table file launch = by (leb (length file) maxFile)
-  where
-    by : (b : Bool) → (elim b as (λ c. Checked Launch) [ true ↦ checkedTable (launchLines 1 file) | false ↦ refused FileTooLong ]) ≡ accepted launch
-        → tableRefusal (launch .table) ≡ none
-    by true e = lines-table (launchLines 1 file) launch e
-    by false e = never FileTooLong launch e
-
--- An accepted launch, of its run.
-pub launch-demand3 : (file : List ℕ) (launch : Launch) → fileLaunch file ≡ accepted launch
-    → let run = launchRun launch in
-    Demand3 (launch .table) (sizesOf launch) (launch .cells) (launch .limit) (launchOutcome launch) (run .state .steps) (run .state .cells)
-unfolding launchRun launchOutcome
-launch-demand3 file launch e =
-    one-group-demand3 (launch .table) (well-formed (launch .table) (file-table file launch e)) (launch .threads) (launch .cells) (launch .limit) _
+          subst (λ steps. LaunchDemand3 launch (launchOutcome launch) steps (ownAfter launch ++ globalAfter launch)) (sym (steps-front e _))
+          (sized-demand3 launch (unfold bareLaunch in (bare-passes e .1)) (bare-sized e))
+      by (some r) e = tt

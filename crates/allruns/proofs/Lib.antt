@@ -22,7 +22,8 @@ pub mod LockRun
 pub mod Counts
 pub mod Invariants
 pub mod LockInvariants
-pub mod OneGroup
+pub mod LaunchSteps
+pub mod AcceptedFiles
 pub mod LoopCounts
 pub mod StuckAtBarrier
 pub mod ElseThreads

@@ -140,14 +140,8 @@ steps-kept T L n =
       onward = λ s r m v h. h;
     }
 
-pub launch-steps : (T : Table) (Z : Sizes) (cells : List ℕ) (limit : ℕ) → length (lockstep T Z cells limit .state .steps) ≡ Z .threads
-unfolding initialState nextStart
-launch-steps T Z cells limit =
-    in-launch T Z limit (λ s. length (s .steps) ≡ Z .threads) (λ g l. steps-kept T (shapeOf Z g) (Z .threads)) (λ g s h. length-replicate (Z .threads) 0) cells
-    (length-replicate (Z .threads) 0)
-
-pub steps-size : (T : Table) (n : ℕ) (cells : List ℕ) (limit : ℕ) → length (lockstep T (oneGroup n cells) cells limit .state .steps) ≡ n
-steps-size T n cells limit = launch-steps T (oneGroup n cells) cells limit
+pub group-steps : (T : Table) (L : Shape) (left : ℕ) (s : LockState) → length (runFrom T L left s .state .steps) ≡ length (s .steps)
+group-steps T L left s = after-run T L (λ z. length (z .steps) ≡ length (s .steps)) (steps-kept T L (length (s .steps))) left s refl
 
 -- What a group's run from s to z leaves as it was: the cells and the log at places that its threads can't name, and what other groups have entered.
 pub record RunKeeps (L : Shape) (s z : LockState) : Type 0 where

@@ -248,9 +248,3 @@ first-sim T w Z cells g e =
       groups = subst (λ k. GroupMatches (shapeOf Z 0) k emptyRecord (λ a. false) (emptyGroupLog (Z .groups) (length cells))) e
           (groups-empty (shapeOf Z 0) (length cells) g);
     })
-
--- A launch of one group.
-pub start-sim : (T : Table) → WellFormed T → (n : ℕ) (cells : List ℕ) → let L = shapeOf (oneGroup n cells) 0 in
-    Sim T L (initialState (oneGroup n cells) cells) [] (firstGroup T L cells)
-unfolding total
-start-sim T w n cells = first-sim T w (oneGroup n cells) cells (omega arith) (omega arith)

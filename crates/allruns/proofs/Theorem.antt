@@ -142,10 +142,10 @@ module _ (T : Table) (w : WellFormed T) (Z : Sizes) (one : 1 ≤ Z .groups) (cel
           some-run = (complete p .moves, (complete p .run, complete p .ended));
         }
 
-  -- whatever its rows cost
-  pub demand3 : (conflicts : ℕ) → Demand3 T Z cells limit (outcomeOf result conflicts) steps (result .state .cells)
+  -- whatever group it is said to end in, and whatever its rows cost
+  pub demand3 : (group conflicts : ℕ) → Demand3 T Z cells limit (outcomeOf result group conflicts) steps (result .state .cells)
   unfolding outcomeOf
-  demand3 conflicts =
+  demand3 group conflicts =
       record {
         exactly = λ ns. (well, back (result .verdict) refl simulated ns);
         passed = says;

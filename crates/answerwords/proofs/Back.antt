@@ -1,6 +1,5 @@
--- What an outcome's words say of it: all but the row of a launch that has passed. Assumes nothing.
+-- What an outcome's words say of it: all but the row and the group of a launch that has passed. Assumes nothing.
 use mathlib.Core.Path.{_≡_, refl, sym, _∙_, subst}
-use mathlib.Core.Logic.{_↔_}
 use mathlib.Core.List.{List}
 use Prim.Native.Nat.{ℕ}
 use native.Mathlib.Omega.{arith}
@@ -29,56 +28,34 @@ kind-back AddRead = refl
 kind-back WriteAdd = refl
 kind-back AddWrite = refl
 
--- The verdict is one that a group alone can get: it names no other group.
-abbrev Alone : Verdict → Type 0
-Alone Passed = Unit {0}
-Alone (Race thread other kind at) = Unit {0}
-Alone (GroupRace thread group kind at) = ⊥
-Alone (Outside thread at) = Unit {0}
-Alone (Diverged thread other) = Unit {0}
-Alone Spent = Unit {0}
-
--- Two verdicts that are passed, or spent, in the same cases.
-abbrev Alike : Verdict → Verdict → Type 0
-Alike v w = (v ≡ Passed ↔ w ≡ Passed) × (v ≡ Spent ↔ w ≡ Spent)
-
--- The outcome that is read from the words of o has its verdict, and its report says the same. A race with another group is read as a race.
+-- The outcome that is read from the words of o has its verdict, and its report says the same.
 abbrev SameBack : Outcome → Type 0
 SameBack o =
     let p = outcomeFrom (outcomeWords o) in
-    Alike (p .verdict) (o .verdict) × (Alone (o .verdict) → (p .verdict ≡ o .verdict) × ((steps cells : List ℕ) → runLines p steps cells ≡ runLines o steps cells))
+    (p .verdict ≡ o .verdict) × ((steps cells global : List ℕ) → runLines p steps cells global ≡ runLines o steps cells global)
 
-same-alike : (v w : Verdict) → v ≡ w → Alike v w
-same-alike v w e = ((λ p. sym e ∙ p, λ p. e ∙ p), (λ p. sym e ∙ p, λ p. e ∙ p))
-
-races-alike : (t u : ℕ) (k j : AccessKind) (c s h d : ℕ) → Alike (Race t u k c) (GroupRace s h j d)
-races-alike t u k j c s h d = (
-  (λ p. absurd (let z : _≡_ {A = ℕ} 0 1 = cc in omega arith), λ p. absurd (let z : _≡_ {A = ℕ} 0 1 = cc in omega arith)),
-  (λ p. absurd (let z : _≡_ {A = ℕ} 0 1 = cc in omega arith), λ p. absurd (let z : _≡_ {A = ℕ} 0 1 = cc in omega arith)),
-)
-
-words-back : (v : Verdict) (row rows barriers conflicts : ℕ)
-    → SameBack (record { verdict = v; row = row; rows = rows; barriers = barriers; conflicts = conflicts })
+words-back : (v : Verdict) (row group rows barriers conflicts : ℕ)
+    → SameBack (record { verdict = v; row = row; group = group; rows = rows; barriers = barriers; conflicts = conflicts })
 unfolding outcomeFrom outcomeWords runLines headLines headWith intervalLines detailsOf details _is_ valueCode verdictCode verdictFrom
-words-back Passed row rows barriers conflicts = (same-alike _ _ refl, λ a. (refl, λ steps cells. refl))
-words-back (Race thread other kind at) row rows barriers conflicts = rw (kind-back kind) (same-alike _ _ refl, λ a. (refl, λ steps cells. refl))
-words-back (GroupRace thread group kind at) row rows barriers conflicts = (races-alike thread 0 _ kind at thread group at, λ a. absurd a)
-words-back (Outside thread at) row rows barriers conflicts = (same-alike _ _ refl, λ a. (refl, λ steps cells. refl))
-words-back (Diverged thread other) row rows barriers conflicts = (same-alike _ _ refl, λ a. (refl, λ steps cells. refl))
-words-back Spent row rows barriers conflicts = (same-alike _ _ refl, λ a. (refl, λ steps cells. refl))
+words-back Passed row group rows barriers conflicts = (refl, λ steps cells global. refl)
+words-back (Race thread other kind at) row group rows barriers conflicts = rw (kind-back kind) (refl, λ steps cells global. refl)
+words-back (GroupRace thread otherGroup kind at) row group rows barriers conflicts = rw (kind-back kind) (refl, λ steps cells global. refl)
+words-back (Outside thread at) row group rows barriers conflicts = (refl, λ steps cells global. refl)
+words-back (Diverged thread other) row group rows barriers conflicts = (refl, λ steps cells global. refl)
+words-back Spent row group rows barriers conflicts = (refl, λ steps cells global. refl)
 
 pub same-back : (o : Outcome) → SameBack o
-same-back o = words-back (o .verdict) (o .row) (o .rows) (o .barriers) (o .conflicts)
+same-back o = words-back (o .verdict) (o .row) (o .group) (o .rows) (o .barriers) (o .conflicts)
 
 -- So demand 3 may be said of the words.
-demand-of : (T : Table) (Z : Sizes) (cells : List ℕ) (limit : ℕ) (o p : Outcome) (steps final : List ℕ) → Alike (p .verdict) (o .verdict)
+demand-of : (T : Table) (Z : Sizes) (cells : List ℕ) (limit : ℕ) (o p : Outcome) (steps final : List ℕ) → p .verdict ≡ o .verdict
     → p .rows ≡ o .rows → p .barriers ≡ o .barriers → Demand3 T Z cells limit o steps final → Demand3 T Z cells limit p steps final
-demand-of T Z cells limit o p steps final (passing, spending) r b d =
+demand-of T Z cells limit o p steps final v r b d =
     record {
-      exactly = λ n. let iff = d .exactly (λ s. n (spending .1 s)) in (λ q. iff .0 (passing .0 q), λ e. passing .1 (iff .1 e));
-      passed = λ q. subst (λ k. PassedSays T Z cells steps k final (countedBarriers T Z cells limit)) (sym b) (d .passed (passing .0 q));
+      exactly = λ n. let iff = d .exactly (λ s. n (v ∙ s)) in (λ q. iff .0 (sym v ∙ q), λ e. v ∙ iff .1 e);
+      passed = λ q. subst (λ k. PassedSays T Z cells steps k final (countedBarriers T Z cells limit)) (sym b) (d .passed (sym v ∙ q));
       counted = d .counted ∙ sym b;
-      spent = λ q. r ∙ d .spent (spending .0 q);
+      spent = λ q. r ∙ d .spent (sym v ∙ q);
     }
 
 pub words-demand : (T : Table) (Z : Sizes) (cells : List ℕ) (limit : ℕ) (o : Outcome) (steps final : List ℕ) → Demand3 T Z cells limit o steps final

@@ -1,4 +1,4 @@
--- Answers as words: a length with a refusal's number and place beside it, and an outcome as nine words. Assumes nothing.
+-- Answers as words: a length with a refusal's number and place beside it, and an outcome as eleven words. Assumes nothing.
 use mathlib.Core.Path.{_≡_}
 use mathlib.Core.List.{List, [], _∷_, _++_, map}
 use mathlib.Core.Bool.{Bool, true, false, cond}
@@ -17,10 +17,10 @@ use Rattle.spec.specs.declared.Written.the-variants as written
 use Rattle.spec.specs.declared.Value.{Value}
 use Rattle.spec.specs.declared.Value.the-variants as value
 use Rattle.refusals.specs.Words.{refusalWords}
-use Rattle.spec.specs.Table.{rowsOf}
-use Rattle.spec.specs.Shape.{oneGroup}
-use Rattle.spec.specs.AllRuns.{Demand3}
+use Rattle.spec.specs.Shape.{Sizes, allThreads}
 use Rattle.spec.specs.Report.{Line, headLines, intervalLines}
+use Rattle.spec.specs.Entries.{bareLaunch}
+use Rattle.spec.specs.Demands.{LaunchDemand3}
 
 -- A length with a refusal's number and place beside it; 0, and two zeros, where there is none.
 unfoldable pub lengthIn : Written → ℕ
@@ -31,11 +31,11 @@ unfoldable pub refusalIn : Written → List ℕ
 refusalIn (written.Refused why) = refusalWords why
 refusalIn (written.Wrote n) = 0 ∷ 0 ∷ []
 
--- A verdict's code is never 0, so that words that were never written are no verdict.
+-- A verdict's code is never 0, so that words that were never written are no verdict. A race with another group has one of its own, so that the way back is exact.
 unfoldable pub verdictCode : Verdict → ℕ
 verdictCode Passed = 1
 verdictCode (Race thread other kind at) = 2
-verdictCode (GroupRace thread group kind at) = 2
+verdictCode (GroupRace thread otherGroup kind at) = 6
 verdictCode (Outside thread at) = 3
 verdictCode (Diverged thread other) = 4
 verdictCode Spent = 5
@@ -59,7 +59,7 @@ valueCode value.Report = 0
 
 -- An outcome: a word for each line of the report's head, in their order, and then one for each line about its intervals.
 abbrev pub wordCount : ℕ
-wordCount = 9
+wordCount = 11
 
 unfoldable pub outcomeWords : Outcome → List ℕ
 outcomeWords o = map (λ (l : Line). valueCode (l .value)) (headLines o ++ intervalLines o)
@@ -82,22 +82,26 @@ kindFrom code =
     cond (eqb code 1) ReadWrite (cond (eqb code 2) WriteRead (cond (eqb code 4) ReadAdd (cond (eqb code 5) AddRead (cond (eqb code 6) WriteAdd
     (cond (eqb code 7) AddWrite WriteWrite)))))
 
-unfoldable pub verdictFrom : (code thread other kind at : ℕ) → Verdict
-verdictFrom code thread other kind at =
+unfoldable pub verdictFrom : (code otherGroup thread other kind at : ℕ) → Verdict
+verdictFrom code otherGroup thread other kind at =
     cond (eqb code 1) Passed
-    (cond (eqb code 2) (Race thread other (kindFrom kind) at) (cond (eqb code 3) (Outside thread at) (cond (eqb code 4) (Diverged thread other) Spent)))
+    (cond (eqb code 2) (Race thread other (kindFrom kind) at) (cond (eqb code 3) (Outside thread at) (cond (eqb code 4) (Diverged thread other)
+    (cond (eqb code 6) (GroupRace thread otherGroup (kindFrom kind) at) Spent))))
 
 unfoldable pub outcomeFrom : List ℕ → Outcome
 outcomeFrom ws =
     record {
-      verdict = verdictFrom (getD ws 0 0) (getD ws 2 0) (getD ws 3 0) (getD ws 4 0) (getD ws 5 0);
+      verdict = verdictFrom (getD ws 0 0) (getD ws 3 0) (getD ws 4 0) (getD ws 5 0) (getD ws 6 0) (getD ws 7 0);
       row = getD ws 1 0;
-      rows = getD ws 6 0;
-      barriers = getD ws 7 0;
-      conflicts = getD ws 8 0;
+      group = getD ws 2 0;
+      rows = getD ws 8 0;
+      barriers = getD ws 9 0;
+      conflicts = getD ws 10 0;
     }
 
--- Demand 3 of a bare launch, of the words that its caller is handed: the flag that it ran, the outcome's words, the cells and the step counts that are left.
-abbrev pub RanDemand3 : (table : List ℕ) → (threads limit : ℕ) → (lentCells : List ℕ) → (ran : Bool) → (outcome left counts : List ℕ) → Type 0
-RanDemand3 table threads limit lentCells ran outcome left counts =
-    ran ≡ true → Demand3 (rowsOf table) (oneGroup threads lentCells) lentCells limit (outcomeFrom outcome) (take threads counts) left
+-- Demand 3 of a bare launch, of the words that its caller is handed: the flag that it ran, the outcome's words, both kinds of cells and the step counts that
+-- are left.
+abbrev pub RanDemand3 : (table : List ℕ) → Sizes → (limit : ℕ) → (lentCells lentGlobal : List ℕ) → (ran : Bool)
+    → (outcome left leftGlobal counts : List ℕ) → Type 0
+RanDemand3 table Z limit lentCells lentGlobal ran outcome left leftGlobal counts =
+    ran ≡ true → LaunchDemand3 (bareLaunch table Z limit lentCells lentGlobal) (outcomeFrom outcome) (take (allThreads Z) counts) (left ++ leftGlobal)

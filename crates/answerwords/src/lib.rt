@@ -27,7 +27,7 @@ fn verdict_code(verdict: Verdict) -> u32
     match verdict {
         Verdict::Passed => 1,
         Verdict::Race(_, _, _, _) => 2,
-        Verdict::GroupRace(_, _, _, _) => 2,
+        Verdict::GroupRace(_, _, _, _) => 6,
         Verdict::Outside(_, _) => 3,
         Verdict::Diverged(_, _) => 4,
         Verdict::Spent => 5,
@@ -47,7 +47,7 @@ fn value_code(value: Value) -> u32
 }
 
 // How many words an outcome has.
-pub const WORDS: usize = 9;
+pub const WORDS: usize = 11;
 
 pub fn outcome_words(outcome: Outcome) -> [u32; WORDS]
     ensures { λ r. ⌜ r ≡ outcomeWords outcome ⌝ }
@@ -86,8 +86,8 @@ fn kind_from(code: u32) -> AccessKind
     AccessKind::WriteWrite
 }
 
-fn verdict_from(code: u32, thread: u32, other: u32, kind: u32, at: u32) -> Verdict
-    ensures { λ r. ⌜ r ≡ verdictFrom code thread other kind at ⌝ }
+fn verdict_from(code: u32, othergroup: u32, thread: u32, other: u32, kind: u32, at: u32) -> Verdict
+    ensures { λ r. ⌜ r ≡ verdictFrom code othergroup thread other kind at ⌝ }
 {
     if code == 1 {
         return Verdict::Passed;
@@ -101,19 +101,23 @@ fn verdict_from(code: u32, thread: u32, other: u32, kind: u32, at: u32) -> Verdi
     if code == 4 {
         return Verdict::Diverged(thread, other);
     }
+    if code == 6 {
+        return Verdict::GroupRace(thread, othergroup, kind_from(kind), at);
+    }
     Verdict::Spent
 }
 
 pub fn outcome_from(words: &[u32; WORDS]) -> Outcome
     ensures { λ r. ⌜ r ≡ outcomeFrom (now (words .entry)) ⌝ }
 {
-    let verdict = verdict_from(words[0], words[2], words[3], words[4], words[5]);
+    let verdict = verdict_from(words[0], words[3], words[4], words[5], words[6], words[7]);
     Outcome {
         verdict,
         row: words[1],
-        rows: words[6],
-        barriers: words[7],
-        conflicts: words[8],
+        group: words[2],
+        rows: words[8],
+        barriers: words[9],
+        conflicts: words[10],
     }
 }
 

@@ -1,107 +1,118 @@
 -- An accepted launch that has been run over the front of its buffers, and reported. Assumes nothing.
-use mathlib.Core.Path.{_≡_, refl, ap, ap₂, subst, _∙_}
+use mathlib.Core.Path.{_≡_, refl, sym, ap, ap₂, subst, _∙_}
 use mathlib.Core.List.{List, _++_}
 use mathlib.Core.Option.{Option, none}
-use Prim.Native.Nat.{ℕ, _*_, _≤_}
+use Prim.Native.Nat.{ℕ, _+_, _*_, _≤_}
+use native.Mathlib.Nat.{mul-le-mul}
 use native.Mathlib.Omega.{arith}
 use lib.ListN.{length, take, drop, replicate, length-replicate}
-use Rattle.spec.specs.Limits.{logPerCell}
+use Rattle.spec.specs.Limits.{launchLogPerCell}
 use Rattle.spec.specs.declared.Outcome.{Outcome}
 use Rattle.spec.specs.declared.Refusal.{Refusal}
 use Rattle.spec.specs.declared.Written.{Written}
 use Rattle.spec.specs.declared.Written.the-variants.{Wrote}
 use Rattle.spec.specs.Table.{rowsOf}
-use Rattle.spec.specs.Log.{logWords}
-use Rattle.spec.specs.Shape.{oneGroup}
-use Rattle.spec.specs.LockStep.{LockResult, outcomeOf}
-use Rattle.spec.specs.LaunchRun.{lockstep}
-use Rattle.spec.specs.Intervals.{intervalRecords, recordWords, conflictsOf}
-use Rattle.spec.specs.LaunchFile.{Launch}
+use Rattle.spec.specs.Launch.{Launch, launchOutcome, launchSteps, launchLog, ownAfter, globalAfter}
 use Rattle.spec.specs.Report.{runReport, reportOf}
-use Rattle.spec.specs.Entries.{over, launchRun, launchIntervals, launchOutcome, launchReport, writerRefusal, writerAnswer, writerBuffer, writtenOf, keptIf}
+use Rattle.spec.specs.Entries.{over, bareLaunch, launchReport, writerRefusal, writerAnswer, writerBuffer, writtenOf, keptIf}
 use Rattle.spec.proofs.Laws.{front-of}
-use Rattle.allruns.proofs.LockInvariants.{steps-size}
-use Rattle.layout.specs.Running.{RunIs}
+use Rattle.allruns.proofs.LaunchSteps.{steps-long}
+use Rattle.launchrun.specs.Launches.{RunIs, sizesBy}
 use Rattle.report.specs.Subjects.{ran, FitsOutput}
 use Rattle.report.proofs.Entry.{lines-right, fitting}
 use Rattle.reportlines.proofs.Writing.{over-length}
 use Rattle.checkfile.specs.Reported.{Asks, launchOf, ReportedLaunch}
-use Rattle.checkfile.proofs.Front.{front-kept, given-back, given-back-over}
+use Rattle.layout.specs.Views.{putPart}
+use Rattle.checkfile.proofs.Front.{front-kept, given-back, given-back-over, placed-over}
 
 -- The writer has room for the report of as many threads and cells as a launch has.
-module _ (o : Outcome) (steps cells output : List ℕ) where
-  accepted : 1 ≤ length steps → length steps ≤ 32 → 1 ≤ length cells → length cells ≤ 1024 → 17408 ≤ length output → FitsOutput (ran o) steps cells
-      → writerRefusal (ran o) steps cells output ≡ none
+module _ (o : Outcome) (steps cells global output : List ℕ) where
+  accepted : 1 ≤ length steps → length steps ≤ 256 → 1 ≤ length cells + length global → length cells + length global ≤ 1024 → 24576 ≤ length output
+      → FitsOutput (ran o) steps cells global → writerRefusal (ran o) steps cells global output ≡ none
   accepted one most some few room fits =
-      let right = lines-right o steps cells one most some few in
-      fitting (ran o) steps cells output (length (reportOf (ran o) steps cells)) right refl (omega (arith, fits right))
+      let right = lines-right o steps cells global one most some few in
+      fitting (ran o) steps cells global output (length (reportOf (ran o) steps cells global)) right refl (omega (arith, fits right))
 
-  wrote : writerRefusal (ran o) steps cells output ≡ none → writerAnswer (ran o) steps cells output ≡ Wrote (length (runReport o steps cells))
+  wrote : writerRefusal (ran o) steps cells global output ≡ none → writerAnswer (ran o) steps cells global output ≡ Wrote (length (runReport o steps cells global))
   unfolding writerAnswer writtenOf reportOf
-  wrote e = ap (λ (x : Option Refusal). writtenOf x (length (runReport o steps cells))) e
+  wrote e = ap (λ (x : Option Refusal). writtenOf x (length (runReport o steps cells global))) e
 
-  written : writerRefusal (ran o) steps cells output ≡ none → writerBuffer (ran o) steps cells output ≡ over (runReport o steps cells) output
+  written : writerRefusal (ran o) steps cells global output ≡ none → writerBuffer (ran o) steps cells global output ≡ over (runReport o steps cells global) output
   unfolding writerBuffer keptIf reportOf
-  written e = ap (λ (x : Option Refusal). keptIf x output (over (runReport o steps cells) output)) e
+  written e = ap (λ (x : Option Refusal). keptIf x output (over (runReport o steps cells global) output)) e
 
--- The step counts of a launch's threads are the front of the words that the run leaves.
-counts-front : {threads : ℕ} (counts steps behind : List ℕ) → counts ≡ over steps behind → length steps ≡ threads → take threads counts ≡ steps
-counts-front counts steps behind e l = subst (λ (k : ℕ). take k counts ≡ steps) l (front-of steps behind counts e)
+-- A buffer of 1,024 words has room for the words that were put at its front.
+pub placed-room : (w xs placed : List ℕ) → placed ≡ putPart 0 w xs → length w ≤ 1024 → length xs ≡ 1024 → length w ≤ length placed
+placed-room w xs placed p few long =
+    let e = ap length (placed-over w xs placed p) ∙ over-length w xs (omega (arith, few, long)) in omega (arith, few, long, e)
 
-ap₃ : {o o′ : Outcome} {steps steps′ cells cells′ : List ℕ} → o ≡ o′ → steps ≡ steps′ → cells ≡ cells′ → runReport o steps cells ≡ runReport o′ steps′ cells′
-ap₃ p q r = λ i. runReport (p i) (q i) (r i)
+-- A launch's threads are some of 256.
+pub threads-few : (groups threads : ℕ) → groups ≤ 8 → threads ≤ 32 → groups * threads ≤ 256
+threads-few groups threads g t = let h : groups * threads ≤ 8 * 32 = mul-le-mul g t in omega (arith, h)
 
-module _ (table ends : List ℕ) (threads limit : ℕ) (words cells log records output : List ℕ)
-    (asks : Asks table ends threads limit words cells log records output) where
-  pub placed-length : (placed : List ℕ) → placed ≡ over words cells → length placed ≡ length cells
-  placed-length placed p = ap length p ∙ over-length words cells (omega (arith, asks .fewCells, asks .cellsLent))
+threads-some : (groups threads : ℕ) → 1 ≤ groups → 1 ≤ threads → 1 ≤ groups * threads
+threads-some groups threads g t = let h : 1 * 1 ≤ groups * threads = mul-le-mul g t in omega (arith, h)
 
-  -- All counts are there.
-  pub counts-long : (memory : List ℕ) {o : Outcome} {ys zs ws counts : List ℕ}
-      → RunIs (lockstep (rowsOf table) (oneGroup threads memory) memory limit) (intervalRecords (rowsOf table) (oneGroup threads memory) memory limit)
-      records o ys zs ws counts → length counts ≡ 32
-  counts-long memory run =
-      ap length (run .counts-are)
-      ∙ over-length _ (replicate 32 0) (omega (arith, steps-size (rowsOf table) threads memory limit, asks .fewThreads, length-replicate {A = ℕ} 32 0))
-      ∙ length-replicate {A = ℕ} 32 0
+module _ (table ends : List ℕ) (threads groups each limit : ℕ) (words shared cells global log records output : List ℕ)
+    (asks : Asks table ends threads groups each limit words shared cells global log records output) where
+  abbrev launch : Launch
+  launch = launchOf table threads groups each limit words shared
+
+  -- Every thread has its count.
+  counted : length (launchSteps launch) ≡ groups * threads
+  unfolding launchSteps bareLaunch
+  counted = steps-long (rowsOf table) (sizesBy threads groups each shared) limit (words ++ shared) (asks .someGroup)
+
+  pub counts-long : (counts : List ℕ) → counts ≡ over (launchSteps launch) (replicate 256 0) → length counts ≡ 256
+  counts-long counts e =
+      ap length e
+      ∙ over-length (launchSteps launch) (replicate 256 0)
+      (omega (arith, counted, threads-few groups threads (asks .fewGroups) (asks .fewThreads), length-replicate {A = ℕ} 256 0))
+      ∙ length-replicate {A = ℕ} 256 0
 
   -- The buffers: the words placed, the fronts and the step counts that the run gave back, the report written.
-  module _ (placed ys zs ws counts out : List ℕ) (o : Outcome) (r : Written) (p : placed ≡ over words cells) (ly : length ys ≡ length words)
-      (lz : length zs ≡ logPerCell * length words) where
-    abbrev launch : Launch
-    launch = launchOf table threads limit words
+  module _ (placed placedGlobal : List ℕ) (p : placed ≡ over words cells) (pg : placedGlobal ≡ over shared global) (o : Outcome)
+      (ys gs zs ws counts : List ℕ)
+      (ran-it : RunIs (bareLaunch table (sizesBy threads groups each (take (length shared) placedGlobal)) limit (take (length words) placed)
+      (take (length shared) placedGlobal)) records o ys gs zs ws counts) where
+    -- The run was that of the launch.
+    pub run : RunIs launch records o ys gs zs ws counts
+    run =
+        subst (λ l. RunIs l records o ys gs zs ws counts)
+        (ap₂ (λ w s. bareLaunch table (sizesBy threads groups each s) limit w s) (front-of words cells placed p) (front-of shared global placedGlobal pg)) ran-it
 
     abbrev front : List ℕ
     front = take (length words) (ys ++ drop (length words) placed)
 
-    abbrev steps : List ℕ
-    steps = take threads counts
+    abbrev frontGlobal : List ℕ
+    frontGlobal = take (length shared) (gs ++ drop (length shared) placedGlobal)
 
-    pub reported : RunIs (lockstep (rowsOf table) (oneGroup threads (take (length words) placed)) (take (length words) placed) limit)
-        (intervalRecords (rowsOf table) (oneGroup threads (take (length words) placed)) (take (length words) placed) limit) records o ys zs ws counts
-        → r ≡ writerAnswer (ran o) steps front output → out ≡ writerBuffer (ran o) steps front output → FitsOutput (ran o) steps front
-        → ReportedLaunch launch cells log records output r (ys ++ drop (length words) placed) (zs ++ drop (logPerCell * length words) log) ws out
-    unfolding launchRun launchIntervals launchOutcome launchReport
-    reported run answer buffer fits =
-        let same : lockstep (rowsOf table) (oneGroup threads (take (length words) placed)) (take (length words) placed) limit ≡ launchRun launch = ap
-        (λ (w : List ℕ). lockstep (rowsOf table) (oneGroup threads w) w limit) (front-of words cells placed p) in
-        let records-same : intervalRecords (rowsOf table) (oneGroup threads (take (length words) placed)) (take (length words) placed) limit ≡ launchIntervals launch = ap
-        (λ (w : List ℕ). intervalRecords (rowsOf table) (oneGroup threads w) w limit) (front-of words cells placed p) in
-        let kept : front ≡ ys = front-kept (length words) ys _ ly in
-        let few : length front ≡ length words = ap length kept ∙ ly in
-        let ran-steps : steps ≡ launchRun launch .state .steps = counts-front counts (launchRun launch .state .steps) (replicate 32 0)
-        (run .counts-are ∙ ap (λ (x : LockResult). over (x .state .steps) (replicate 32 0)) same) (steps-size (rowsOf table) threads words limit) in
-        let every : length steps ≡ threads = ap length ran-steps ∙ steps-size (rowsOf table) threads words limit in
-        let none = accepted o steps front output (omega (arith, every, asks .someThread)) (omega (arith, every, asks .fewThreads))
-        (omega (arith, few, asks .someCell)) (omega (arith, few, asks .fewCells)) (asks .outputLent) fits in
-        let whole : runReport o steps front ≡ launchReport launch = ap₃ (run .outcome-is ∙ ap₂ (λ x is. outcomeOf x (conflictsOf is)) same records-same) ran-steps
-        (kept ∙ run .cells-are ∙ ap (λ (x : LockResult). x .state .cells) same) in
+    pub reported : (used : ℕ) → used ≡ groups * threads → let steps = take used counts in (out : List ℕ) (r : Written) → length ys ≡ length words → length gs ≡ length shared
+        → length zs ≡ launchLogPerCell * (length words + length shared) → r ≡ writerAnswer (ran o) steps front frontGlobal output
+        → out ≡ writerBuffer (ran o) steps front frontGlobal output → FitsOutput (ran o) steps front frontGlobal
+        → ReportedLaunch launch cells global log records output r (ys ++ drop (length words) placed) (gs ++ drop (length shared) placedGlobal)
+        (zs ++ drop (launchLogPerCell * (length words + length shared)) log) ws out
+    unfolding launchReport
+    reported used eu out r ly lg lz answer buffer fits =
+        let steps = take used counts in
+        let own-kept : front ≡ ys = front-kept (length words) ys _ ly in
+        let global-kept : frontGlobal ≡ gs = front-kept (length shared) gs _ lg in
+        let own-long : length front ≡ length words = ap length own-kept ∙ ly in
+        let global-long : length frontGlobal ≡ length shared = ap length global-kept ∙ lg in
+        let steps-are : steps ≡ launchSteps launch =
+        subst (λ k. take k counts ≡ launchSteps launch) (counted ∙ sym eu) (front-of (launchSteps launch) (replicate 256 0) counts (run .steps-are)) in
+        let every : length steps ≡ groups * threads = ap length steps-are ∙ counted in
+        let some-words : 1 ≤ length words = omega (arith, asks .own, threads-some groups each (asks .someGroup) (asks .someCell)) in
+        let none = accepted o steps front frontGlobal output (omega (arith, every, threads-some groups threads (asks .someGroup) (asks .someThread)))
+        (omega (arith, every, threads-few groups threads (asks .fewGroups) (asks .fewThreads))) (omega (arith, own-long, global-long, some-words))
+        (omega (arith, own-long, global-long, asks .fewCells)) (asks .outputLent) fits in
+        let whole : runReport o steps front frontGlobal ≡ launchReport launch =
+        λ i. runReport (run .outcome-is i) (steps-are i) ((own-kept ∙ run .cells-are) i) ((global-kept ∙ run .global-are) i) in
         record {
-          answered = answer ∙ wrote o steps front output none ∙ ap (λ (w : List ℕ). Wrote (length w)) whole;
-          cells-left = given-back-over words ys cells placed p ly
-              ∙ ap (λ (w : List ℕ). over w cells) (run .cells-are ∙ ap (λ (x : LockResult). x .state .cells) same);
-          log-left = given-back (logPerCell * length words) zs log lz
-              ∙ ap (λ (w : List ℕ). over w log) (run .log-is ∙ ap (λ (x : LockResult). logWords (x .state .log)) same);
-          records-left = run .records-are ∙ ap (λ is. over (recordWords is) records) records-same;
-          report-written = buffer ∙ written o steps front output none ∙ ap (λ (w : List ℕ). over w output) whole;
+          answered = answer ∙ wrote o steps front frontGlobal output none ∙ ap (λ (w : List ℕ). Wrote (length w)) whole;
+          cells-left = given-back-over words ys cells placed p ly ∙ ap (λ (w : List ℕ). over w cells) (run .cells-are);
+          global-left = given-back-over shared gs global placedGlobal pg lg ∙ ap (λ (w : List ℕ). over w global) (run .global-are);
+          log-left = given-back (launchLogPerCell * (length words + length shared)) zs log lz ∙ ap (λ (w : List ℕ). over w log) (run .log-is);
+          records-left = run .records-are;
+          report-written = buffer ∙ written o steps front frontGlobal output none ∙ ap (λ (w : List ℕ). over w output) whole;
         }

@@ -15,18 +15,20 @@ use Rattle.admission.specs.Refusing.{refusalOf}
 use Rattle.spec.specs.Answers.{first, told, toldIn}
 use Rattle.spec.specs.Table.{rowsOf}
 use Rattle.spec.specs.TableCheck.{tableRefusal}
-use Rattle.spec.specs.Log.{logWords}
-use Rattle.spec.specs.LaunchFile.{Launch, Checked, Read, stop, read, refused, accepted, unlessRefused, checkedTable, fileLaunch}
-use Rattle.spec.specs.Entries.{fileLent, andState, fileChecked, launchRun, launchReport, reportLength, ifAccepted, fileAnswer, fileCellsAfter}
-use Rattle.spec.specs.Entries.{fileLogAfter, fileRecordsAfter, fileOutputAfter, checkedRefusal, over, checkPrints, launchIntervals}
+use Rattle.spec.specs.Launch.{Launch, launchIntervals, launchLog, ownAfter, globalAfter}
+use Rattle.spec.specs.LaunchFile.{Checked, Read, stop, read, refused, accepted, unlessRefused, checkedTable, fileLaunch}
+use Rattle.spec.specs.Entries.{fileLent, andState, fileChecked, bareLaunch, launchReport, reportLength, ifAccepted, fileAnswer, fileCellsAfter, fileGlobalAfter}
+use Rattle.spec.specs.Entries.{fileLogAfter, fileRecordsAfter, fileOutputAfter, checkedRefusal, over, checkPrints}
 use Rattle.spec.specs.Limits.{recordsLent}
 use Rattle.spec.specs.Intervals.{recordWords}
+use Rattle.spec.specs.Shape.{sizes}
 use Rattle.spec.specs.Demands.{ReportDemand3, FileReadable, OfWritten}
 use Rattle.spec.proofs.Laws.{front-of}
 use Rattle.structure.proofs.Refusals.{unless-none, orElse-none}
 use Rattle.readback.proofs.Runs.{file-readable, launch-printed, report-demand3}
 use Rattle.reader.specs.Answer.{endAt}
 use Rattle.launch.proofs.Ready.{runnable}
+use Rattle.launchrun.specs.Launches.{sizesBy}
 use Rattle.launchfile.specs.declared.Parsed.{Parsed}
 use Rattle.launchfile.specs.Parsed.{linesRead, ReadAs, ParsedIs, AcceptedAs}
 use Rattle.launchfile.proofs.Whole.{whole-file}
@@ -55,11 +57,20 @@ tableBytes p = take (4 * p .launch .rows) (p .launch .table)
 abbrev pub cellWords : Parsed → List ℕ
 cellWords p = take (p .launch .count) (p .launch .cells)
 
+abbrev pub globalWords : Parsed → List ℕ
+globalWords p = take (p .launch .shared) (p .launch .global)
+
 abbrev pub launchRead : Parsed → Launch
-launchRead p = launchOf (tableBytes p) (p .launch .threads) (p .launch .limit) (cellWords p)
+launchRead p = launchOf (tableBytes p) (p .launch .threads) (p .launch .groups) (p .launch .each) (p .launch .limit) (cellWords p) (globalWords p)
 
 same-launch : (launch : Launch) (p : Parsed) → AcceptedAs launch p → launch ≡ launchRead p
-same-launch launch p a = rw (a .threads, a .limit, a .table, a .cells) refl
+unfolding bareLaunch
+same-launch launch p a =
+    let many : p .launch .shared ≡ length (globalWords p) =
+    sym (length-take-le (p .launch .shared) (p .launch .global) (omega (arith, a .globalLong, a .within .fewCells))) in
+    let Z : launch .sizes ≡ sizesBy (p .launch .threads) (p .launch .groups) (p .launch .each) (globalWords p) =
+    sym (a .sizesAre) ∙ ap (sizes (p .launch .threads) (p .launch .each) (p .launch .groups)) many in
+    λ i. record { sizes = Z i; limit = sym (a .limit) i; table = sym (a .table) i; cells = sym (a .cells) i }
 
 module _ (file : List ℕ) (p : Parsed) (h : ParsedIs file p) where
   pub file-refused : (why : Refusal) → p .answer ≡ admission.Refused why → fileLaunch file ≡ refused why
@@ -74,7 +85,7 @@ module _ (file : List ℕ) (p : Parsed) (h : ParsedIs file p) where
     of-file = lines .stands
 
     by-table : fileLaunch file ≡ unlessRefused (tableRefusal (rowsOf (tableBytes p))) (launchRead p)
-    unfolding checkedTable
+    unfolding checkedTable bareLaunch
     by-table =
         whole-file file
         ∙ ap checkedTable (lines .lines)
@@ -99,42 +110,51 @@ module _ (file : List ℕ) (p : Parsed) (h : ParsedIs file p) where
     table-length = sym (length-take-le (4 * p .launch .rows) (p .launch .table) used)
 
     pub filled : p .launch .count ≤ length (p .launch .cells)
-    filled = omega (arith, of-file .cellsLong, of-file .within .fewCells)
+    filled = omega (arith, of-file .cellsLong, of-file .own, of-file .within .fewCells)
 
     pub words-length : p .launch .count ≡ length (cellWords p)
     words-length = sym (length-take-le (p .launch .count) (p .launch .cells) filled)
 
+    pub filled-global : p .launch .shared ≤ length (p .launch .global)
+    filled-global = omega (arith, of-file .globalLong, of-file .within .fewCells)
+
+    pub global-length : p .launch .shared ≡ length (globalWords p)
+    global-length = sym (length-take-le (p .launch .shared) (p .launch .global) filled-global)
+
     pub whole-rows : (length (tableBytes p) % 4 ≡ 0) × (length (tableBytes p) ≤ 4 * 256)
     whole-rows = (omega (arith, table-length), omega (arith, table-length, of-file .within .fewRows))
 
-pub lent-is : (held logged recorded room : ℕ) → fileLent held logged recorded room ≡ none
-    → (held ≡ 1024) × (logged ≡ 5120) × (recordsLent ≤ recorded) × (17408 ≤ room)
+pub lent-is : (held shared logged recorded room : ℕ) → fileLent held shared logged recorded room ≡ none
+    → (held ≡ 1024) × (shared ≡ 1024) × (logged ≡ 8192) × (recordsLent ≤ recorded) × (24576 ≤ room)
 unfolding fileLent first
-lent-is held logged recorded room e =
-    let a = orElse-none _ _ .0 e in
-    let b = orElse-none _ _ .0 (a .1) in
-    let c = orElse-none _ _ .0 (b .1) in
-    let d = orElse-none _ _ .0 (c .1) in (
-      eqb-true _ _ (unless-none _ _ .0 (a .0)),
-      eqb-true _ _ (unless-none _ _ .0 (b .0)),
-      leb-true _ _ (unless-none _ _ .0 (c .0)),
-      leb-true _ _ (unless-none _ _ .0 (d .0)),
+lent-is held shared logged recorded room e =
+    let own-tested = orElse-none _ _ .0 e in
+    let global-tested = orElse-none _ _ .0 (own-tested .1) in
+    let log-tested = orElse-none _ _ .0 (global-tested .1) in
+    let records-tested = orElse-none _ _ .0 (log-tested .1) in
+    let output-tested = orElse-none _ _ .0 (records-tested .1) in (
+      eqb-true _ _ (unless-none _ _ .0 (own-tested .0)),
+      eqb-true _ _ (unless-none _ _ .0 (global-tested .0)),
+      eqb-true _ _ (unless-none _ _ .0 (log-tested .0)),
+      leb-true _ _ (unless-none _ _ .0 (records-tested .0)),
+      leb-true _ _ (unless-none _ _ .0 (output-tested .0)),
     )
 
-module _ (file cells log records output : List ℕ) where
+module _ (file cells global log records output : List ℕ) where
   -- The answer, by its case and by number and place, the buffers, and what may be read from the report.
-  abbrev pub Entry : Written → (cells′ log′ records′ output′ : List ℕ) → Type 0
-  Entry r cells′ log′ records′ output′ =
-      (r ≡ fileAnswer file cells log records output)
-      × ((toldIn r ≡ told (checkedRefusal (fileChecked file cells log records output)))
-      × ((cells′ ≡ fileCellsAfter file cells log records output)
-      × ((log′ ≡ fileLogAfter file cells log records output)
-      × ((records′ ≡ fileRecordsAfter file cells log records output)
-      × ((output′ ≡ fileOutputAfter file cells log records output)
-      × (OfWritten (FileReadable file) r output′ × OfWritten (ReportDemand3 file) r output′))))))
+  abbrev pub Entry : Written → (cells′ global′ log′ records′ output′ : List ℕ) → Type 0
+  Entry r cells′ global′ log′ records′ output′ =
+      (r ≡ fileAnswer file cells global log records output)
+      × ((toldIn r ≡ told (checkedRefusal (fileChecked file cells global log records output)))
+      × ((cells′ ≡ fileCellsAfter file cells global log records output)
+      × ((global′ ≡ fileGlobalAfter file cells global log records output)
+      × ((log′ ≡ fileLogAfter file cells global log records output)
+      × ((records′ ≡ fileRecordsAfter file cells global log records output)
+      × ((output′ ≡ fileOutputAfter file cells global log records output)
+      × (OfWritten (FileReadable file) r output′ × OfWritten (ReportDemand3 file) r output′)))))))
 
   abbrev byState : Option Refusal
-  byState = fileLent (length cells) (length log) (length records) (length output)
+  byState = fileLent (length cells) (length global) (length log) (length records) (length output)
 
   told-in : (x : Checked Launch) → toldIn (reportLength x) ≡ told (checkedRefusal x)
   unfolding reportLength toldIn told checkedRefusal
@@ -149,73 +169,77 @@ module _ (file cells log records output : List ℕ) where
   checked-launch (accepted l) (some why) launch e = absurd (Option·none-ne-some why (sym (ap checkedRefusal e)))
 
   -- What is written is what `check` prints.
-  of-written : (P : List ℕ → Type 0) → P (checkPrints file) → OfWritten P (fileAnswer file cells log records output) (fileOutputAfter file cells log records output)
+  of-written : (P : List ℕ → Type 0) → P (checkPrints file) → OfWritten P (fileAnswer file cells global log records output) (fileOutputAfter file cells global log records output)
   unfolding fileAnswer fileOutputAfter fileChecked reportLength ifAccepted
-  of-written P h = by (fileChecked file cells log records output) refl
+  of-written P h = by (fileChecked file cells global log records output) refl
     where
-      by : (x : Checked Launch) → fileChecked file cells log records output ≡ x → OfWritten P (reportLength x) (ifAccepted x output launchReport)
+      by : (x : Checked Launch) → fileChecked file cells global log records output ≡ x → OfWritten P (reportLength x) (ifAccepted x output launchReport)
       by (refused why) e = tt
       by (accepted launch) e =
           rw (front-of (launchReport launch) output (over (launchReport launch) output) refl)
           (subst P (launch-printed file launch (checked-launch (fileLaunch file) byState launch e)) h)
 
-  entry : (r : Written) (cells′ log′ records′ output′ : List ℕ) → r ≡ fileAnswer file cells log records output → cells′ ≡ fileCellsAfter file cells log records output
-      → log′ ≡ fileLogAfter file cells log records output → records′ ≡ fileRecordsAfter file cells log records output
-      → output′ ≡ fileOutputAfter file cells log records output → Entry r cells′ log′ records′ output′
+  entry : (r : Written) (cells′ global′ log′ records′ output′ : List ℕ) → r ≡ fileAnswer file cells global log records output
+      → cells′ ≡ fileCellsAfter file cells global log records output → global′ ≡ fileGlobalAfter file cells global log records output → log′ ≡ fileLogAfter file cells
+      global log records output → records′ ≡ fileRecordsAfter file cells global log records output
+      → output′ ≡ fileOutputAfter file cells global log records output → Entry r cells′ global′ log′ records′ output′
   unfolding fileAnswer
-  entry r cells′ log′ records′ output′ a c l w o =
+  entry r cells′ global′ log′ records′ output′ a c g l w o =
       let written : (P : List ℕ → Type 0) → P (checkPrints file) → OfWritten P r output′ = λ P h. rw (a, o) (of-written P h) in (
         a,
         (
-          ap toldIn a ∙ told-in (fileChecked file cells log records output),
-          (c, (l, (w, (o, (written (FileReadable file) (file-readable file), written (ReportDemand3 file) (report-demand3 file)))))),
+          ap toldIn a ∙ told-in (fileChecked file cells global log records output),
+          (c, (g, (l, (w, (o, (written (FileReadable file) (file-readable file), written (ReportDemand3 file) (report-demand3 file))))))),
         ),
       )
 
-  turned-back : (why : Refusal) → fileChecked file cells log records output ≡ refused why → Entry (written.Refused why) cells log records output
-  unfolding fileAnswer fileCellsAfter fileLogAfter fileRecordsAfter fileOutputAfter reportLength ifAccepted
+  turned-back : (why : Refusal) → fileChecked file cells global log records output ≡ refused why → Entry (written.Refused why) cells global log records output
+  unfolding fileAnswer fileCellsAfter fileGlobalAfter fileLogAfter fileRecordsAfter fileOutputAfter reportLength ifAccepted
   turned-back why e =
-      entry (written.Refused why) cells log records output (sym (ap reportLength e))
-      (sym (ap (λ x. ifAccepted x cells (λ launch. launchRun launch .state .cells)) e))
-      (sym (ap (λ x. ifAccepted x log (λ launch. logWords (launchRun launch .state .log))) e))
+      entry (written.Refused why) cells global log records output (sym (ap reportLength e))
+      (sym (ap (λ x. ifAccepted x cells ownAfter) e)) (sym (ap (λ x. ifAccepted x global globalAfter) e)) (sym (ap (λ x. ifAccepted x log launchLog) e))
       (sym (ap (λ x. ifAccepted x records (λ launch. recordWords (launchIntervals launch))) e)) (sym (ap (λ x. ifAccepted x output launchReport) e))
 
   -- From the input, and from the state.
-  pub file-refuses : (why : Refusal) → fileLaunch file ≡ refused why → Entry (written.Refused why) cells log records output
+  pub file-refuses : (why : Refusal) → fileLaunch file ≡ refused why → Entry (written.Refused why) cells global log records output
   unfolding fileChecked andState
   file-refuses why e = turned-back why (ap (λ x. andState x byState) e)
 
-  pub state-refuses : (launch : Launch) (why : Refusal) → fileLaunch file ≡ accepted launch → byState ≡ some why → Entry (written.Refused why) cells log records output
+  pub state-refuses : (launch : Launch) (why : Refusal) → fileLaunch file ≡ accepted launch → byState ≡ some why → Entry (written.Refused why) cells global log records output
   unfolding fileChecked andState unlessRefused
   state-refuses launch why e q = turned-back why (ap₂ andState e q)
 
-  pub ran : (launch : Launch) (r : Written) (cells′ log′ records′ output′ : List ℕ) → fileLaunch file ≡ accepted launch → byState ≡ none
-      → ReportedLaunch launch cells log records output r cells′ log′ records′ output′ → Entry r cells′ log′ records′ output′
-  unfolding fileChecked andState unlessRefused fileAnswer fileCellsAfter fileLogAfter fileRecordsAfter fileOutputAfter reportLength ifAccepted
-  ran launch r cells′ log′ records′ output′ e q d =
-      let taken : fileChecked file cells log records output ≡ accepted launch = ap₂ andState e q in
-      entry r cells′ log′ records′ output′ (d .answered ∙ sym (ap reportLength taken))
-      (d .cells-left ∙ sym (ap (λ x. ifAccepted x cells (λ l. launchRun l .state .cells)) taken))
-      (d .log-left ∙ sym (ap (λ x. ifAccepted x log (λ l. logWords (launchRun l .state .log))) taken))
+  pub ran : (launch : Launch) (r : Written) (cells′ global′ log′ records′ output′ : List ℕ) → fileLaunch file ≡ accepted launch → byState ≡ none
+      → ReportedLaunch launch cells global log records output r cells′ global′ log′ records′ output′ → Entry r cells′ global′ log′ records′ output′
+  unfolding fileChecked andState unlessRefused fileAnswer fileCellsAfter fileGlobalAfter fileLogAfter fileRecordsAfter fileOutputAfter reportLength ifAccepted
+  ran launch r cells′ global′ log′ records′ output′ e q d =
+      let taken : fileChecked file cells global log records output ≡ accepted launch = ap₂ andState e q in
+      entry r cells′ global′ log′ records′ output′ (d .answered ∙ sym (ap reportLength taken))
+      (d .cells-left ∙ sym (ap (λ x. ifAccepted x cells ownAfter) taken)) (d .global-left ∙ sym (ap (λ x. ifAccepted x global globalAfter) taken))
+      (d .log-left ∙ sym (ap (λ x. ifAccepted x log launchLog) taken))
       (d .records-left ∙ sym (ap (λ x. ifAccepted x records (λ l. recordWords (launchIntervals l))) taken))
       (d .report-written ∙ sym (ap (λ x. ifAccepted x output launchReport) taken))
 
   -- What running the launch asks.
   pub asked : (p : Parsed) (h : ParsedIs file p) (e : p .answer ≡ admission.Accepted) (loopEnds : List ℕ) → tableRefusal (rowsOf (tableBytes p)) ≡ none
       → ((i : ℕ) → i < 256 → getD loopEnds i 0 ≡ endAt (rowsOf (tableBytes p)) i) → byState ≡ none
-      → Asks (tableBytes p) loopEnds (p .launch .threads) (p .launch .limit) (cellWords p) cells log records output
+      → Asks (tableBytes p) loopEnds (p .launch .threads) (p .launch .groups) (p .launch .each) (p .launch .limit) (cellWords p) (globalWords p) cells global log records output
   asked p h e loopEnds t f q =
       let w = of-file file p h e .within in
-      let l = lent-is (length cells) (length log) (length records) (length output) q in
+      let l = lent-is (length cells) (length global) (length log) (length records) (length output) q in
       record {
         checked = runnable (tableBytes p) loopEnds (whole-rows file p h e .1) t f;
         someThread = w .someThread;
         fewThreads = w .fewThreads;
+        someGroup = w .someGroup;
+        fewGroups = w .fewGroups;
         fewRuns = w .fewRuns;
-        someCell = omega (arith, words-length file p h e, w .someCell);
-        fewCells = omega (arith, words-length file p h e, w .fewCells);
+        own = sym (words-length file p h e) ∙ of-file file p h e .own;
+        someCell = w .someCell;
+        fewCells = omega (arith, words-length file p h e, global-length file p h e, of-file file p h e .own, w .fewCells);
         cellsLent = l .0;
-        logLent = l .1;
-        recordsLent = l .2;
-        outputLent = l .3;
+        globalLent = l .1;
+        logLent = l .2;
+        recordsLent = l .3;
+        outputLent = l .4;
       }

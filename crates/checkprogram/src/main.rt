@@ -42,7 +42,7 @@ fn read_all(buffer: &mut [u8]) -> Input
 // so that no report is taken for it.
 fn report_input() {
     let mut input = [0u8; 32769];
-    let mut output = [0u8; 17408];
+    let mut output = [0u8; 24576];
     let Input::Bytes(size) = read_all(&mut input) else {
         return;
     };

@@ -3,8 +3,10 @@ use mathlib.Core.Path.{_≡_}
 use mathlib.Core.List.{List, [], _∷_}
 use mathlib.Core.Bool.{cond}
 use Prim.Native.Nat.{ℕ, _+_, _*_, _≤_}
+use Prim.Native.String.{String}
 use lib.Dec.{ltb}
 use lib.ListN.{length, take, drop, set}
+use Rattle.spec.specs.Text.{text}
 use Rattle.spec.specs.LaunchFile.{Read, stop, read, times, due, number}
 use Rattle.filelines.specs.Values.{rowBytes}
 use Rattle.spec.specs.declared.Refusal.the-variants.{LineNotDue}
@@ -32,10 +34,10 @@ pub record RowsTaken (n : ℕ) (file table after : List ℕ) (good : ℕ) (rest 
   pub long : length after ≡ 1024
   pub kept : drop (4 * good) after ≡ drop (4 * good) table
 
--- n cells: the words of the good lines go to the front, and all behind them is as it was.
-pub record CellsTaken (n : ℕ) (file cells after : List ℕ) (good : ℕ) (rest : List ℕ) : Type 0 where
+-- n cells, whose lines have the key of these bytes: the words of the good lines go to the front, and all behind them is as it was.
+pub record CellsTaken (key : List ℕ) (n : ℕ) (file cells after : List ℕ) (good : ℕ) (rest : List ℕ) : Type 0 where
   pub within : good ≤ n
-  pub lines : (line : ℕ) → times n (due "cell" number) line file ≡ taken n line good (take n after) rest
-  pub front : (line : ℕ) → times good (due "cell" number) line file ≡ read (take good after) (line + good) rest
+  pub lines : (name : String) → text name ≡ key → (line : ℕ) → times n (due name number) line file ≡ taken n line good (take n after) rest
+  pub front : (name : String) → text name ≡ key → (line : ℕ) → times good (due name number) line file ≡ read (take good after) (line + good) rest
   pub long : length after ≡ 1024
   pub kept : drop good after ≡ drop good cells

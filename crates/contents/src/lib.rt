@@ -4,18 +4,7 @@ use text::Number;
 ghost use mathlib.Core.Path.{_≡_};
 ghost use Prim.Native.Nat.{_*_, _<_, _≤_};
 ghost use lib.ListN.{length};
-ghost use Rattle.spec.specs.Text.{text};
-ghost use Rattle.spec.specs.LaunchFile.{number};
-ghost use Rattle.text.specs.Numbers.{numberOf};
-ghost use Rattle.filelines.specs.Lines.{keyedValue};
 ghost use Rattle.contents.specs.Taken.{putRow, RowsTaken, CellsTaken};
-
-// The word that the first line gives.
-fn cell_line(rest: &[u8]) -> Number
-    ensures { λ r. ⌜ keyedValue (text "cell") number (now (rest .entry)) ≡ numberOf r ⌝ }
-{
-    filelines::number_line(rest, b"cell")
-}
 
 fn put_row(table: &mut [u8; 1024], row: usize, op: u8, d: u8, a: u8, b: u8)
     requires { ⌜ row < 256 ⌝ }
@@ -49,20 +38,21 @@ pub fn read_rows<'a>(file: &'a [u8], n: usize, table: &mut [u8; 1024], good: &mu
     rest
 }
 
-// Reads n cells, up to the first line that is not one, and answers what is left. `good` is how many it read.
+// Reads n cells whose lines have this key, up to the first line that is not one, and answers what is left. `good` is how many it read.
 pub fn read_cells<'a>(
     file: &'a [u8],
+    key: &[u8],
     n: usize,
     cells: &mut [u32; 1024],
     good: &mut usize,
 ) -> &'a [u8]
     requires { ⌜ (n ≤ 1024) × (length (now cells) ≡ 1024) ⌝ }
-    ensures { λ r. ⌜ CellsTaken n (now (file .entry)) (now (cells .entry)) (now (cells .exit)) (now (good .exit)) (now r) ⌝ }
+    ensures { λ r. ⌜ CellsTaken (now (key .entry)) n (now (file .entry)) (now (cells .entry)) (now (cells .exit)) (now (good .exit)) (now r) ⌝ }
 {
     let mut rest = file;
     let mut k = 0;
     while k < n {
-        let Number::Value(word) = cell_line(rest) else {
+        let Number::Value(word) = filelines::number_line(rest, key) else {
             *good = k;
             return rest;
         };

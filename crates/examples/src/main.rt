@@ -24,7 +24,7 @@ fn print_name(i: usize) {
 fn compare(launch: usize, report: usize) {
     let mut input = io::large_buffer();
     let mut wanted = io::large_buffer();
-    let mut output = [0u8; 17408];
+    let mut output = [0u8; 24576];
     let size = read_named(launch, &mut input);
     let long = read_named(report, &mut wanted);
     let written = filereport::report_file(&input[..size], &mut output);

@@ -11,7 +11,8 @@ use Rattle.spec.specs.declared.Written.{Written}
 use Rattle.spec.specs.declared.Written.the-variants.{Refused, Wrote}
 use Rattle.spec.specs.declared.Subject.the-variants as subject
 use Rattle.spec.specs.Answers.{unless, orElse, first, refusalNumber, refusalPlace}
-use Rattle.spec.specs.LaunchFile.{Launch, Checked, refused, accepted, unlessRefused, fileLaunch}
+use Rattle.spec.specs.Launch.{Launch}
+use Rattle.spec.specs.LaunchFile.{Checked, refused, accepted, unlessRefused, fileLaunch}
 use Rattle.spec.specs.Report.{refusalReport, reportOf}
 use Rattle.spec.specs.Entries.{over, writerRefusal, writtenOf, writerAnswer, writerBuffer, keptIf, fileLent, andState, fileChecked, launchReport}
 use Rattle.spec.specs.Entries.{reportLength, ifAccepted, fileAnswer, fileOutputAfter, printed, checkPrints}
@@ -43,32 +44,32 @@ unfolding over
 over-fits w xs l e h = omega (arith, h, ap length e, length-append w (drop (length w) xs), length-drop (length w) xs)
 
 -- The report of a refusal: it is asked for no steps and no cells, and it has room.
-module _ (why : Refusal) (number place : ℕ) (en : number ≡ refusalNumber why) (ep : place ≡ refusalPlace why) (steps cells output out : List ℕ)
-    (r : Written) (room : 17408 ≤ length output) where
+module _ (why : Refusal) (number place : ℕ) (en : number ≡ refusalNumber why) (ep : place ≡ refusalPlace why) (steps cells global output out : List ℕ)
+    (r : Written) (room : 24576 ≤ length output) where
   abbrev text : List ℕ
   text = refusalReport (refusalNumber why) (refusalPlace why)
 
   abbrev Told : Type 0
   Told =
-      (r ≡ writerAnswer (subject.Refused number place) steps cells output)
-      × ((out ≡ writerBuffer (subject.Refused number place) steps cells output) × FitsOutput (subject.Refused number place) steps cells)
+      (r ≡ writerAnswer (subject.Refused number place) steps cells global output)
+      × ((out ≡ writerBuffer (subject.Refused number place) steps cells global output) × FitsOutput (subject.Refused number place) steps cells global)
 
-  same-text : reportOf (subject.Refused number place) steps cells ≡ text
+  same-text : reportOf (subject.Refused number place) steps cells global ≡ text
   unfolding reportOf
   same-text = ap₂ refusalReport en ep
 
-  short : Told → length text ≤ 17408
-  short t = omega (arith, ap length same-text, t .1 .1 (no-lines-asked number place steps cells))
+  short : Told → length text ≤ 24576
+  short t = omega (arith, ap length same-text, t .1 .1 (no-lines-asked number place steps cells global))
 
-  taken : Told → writerRefusal (subject.Refused number place) steps cells output ≡ none
+  taken : Told → writerRefusal (subject.Refused number place) steps cells global output ≡ none
   taken t =
-      fitting (subject.Refused number place) steps cells output (length text) (no-lines-asked number place steps cells) (ap length (sym same-text)) (omega (arith, short t))
+      fitting (subject.Refused number place) steps cells global output (length text) (no-lines-asked number place steps cells global) (ap length (sym same-text)) (omega (arith, short t))
 
   wrote : Told → r ≡ Wrote (length text)
   unfolding writerAnswer writtenOf
   wrote t = t .0 ∙ ap₂ writtenOf (taken t) (ap length same-text)
 
-  pub refusal-written : (size : ℕ) → Told → r ≡ Wrote size → (size ≡ length text) × ((out ≡ over text output) × (size ≤ 17408))
+  pub refusal-written : (size : ℕ) → Told → r ≡ Wrote size → (size ≡ length text) × ((out ≡ over text output) × (size ≤ 24576))
   unfolding writerBuffer keptIf
   refusal-written size t e =
       let same = same-size r size (length text) e (wrote t) in (
@@ -98,17 +99,25 @@ unfolding andState unlessRefused
 by-file (refused why) state e = refl
 by-file (accepted launch) state e = ap (λ s. unlessRefused s launch) e
 
-module _ (file cells log records output : List ℕ) (c : length cells ≡ 1024) (l : length log ≡ 5120) (w : length records ≡ 3075) (o : length output ≡ 17408) where
-  lent : fileLent (length cells) (length log) (length records) (length output) ≡ none
+module _ (file cells global log records output : List ℕ) (c : length cells ≡ 1024) (g : length global ≡ 1024) (l : length log ≡ 8192) (w : length records ≡ 3075)
+    (o : length output ≡ 24576) where
+  lent : fileLent (length cells) (length global) (length log) (length records) (length output) ≡ none
   unfolding fileLent first orElse unless
-  lent = rw (eq-eqb (length cells) 1024 c, eq-eqb (length log) 5120 l, le-leb 3075 (length records) (omega arith), le-leb 17408 (length output) (omega arith)) refl
+  lent =
+      rw (
+        eq-eqb (length cells) 1024 c,
+        eq-eqb (length global) 1024 g,
+        eq-eqb (length log) 8192 l,
+        le-leb 3075 (length records) (omega arith),
+        le-leb 24576 (length output) (omega arith),
+      ) refl
 
-  checked : fileChecked file cells log records output ≡ fileLaunch file
+  checked : fileChecked file cells global log records output ≡ fileLaunch file
   unfolding fileChecked
-  checked = by-file (fileLaunch file) (fileLent (length cells) (length log) (length records) (length output)) lent
+  checked = by-file (fileLaunch file) (fileLent (length cells) (length global) (length log) (length records) (length output)) lent
 
-  module _ (r : Written) (out : List ℕ) (long : length out ≡ length output) (answer : r ≡ fileAnswer file cells log records output)
-      (buffer : out ≡ fileOutputAfter file cells log records output) where
+  module _ (r : Written) (out : List ℕ) (long : length out ≡ length output) (answer : r ≡ fileAnswer file cells global log records output)
+      (buffer : out ≡ fileOutputAfter file cells global log records output) where
     size-told : r ≡ reportLength (fileLaunch file)
     unfolding fileAnswer
     size-told = answer ∙ ap reportLength checked
@@ -147,7 +156,7 @@ module _ (file cells log records output : List ℕ) (c : length cells ≡ 1024) 
 
     pub refusal-printed : (why : Refusal) (size : ℕ) (last : List ℕ) → r ≡ Refused why
         → (size ≡ length (refusalReport (refusalNumber why) (refusalPlace why)))
-        × ((last ≡ over (refusalReport (refusalNumber why) (refusalPlace why)) out) × (size ≤ 17408)) → Prints file output size last
+        × ((last ≡ over (refusalReport (refusalNumber why) (refusalPlace why)) out) × (size ≤ 24576)) → Prints file output size last
     refusal-printed why size last w t =
         let f = refusal-is why w in
         let room = over-length (refusalReport (refusalNumber why) (refusalPlace why)) out (omega (arith, t .0, t .1 .1, long, o)) in

@@ -11,22 +11,22 @@ ghost use Rattle.spec.specs.Entries.{over, checkPrints};
 ghost use Rattle.spec.specs.Demands.{ReportDemand3, FileReadable};
 
 fn report_refusal(why: Refusal, output: &mut [u8]) -> usize
-    requires { ⌜ 17408 ≤ length (now output) ⌝ }
+    requires { ⌜ 24576 ≤ length (now output) ⌝ }
     ensures long { λ r. ⌜ r ≡ length (refusalReport (refusalNumber why) (refusalPlace why)) ⌝ }
     ensures written { λ _. ⌜ now (output .exit) ≡ over (refusalReport (refusalNumber why) (refusalPlace why)) (now (output .entry)) ⌝ }
-    ensures fits { λ r. ⌜ r ≤ 17408 ⌝ }
+    ensures fits { λ r. ⌜ r ≤ 24576 ⌝ }
 {
     let told = refusals::words(why);
     let subject = Subject::Refused(told[0], told[1]);
     let none: [u32; 0] = [];
-    match report::write_report(subject, &none, &none, output) {
+    match report::write_report(subject, &none, &none, &none, output) {
         Written::Wrote(size) => size,
         // A refusal's report has room.
         Written::Refused(short) => 0,
     }
 }
 
-pub fn report_file(file: &[u8], output: &mut [u8; 17408]) -> usize
+pub fn report_file(file: &[u8], output: &mut [u8; 24576]) -> usize
     ensures long { λ r. ⌜ r ≡ length (checkPrints (now (file .entry))) ⌝ }
     ensures written { λ _. ⌜ now (output .exit) ≡ over (checkPrints (now (file .entry))) (now (output .entry)) ⌝ }
     ensures fits { λ r. ⌜ r ≤ length (now (output .exit)) ⌝ }
@@ -34,9 +34,17 @@ pub fn report_file(file: &[u8], output: &mut [u8; 17408]) -> usize
     ensures runs { λ r. ⌜ ReportDemand3 (now (file .entry)) (take r (now (output .exit))) ⌝ }
 {
     let mut cells: [u32; 1024] = [0; 1024];
-    let mut log: [u32; 5120] = [0; 5120];
+    let mut global: [u32; 1024] = [0; 1024];
+    let mut log: [u32; 8192] = [0; 8192];
     let mut records: [u32; 3075] = [0; 3075];
-    match checkfile::check_file(file, &mut cells, &mut log, &mut records, output) {
+    match checkfile::check_file(
+        file,
+        &mut cells,
+        &mut global,
+        &mut log,
+        &mut records,
+        output,
+    ) {
         Written::Wrote(size) => size,
         Written::Refused(why) => report_refusal(why, output),
     }

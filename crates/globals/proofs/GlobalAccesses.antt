@@ -15,7 +15,7 @@ use Rattle.spec.specs.Op.{OWN, GLOBAL, Mem, MEM, opOf}
 use Rattle.spec.specs.Table.{Row, cellByte, kindOf}
 use Rattle.spec.specs.Shape.{Shape, total}
 use Rattle.spec.specs.Mask.{Mask, maskWord, any, lowest}
-use Rattle.spec.specs.GroupLog.{GroupLog, groupConflictMask, groupRaceKind, groupLogged}
+use Rattle.spec.specs.GroupLog.{GroupLog, groupConflictMask, groupRaceKind, groupLogged, groupWords}
 use Rattle.spec.specs.LockStep.{LockState, Step, continues, stops, update, reg, madeAccess, enterGroup, accessTurn}
 use Rattle.masks.proofs.Words.{any-none, any-some, lowest-is}
 use Rattle.layout.specs.declared.Access.{Access}
@@ -23,7 +23,7 @@ use Rattle.layout.specs.declared.Access.the-variants.{Done, Stop}
 use Rattle.layout.specs.Logging.{modeOf, testedWord, maskEntered}
 use Rattle.layout.specs.Memory.{Did, AccessAsks, CellNumber, accessOf, shapeBy, goesOn}
 use Rattle.layout.specs.Views.{viewOf, putView, globalFrom, alone}
-use Rattle.layout.specs.Shared.{groupPart, groupWords, GroupsAre, GroupAsks, rivalsWord, groupKindWord, GlobalMemory, GlobalDid, GlobalAsks}
+use Rattle.layout.specs.Shared.{groupPart, GroupsAre, GroupAsks, rivalsWord, groupKindWord, GlobalMemory, GlobalDid, GlobalAsks}
 use Rattle.layout.proofs.Parts.{part-size}
 use Rattle.layout.proofs.GroupBuffer as buffer
 use Rattle.layout.proofs.GlobalTurn.{group-conflict-at, group-kind-at, globalStep, global-turn}

@@ -3,7 +3,7 @@ use mathlib.Core.Path.{_≡_}
 use mathlib.Core.List.{List}
 use Prim.Native.Nat.{ℕ, _+_, _-_, _*_, _<_, _≤_}
 use lib.ListN.{length, getD}
-use Rattle.spec.specs.Limits.{logPerCell}
+use Rattle.spec.specs.Limits.{logPerCell, groupsPerCell}
 use Rattle.spec.specs.Op.{CALC, LAUNCHTID, OWN, GLOBAL, Mem, MEM, WHILE, opOf}
 use Rattle.spec.specs.Shape.{Shape}
 use Rattle.spec.specs.Table.{rowsOf, rowAt, endOf}
@@ -13,7 +13,7 @@ use Rattle.layout.specs.declared.Access.the-variants.{Done}
 use Rattle.layout.specs.declared.State.{State}
 use Rattle.layout.specs.declared.Next.{Next}
 use Rattle.layout.specs.Memory.{KeptBut, Puts, computedLane}
-use Rattle.layout.specs.Shared.{groupsPerCell, GlobalAll}
+use Rattle.layout.specs.Shared.{GlobalAll}
 use Rattle.layout.specs.Represents.{Room, Counts, DepthAsks, accessed}
 use Rattle.layout.specs.Running.{RowAsks, RegsAfter}
 use Rattle.layout.specs.Constructs.{savedAfter, openersAfter}

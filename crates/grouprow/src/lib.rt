@@ -1,5 +1,4 @@
-// One row of a group of a launch. Its own cells are those of a group alone; the launch number, rows that name global cells, and what a barrier does to
-// their log, are told apart here.
+// One row of a group of a launch, by its op. Over its own cells it is a row of a group alone; the launch number and rows that name global cells stand here.
 ghost use mathlib.Core.Path.{_≡_};
 ghost use Prim.Native.Nat.{_+_, _-_, _*_, _^_, _<_, _≤_};
 ghost use lib.ListN.{length, getD};
@@ -54,6 +53,7 @@ fn global_row(
     after_access(c, s)
 }
 
+// The op is told apart once, outside the loops over the threads; what most rows do comes first.
 pub fn group_row(
     table: &[u8],
     ends: &[u8; 256],
@@ -86,33 +86,36 @@ pub fn group_row(
 {
     let row = s.row;
     let op = table[row * 4];
-    if 18 < op {
-        if op < 32 {
-            let d = step::index(table[row * 4 + 1]);
-            if op == 19 {
-                return launch_row(regs, n, group, d, s);
-            }
-            let a = step::index(table[row * 4 + 2]);
-            return global_row(regs, global, shared, masks, n, group, op, d, a, s);
-        }
+    let x = step::row_operands(table, row);
+    let d = x.d;
+    let a = x.a;
+    if op < 16 {
+        return step::compute_row(regs, n, op, d, a, x.b, s);
     }
-    let count = global.len();
-    step::step(
-        table,
-        ends,
-        n,
-        regs,
-        cells,
-        log,
-        shared,
-        count,
-        saved,
-        openers,
-        counts,
-        stamps,
-        memo,
-        records,
-        group,
-        s,
-    )
+    if op < 19 {
+        return step::access_row(
+            regs,
+            cells,
+            log,
+            stamps,
+            memo,
+            records,
+            n,
+            op,
+            d,
+            a,
+            group,
+            s,
+        );
+    }
+    if op < 32 {
+        if op == 19 {
+            return launch_row(regs, n, group, d, s);
+        }
+        return global_row(regs, global, shared, masks, n, group, op, d, a, s);
+    }
+    if op < 37 {
+        return step::construct_row(regs, saved, openers, counts, ends, op, a, s);
+    }
+    step::barrier_row(log, shared, records, cells.len(), global.len(), n, group, s)
 }

@@ -53,7 +53,7 @@ use Rattle.step.proofs.Tables.{row-inside, row-here, compute-op, mem-op}
 use Rattle.grouprow.specs.Rows.{LaunchRowAsks, GlobalRowAsks, BufferSizes, GroupReady, GroupSteps}
 use Rattle.grouprun.specs.declared.Ended.{Ended}
 use Rattle.grouprun.specs.Groups.{GroupStart, GroupEnd, SomeStart, followed}
-use Rattle.grouprun.proofs.RowBytes.{row-asks}
+use Rattle.grouprun.proofs.RowBytes.{BytesAsk, row-asks}
 use Rattle.grouprun.proofs.Starting.{group-of, starts-sim, starts-stand}
 use Rattle.grouprun.proofs.Recording.{intervals-start, intervals-row, intervals-end, intervals-spent, release-free, grown-one, plain-free, used-are, own-below, last}
 use Rattle.grouprun.proofs.Recording.{all-cells, row-went, row-stopped, behind-none, behind-more, after-none, after-more, row-followed, end-followed}
@@ -440,16 +440,8 @@ module _ (table ends : List ℕ) (n group limit : ℕ) (L : Shape) (o : LockResu
             )
 
     -- what the row's bytes ask
-    own-asks : RowAsks (getD table (s .row * 4) 0) (getD table (s .row * 4 + 1) 0) (getD table (s .row * 4 + 2) 0) (getD table (s .row * 4 + 3) 0)
-    own-asks = row-asks table (A .accepted) (s .row) inside
-
-    -- no byte of an accepted table gives the launch number or names global cells yet
-    launch-asks : getD table (s .row * 4) 0 ≡ 19 → LaunchRowAsks (getD table (s .row * 4) 0) (getD table (s .row * 4 + 1) 0)
-    launch-asks e = let q = own-asks .accesses (omega arith) (omega arith) .0 in absurd (omega (arith, q))
-
-    global-asks : 19 < getD table (s .row * 4) 0 → getD table (s .row * 4) 0 < 32
-        → GlobalRowAsks (getD table (s .row * 4) 0) (getD table (s .row * 4 + 1) 0) (getD table (s .row * 4 + 2) 0)
-    global-asks h l = let q = own-asks .accesses (omega arith) l .0 in absurd (omega (arith, q))
+    asked : BytesAsk (getD table (s .row * 4) 0) (getD table (s .row * 4 + 1) 0) (getD table (s .row * 4 + 2) 0) (getD table (s .row * 4 + 3) 0)
+    asked = row-asks table (A .accepted) (s .row) inside
 
     pub go-ready : 1 ≤ n → group < 8 → limit ≤ 1000000 → BufferSizes cells log global shared masks
         → GroupReady table ends n group s regs cells log saved openers global shared masks
@@ -464,9 +456,9 @@ module _ (table ends : List ℕ) (n group limit : ℕ) (L : Shape) (o : LockResu
             since-few = G .since-few;
             barriers-few = G .barriers-few;
           };
-          own-asks = λ f. own-asks;
-          launch-asks = launch-asks;
-          global-asks = global-asks;
+          own-asks = asked .own;
+          launch-asks = asked .launch;
+          global-asks = asked .global;
           depths = record {
             opens-if = λ e. let q = op-is 32 IF byte-if e in let d = depth-opens IF q while-if in omega (arith, deeper (role-if _ q));
             inside = λ h k u. closes (which _ h k u);
@@ -521,7 +513,7 @@ module _ (table ends : List ℕ) (n group limit : ℕ) (L : Shape) (o : LockResu
           let x = rowAt T (G .here .row) .op in
           let w = subst (λ p. runRow T L (rowAt T (G .here .row)) (G .here) p ≡ continues z
           → (stepping byte s s′ ≡ maskWord (whoSteps p (G .here))) × (length (whoSteps p (G .here)) ≤ n)) (sym row-byte)
-          (who-steps n byte _ _ _ (λ f. own-asks) launch-asks global-asks T L (rowAt T (G .here .row)) (G .here) z s s′ enabled-is
+          (who-steps n byte _ _ _ (asked .own) (asked .launch) (asked .global) T L (rowAt T (G .here .row)) (G .here) z s s′ enabled-is
           (R .own .enabled-is) enabled-size (R .own .enabled-size ∙ G .threads-are)) q in
           let more : z .steps ≡ allStepped (G .here .steps) (members (whoSteps x (G .here))) = subst (RowSteps x (G .here)) q counted in
           let one : Counted s s′ = subst (Counts s) e (S .counts) in (
@@ -537,7 +529,11 @@ module _ (table ends : List ℕ) (n group limit : ℕ) (L : Shape) (o : LockResu
       row-costs s′ z e d = by (lt-or-le byte 16) (lt-or-le byte 19) (lt-or-le byte 32) (lt-or-le byte 20) ∙ ap (rowCost (rowAt T (G .here .row)) (G .here)) (sym row-byte)
         where
           plain : (byte < 16) ⊎ (32 ≤ byte) → K .cost ≡ 0 → K .cost ≡ rowCost (rowAt T (G .here .row)) (G .here) (opOf byte)
-          plain p q = q ∙ sym (plain-free (rowAt T (G .here .row)) (G .here) byte _ _ _ own-asks p)
+          plain p q = q ∙ sym (plain-free (rowAt T (G .here .row)) (G .here) byte _ _ _ (asked .own (apart p)) p)
+            where
+              apart : (byte < 16) ⊎ (32 ≤ byte) → 18 < byte → byte < 32 → ⊥
+              apart (inl h) a b = omega arith
+              apart (inr h) a b = omega arith
 
           own-count : length cells ≡ L .cells
           own-count =
@@ -552,11 +548,11 @@ module _ (table ends : List ℕ) (n group limit : ℕ) (L : Shape) (o : LockResu
               → K .cost ≡ rowCost (rowAt T (G .here .row)) (G .here) (opOf byte)
           by (inl h) p q w = plain (inl h) (K .plain (inl h))
           by (inr h) (inr p) (inr l) w = plain (inr l) (K .plain (inr p))
-          by (inr h) (inr p) (inl l) (inl w) = free (CALC LAUNCHTID) p (launch-asks (omega arith) .names) (unfold rowCost in refl)
-          by (inr h) (inr p) (inl l) (inr w) = let M = global-asks w l in free (MEM GLOBAL (M .mem)) p (M .names) (unfold rowCost in refl)
+          by (inr h) (inr p) (inl l) (inl w) = free (CALC LAUNCHTID) p (asked .launch (omega arith) .names) (unfold rowCost in refl)
+          by (inr h) (inr p) (inl l) (inr w) = let M = asked .global w l in free (MEM GLOBAL (M .mem)) p (M .names) (unfold rowCost in refl)
           by (inr h) (inl p) q w =
               let small : byte ≤ 18 = omega arith in
-              let regs-in = own-asks .accesses h (omega arith) in
+              let regs-in = asked .own (λ a b. omega arith) .accesses h (omega arith) in
               let m = mem-op byte h small in
               let x = row-here table (L .threads) (viewOf (ownFrom L) (L .cells) (G .here)) s regs cells log saved openers (G .stands .own) inside in
               let used = sym (view-used (m .0) (rowAt T (G .here .row)) (ownFrom L) (L .cells) (G .here))

@@ -1,14 +1,15 @@
 -- What an accepted row's bytes are: by its op, which of them name registers. Assumes nothing.
-use mathlib.Core.Path.{_≡_, refl, sym, _∙_, ap}
+use mathlib.Core.Path.{_≡_, refl, sym, _∙_, ap, subst}
 use mathlib.Core.List.{List}
 use mathlib.Core.Bool.{Bool, true, false, cond, _&&_, _||_, false≢true}
 use mathlib.Core.Option.{none}
-use Prim.Native.Nat.{ℕ, _+_, _*_, _<_, _≤_}
+use Prim.Native.Nat.{ℕ, zero, suc, _+_, _-_, _*_, _<_, _≤_}
 use native.Mathlib.Omega.{arith}
-use borrow.Author.Tests.{ltb-true, ltb-false, leb-true, lt-ltb, le-ltb, eq-eqb}
+use borrow.Author.Tests.{ltb-true, ltb-false, leb-true, lt-ltb, le-ltb, eq-eqb, ne-eqb}
 use lib.Dec.{leb, ltb, eqb}
 use lib.ListN.{length, getD, List·getD-eq-default}
 use Rattle.spec.specs.Op.{Form, setForm, dForm, dabForm, daForm, aForm, noForm, unknownForm, UNKNOWN, opOf, opTable, form, operandsFit, isRegister, isUnused}
+use Rattle.spec.specs.Op.{Mem, LOAD, STORE, ATOMICADD, MEM, OWN, GLOBAL}
 use Rattle.spec.specs.Table.{rowsOf, rowAt, rowOf}
 use Rattle.spec.specs.TableCheck.{tableRefusal, isKnown}
 use Rattle.spec.proofs.Laws.{row-bytes, allBelow, below}
@@ -17,6 +18,7 @@ use Rattle.structure.proofs.Acceptance.{operands-fit, accepted-if}
 use Rattle.allruns.proofs.Bools.{and-left, and-right}
 use Rattle.layout.specs.Memory.{ComputeAsks}
 use Rattle.layout.specs.Running.{RowAsks}
+use Rattle.grouprow.specs.Rows.{LaunchRowAsks, GlobalRowAsks}
 
 -- Which bytes of a form are registers.
 usesD : Form → Bool
@@ -84,7 +86,7 @@ low : ℕ → Form → Bool
 low k f = leb 1 k && (leb k 14 && (usesD f && (ltb k 4 || (usesA f && usesB f))))
 
 middle : ℕ → Form → Bool
-middle k f = leb k 18 && (usesD f && usesA f)
+middle k f = leb k 22 && (usesD f && (eqb k 19 || usesA f))
 
 high : ℕ → Form → Bool
 high k f = leb k 37 && (cond (eqb k 32) (usesA f) true && cond (eqb k 35) (usesA f) true)
@@ -107,6 +109,20 @@ known-small k e = by (ltb k 256) refl
     by : (z : Bool) → ltb k 256 ≡ z → k < 256
     by true q = ltb-true _ _ q
     by false q = never (sym (no-op k (ltb-false _ _ q)) ∙ e)
+
+-- Ops 20 to 22 do with global cells what ops 16 to 18 do with own ones.
+abbrev GlobalOp : ℕ → Type 0
+GlobalOp k = (m : Mem) × (opOf k ≡ MEM GLOBAL m) × (opOf (k - 4) ≡ MEM OWN m)
+
+global-op : (k : ℕ) → 19 < k → k ≤ 22 → GlobalOp k
+unfolding opOf opTable
+global-op k h l = by (k - 20) (let z : k ≡ 20 + (k - 20) = omega arith in z) (omega arith)
+  where
+    by : (j : ℕ) → k ≡ 20 + j → j ≤ 2 → GlobalOp k
+    by zero e l = subst GlobalOp (sym e) (LOAD, refl, refl)
+    by (suc zero) e l = subst GlobalOp (sym e) (STORE, refl, refl)
+    by (suc (suc zero)) e l = subst GlobalOp (sym e) (ATOMICADD, refl, refl)
+    by (suc (suc (suc j))) e l = absurd (omega arith)
 
 module _ (k d a b : ℕ) (known : isKnown (opOf k) ≡ true) (fit : operandsFit (form (opOf k)) d a b ≡ true) where
   abbrev f : Form
@@ -151,22 +167,29 @@ module _ (k d a b : ℕ) (known : isKnown (opOf k) ≡ true) (fit : operandsFit 
         right = λ l. regs .inB (and-right (usesA f) (usesB f) (both l u));
       }
 
-  accessing : 16 ≤ k → k < 32 → (k ≤ 18) × (d < 16) × (a < 16)
+  -- from 16 on below 32: a launch number or an access, of which all but the launch number name two registers
+  between : 16 ≤ k → k < 32 → (k ≤ 22) × (d < 16) × ((k ≡ 19 → ⊥) → a < 16)
   unfolding middle
-  accessing h l =
+  between h l =
       let e = in-middle h l in
-      let g = and-right (leb k 18) _ e in
-      (leb-true _ _ (and-left (leb k 18) _ e), regs .inD (and-left (usesD f) _ g), regs .inA (and-right (usesD f) _ g))
+      let g = and-right (leb k 22) _ e in (
+        leb-true _ _ (and-left (leb k 22) _ e),
+        regs .inD (and-left (usesD f) _ g),
+        λ other. regs .inA (sym (ap (λ z. z || usesA f) (ne-eqb k 19 other)) ∙ and-right (usesD f) _ g),
+      )
 
   testing : (j : ℕ) → k ≡ j → cond (eqb k j) (usesA f) true ≡ true → a < 16
   testing j e q = regs .inA (sym (ap (λ z. cond z (usesA f) true) (eq-eqb k j e)) ∙ q)
 
-  asks : RowAsks k d a b
+  abbrev Elsewhere : Type 0
+  Elsewhere = 18 < k → k < 32 → ⊥
+
+  own-asks : Elsewhere → RowAsks k d a b
   unfolding high
-  asks =
+  own-asks own =
       record {
         computes = computing;
-        accesses = accessing;
+        accesses = λ h l. let u = between h l in (own-last (ltb 18 k) refl l, u .1, u .2 (λ e. own (omega arith) l));
         ifs = λ e. testing 32 e (and-left _ _ (and-right (leb k 37) _ (in-high (omega arith))));
         whiles = λ e. testing 35 e (and-right (cond (eqb k 32) (usesA f) true) _ (and-right (leb k 37) _ (in-high (omega arith))));
         known = by (ltb k 32) refl;
@@ -176,11 +199,35 @@ module _ (k d a b : ℕ) (known : isKnown (opOf k) ≡ true) (fit : operandsFit 
       by true q = omega (arith, ltb-true k 32 q)
       by false q = leb-true _ _ (and-left (leb k 37) _ (in-high (ltb-false k 32 q)))
 
+      own-last : (z : Bool) → ltb 18 k ≡ z → k < 32 → k ≤ 18
+      own-last true q l = absurd (own (ltb-true 18 k q) l)
+      own-last false q l = ltb-false 18 k q
+
+  launch-asks : k ≡ 19 → LaunchRowAsks k d
+  unfolding opOf opTable
+  launch-asks e = record { target = between (omega arith) (omega arith) .1; names = ap opOf e }
+
+  global-asks : 19 < k → k < 32 → GlobalRowAsks k d a
+  global-asks h l =
+      let u = between (omega arith) l in
+      let g = global-op k h (u .0) in
+      record { known = h; small = u .0; target = u .1; source = u .2 (λ e. omega arith); mem = g .0; names = g .1; alike = g .2 }
+
+-- What the bytes of a row ask, wherever its op stands.
+pub record BytesAsk (k d a b : ℕ) : Type 0 where
+  pub own : (18 < k → k < 32 → ⊥) → RowAsks k d a b
+  pub launch : k ≡ 19 → LaunchRowAsks k d
+  pub global : 19 < k → k < 32 → GlobalRowAsks k d a
+
 pub row-asks : (table : List ℕ) → tableRefusal (rowsOf table) ≡ none → (r : ℕ) → r < length (rowsOf table)
-    → RowAsks (getD table (r * 4) 0) (getD table (r * 4 + 1) 0) (getD table (r * 4 + 2) 0) (getD table (r * 4 + 3) 0)
+    → BytesAsk (getD table (r * 4) 0) (getD table (r * 4 + 1) 0) (getD table (r * 4 + 2) 0) (getD table (r * 4 + 3) 0)
 unfolding rowOf
 row-asks table e r h =
     let q = row-bytes table r h in
-    asks (getD table (r * 4) 0) (getD table (r * 4 + 1) 0) (getD table (r * 4 + 2) 0) (getD table (r * 4 + 3) 0)
-    (sym (ap (λ x. isKnown (x .op)) q) ∙ known-of-other (rowAt (rowsOf table) r .op) (accepted-if (rowsOf table) e .known r h))
-    (sym (ap (λ x. operandsFit (form (x .op)) (x .d) (x .a) (x .b)) q) ∙ operands-fit (rowsOf table) e r h)
+    let k = getD table (r * 4) 0 in
+    let d = getD table (r * 4 + 1) 0 in
+    let a = getD table (r * 4 + 2) 0 in
+    let b = getD table (r * 4 + 3) 0 in
+    let known = sym (ap (λ x. isKnown (x .op)) q) ∙ known-of-other (rowAt (rowsOf table) r .op) (accepted-if (rowsOf table) e .known r h) in
+    let fit = sym (ap (λ x. operandsFit (form (x .op)) (x .d) (x .a) (x .b)) q) ∙ operands-fit (rowsOf table) e r h in
+    record { own = own-asks k d a b known fit; launch = launch-asks k d a b known fit; global = global-asks k d a b known fit }

@@ -9,14 +9,14 @@ use Rattle.spec.specs.Limits.{registers}
 use Rattle.spec.specs.Access.{Mode}
 use Rattle.spec.specs.Mask.{has}
 use Rattle.spec.specs.Log.{emptyLog, logWords}
-use Rattle.spec.specs.GroupLog.{groupMasksOf}
+use Rattle.spec.specs.GroupLog.{groupMasksOf, groupWords}
 use Rattle.spec.specs.Shape.{Shape}
 use Rattle.spec.specs.Table.{rowsOf}
 use Rattle.spec.specs.LockStep.{LockState, LockResult, runFrom}
 use Rattle.spec.specs.Intervals.{Interval, Intervals, started, intervalsFrom}
 use Rattle.spec.specs.Entries.{over}
 use Rattle.layout.specs.Views.{part, logPart, ownFrom, globalFrom, Sized}
-use Rattle.layout.specs.Shared.{groupPart, groupWords}
+use Rattle.layout.specs.Shared.{groupPart}
 use Rattle.banks.specs.Counting.{Older}
 use Rattle.banks.specs.Remembering.{Memo}
 use Rattle.intervals.specs.Records.{Ledger}

@@ -3,31 +3,45 @@ use admission::Admission;
 use spec::Answer;
 ghost use mathlib.Core.Path.{_≡_};
 ghost use Rattle.spec.specs.Answers.{told, toldBy};
-ghost use Rattle.spec.specs.Entries.{bareRefusal, bareAnswer, bareCells, bareLog, bareRecords, bareSteps};
+ghost use Rattle.spec.specs.Shape.{sizes};
+ghost use Rattle.spec.specs.Entries.{bareRefusal, bareAnswer, bareCells, bareGlobal, bareLog, bareRecords, bareSteps};
 ghost use Rattle.spec.specs.Demands.{BareDemand3};
 
-// The entry for whoever has a table without a file: `count` is the number of cells, which are lent in `cells`
-// with the launch's words. `records` gets three words for each barrier interval: the row due at its start, its rows, its cost; what stands behind them
-// is kept. `steps` gets the steps of each thread, 0 behind the last one. A refusal leaves all four as they were lent.
+// The entry for whoever has a table without a file: `groups` groups of `threads` threads, each with `count` cells of its own, over `shared` global ones.
+// `cells` holds the own cells of group 0, of group 1 and so on, `global` the global ones, both with the launch's words. `records` gets three words for
+// each barrier interval: the row due at its start, its rows, its cost; what stands behind them is kept. `steps` gets the steps of each thread by its
+// number in the launch, 0 behind the last one. A refusal leaves all five as they were lent.
 pub fn bare_launch(
     table: &[u8],
     threads: u32,
     count: u32,
+    groups: u32,
+    shared: u32,
     limit: u32,
     cells: &mut [u32],
+    global: &mut [u32],
     log: &mut [u32],
     records: &mut [u32],
-    steps: &mut [u32; 32],
+    steps: &mut [u32; 256],
 ) -> Answer
-    ensures answer { λ r. ⌜ r ≡ bareAnswer (now (table .entry)) threads count limit (now (cells .entry)) (now (log .entry)) (now (records .entry)) ⌝ }
-    ensures refusal { λ r. ⌜ toldBy r ≡ told (bareRefusal (now (table .entry)) threads count limit (now (cells .entry)) (now (log .entry)) (now (records .entry))) ⌝ }
-    ensures cells { λ _. ⌜ now (cells .exit) ≡ bareCells (now (table .entry)) threads count limit (now (cells .entry)) (now (log .entry)) (now (records .entry)) ⌝ }
-    ensures log { λ _. ⌜ now (log .exit) ≡ bareLog (now (table .entry)) threads count limit (now (cells .entry)) (now (log .entry)) (now (records .entry)) ⌝ }
-    ensures records { λ _. ⌜ now (records .exit) ≡ bareRecords (now (table .entry)) threads count limit (now (cells .entry)) (now (log .entry)) (now (records .entry)) ⌝ }
-    ensures steps { λ _. ⌜ now (steps .exit) ≡ bareSteps (now (table .entry)) threads count limit (now (cells .entry)) (now (log .entry)) (now (records .entry)) (now (steps .entry)) ⌝ }
-    ensures runs { λ r. ⌜ BareDemand3 (now (table .entry)) threads limit (now (cells .entry)) r (now (cells .exit)) (now (steps .exit)) ⌝ }
+    ensures answer { λ r. ⌜ r ≡ bareAnswer (now (table .entry)) (sizes threads count groups shared) limit
+        (now (cells .entry)) (now (global .entry)) (now (log .entry)) (now (records .entry)) ⌝ }
+    ensures refusal { λ r. ⌜ toldBy r ≡ told (bareRefusal (now (table .entry)) (sizes threads count groups shared) limit
+        (now (cells .entry)) (now (global .entry)) (now (log .entry)) (now (records .entry))) ⌝ }
+    ensures cells { λ _. ⌜ now (cells .exit) ≡ bareCells (now (table .entry)) (sizes threads count groups shared) limit
+        (now (cells .entry)) (now (global .entry)) (now (log .entry)) (now (records .entry)) ⌝ }
+    ensures global { λ _. ⌜ now (global .exit) ≡ bareGlobal (now (table .entry)) (sizes threads count groups shared) limit
+        (now (cells .entry)) (now (global .entry)) (now (log .entry)) (now (records .entry)) ⌝ }
+    ensures log { λ _. ⌜ now (log .exit) ≡ bareLog (now (table .entry)) (sizes threads count groups shared) limit
+        (now (cells .entry)) (now (global .entry)) (now (log .entry)) (now (records .entry)) ⌝ }
+    ensures records { λ _. ⌜ now (records .exit) ≡ bareRecords (now (table .entry)) (sizes threads count groups shared) limit
+        (now (cells .entry)) (now (global .entry)) (now (log .entry)) (now (records .entry)) ⌝ }
+    ensures steps { λ _. ⌜ now (steps .exit) ≡ bareSteps (now (table .entry)) (sizes threads count groups shared) limit
+        (now (cells .entry)) (now (global .entry)) (now (log .entry)) (now (records .entry)) (now (steps .entry)) ⌝ }
+    ensures runs { λ r. ⌜ BareDemand3 (now (table .entry)) (sizes threads count groups shared) limit (now (cells .entry)) (now (global .entry)) r
+        (now (cells .exit)) (now (global .exit)) (now (steps .exit)) ⌝ }
 {
-    match admission::numbers(table.len(), threads, count, limit) {
+    match admission::numbers(table.len(), threads, count, groups, shared, limit) {
         Admission::Refused(why) => return Answer::Refused(why),
         Admission::Accepted => {}
     }
@@ -38,9 +52,31 @@ pub fn bare_launch(
         Admission::Refused(why) => return Answer::Refused(why),
         Admission::Accepted => {}
     }
-    match admission::lent(count, cells.len(), log.len(), records.len()) {
+    let held = cells.len();
+    match admission::lent(
+        groups,
+        count,
+        shared,
+        held,
+        global.len(),
+        log.len(),
+        records.len(),
+    ) {
         Admission::Refused(why) => return Answer::Refused(why),
         Admission::Accepted => {}
     }
-    Answer::Ran(run::run(table, &ends, threads, limit, cells, log, records, steps))
+    let each = admission::wide(count);
+    Answer::Ran(launchrun::run_launch(
+        table,
+        &ends,
+        threads,
+        groups,
+        each,
+        limit,
+        cells,
+        global,
+        log,
+        records,
+        steps,
+    ))
 }

@@ -1,28 +1,30 @@
 -- What the lines behind the numbers come to: the first line that is not due, or the launch. Assumes nothing.
 use mathlib.Core.Path.{_≡_, refl, _∙_, subst}
-use mathlib.Core.List.{List, [], _∷_}
+use mathlib.Core.List.{List, [], _∷_, _++_}
 use mathlib.Core.Bool.{Bool, true, false}
-use Prim.Native.Nat.{ℕ, zero, suc, _+_, _*_, _-_, _<_, _≤_}
+use Prim.Native.Nat.{ℕ, suc, _+_, _*_, _<_, _≤_}
 use native.Mathlib.Numerals.{add-one}
 use native.Mathlib.Omega.{arith}
 use borrow.Author.Tests.{lt-ltb, le-ltb}
-use lib.ListN.{length, take, drop, replicate}
+use lib.ListN.{length, take, drop}
 use Rattle.spec.specs.Text.{text}
 use Rattle.spec.specs.Table.{rowsOf}
-use Rattle.spec.specs.LaunchFile.{stop, read, times, due, continue, _>>=_, _>>_, gives, fileEnds, threadsIn, cellsIn, limitIn, rowsIn, contentLines}
+use Rattle.spec.specs.Shape.{Sizes, allOwn}
+use Rattle.spec.specs.LaunchFile.{Read, stop, read, times, due, continue, _>>=_, _>>_, gives, fileEnds, contentLines}
+use Rattle.spec.specs.declared.Refusal.{Refusal}
 use Rattle.spec.specs.declared.Refusal.the-variants.{LineNotDue}
 use Rattle.filelines.specs.Lines.{keyedValue, nextIn, lineRead}
 use Rattle.filelines.specs.Values.{exactBytes, wordIn, rowBytes}
 use Rattle.filelines.proofs.DueLines.{due-word}
 use Rattle.contents.specs.Taken.{taken, foursOf, RowsTaken, CellsTaken}
 use Rattle.contents.proofs.RowLoop.{rows-lines}
-use Rattle.admission.specs.declared.Admission.the-variants.{Accepted}
-use Rattle.launchfile.specs.declared.Parsed.{Parsed}
-use Rattle.launchfile.specs.Parsed.{refusedWith, Within, ReadAs, BytesFrom}
-use Rattle.spec.specs.LaunchFile as definition
+use Rattle.numberlines.specs.Answered.{lineCount, answered}
+use Rattle.admission.specs.declared.Admission.the-variants.{Accepted, Refused}
+use Rattle.launchfile.specs.Parsed.{ContentsRead}
+use Rattle.spec.specs.Launch as definition
 
 -- Whether anything stands behind the last line.
-ended : (line : ℕ) (rest : List ℕ) → length rest ≡ 0 → fileEnds line rest ≡ read tt line rest
+ended : (line : ℕ) (rest : List ℕ) → length rest ≡ 0 → fileEnds line rest ≡ read tt line []
 unfolding fileEnds
 ended line [] e = refl
 ended line (b ∷ rest) e = absurd (omega arith)
@@ -32,83 +34,97 @@ unfolding fileEnds
 not-ended line [] n = absurd (n refl)
 not-ended line (b ∷ rest) n = refl
 
-zeros-behind : (n k : ℕ) → drop k (replicate {A = ℕ} n 0) ≡ replicate (n - k) 0
-zeros-behind n zero = let e : n - 0 ≡ n = omega arith in rw e
-zeros-behind zero (suc k) = let e : 0 - suc k ≡ 0 = omega arith in rw e
-zeros-behind (suc n) (suc k) = let e : suc n - suc k ≡ n - k = omega arith in rw e (zeros-behind n k)
+-- What the lines of every launch with so many own and global cells come to.
+abbrev Comes : (rest : List ℕ) → (rows count shared line : ℕ) → (Sizes → ℕ → Read definition.Launch) → Type 0
+Comes rest rows count shared line r = (Z : Sizes) (limit : ℕ) → count ≡ allOwn Z → shared ≡ Z .global → contentLines Z limit rows line rest ≡ r Z limit
 
--- The table's bytes, where all rows were read.
-pub table-bytes : {n good : ℕ} {rest old table left cells : List ℕ} → RowsTaken n rest old table good left → n ≤ good → (threads limit count : ℕ)
-    → BytesFrom rest (record { threads = threads; limit = limit; rows = n; count = count; table = table; cells = cells })
-table-bytes {n} {good} {rest} {old} {table} {left} T h threads limit count =
-    record {
-      left = left;
-      lines = subst (λ k. (line : ℕ) → times k (due "row" rowBytes) line rest ≡ read (foursOf (take (4 * k) table)) (line + k) left)
-          (let e : good ≡ n = omega (arith, T .within) in e) (T .front);
-    }
+-- A refusal says nothing of what was filled before it.
+pub refuses : {rest table cells global table′ cells′ global′ : List ℕ} {rows count shared : ℕ} {why : Refusal}
+    → Comes rest rows count shared (2 + lineCount) (λ Z limit. stop why) → ContentsRead rest rows count shared table cells global (Refused why) table′ cells′ global′
+unfolding answered
+refuses e = record { answer = e; filled = λ q. let z : _≡_ {A = ℕ} 0 1 = cc in absurd (omega arith) }
 
-module _ (ns : List ℕ) (line : ℕ) {rest table left : List ℕ} {good : ℕ} (rows : RowsTaken (rowsIn ns) rest (replicate 1024 0) table good left) where
-  pub no-row : good < rowsIn ns → {r : Parsed} → r ≡ refusedWith (LineNotDue (line + good)) → ReadAs (contentLines ns line rest) r
+module _ {rest table table′ own : List ℕ} {rows good : ℕ} (R : RowsTaken rows rest table table′ good own) (count shared line : ℕ) where
+  pub row-missing : good < rows → Comes rest rows count shared line (λ Z limit. stop (LineNotDue (line + good)))
   unfolding contentLines _>>=_ continue taken
-  no-row h e = rw (rows-lines rows line, lt-ltb good (rowsIn ns) h) e
+  row-missing h Z limit c g = rw (rows-lines R line, lt-ltb good rows h)
 
-  module _ (all : rowsIn ns ≤ good) {words last : List ℕ} {filled : ℕ} (cells : CellsTaken (cellsIn ns) left (replicate 1024 0) words filled last) where
-    all-rows : good ≡ rowsIn ns
-    all-rows = omega (arith, rows .within)
-
-    pub no-cell : filled < cellsIn ns → {r : Parsed} → r ≡ refusedWith (LineNotDue (line + rowsIn ns + filled)) → ReadAs (contentLines ns line rest) r
+  module _ (all : rows ≤ good) {cells cells′ others : List ℕ} {filled : ℕ} (C : CellsTaken (text "cell") count own cells cells′ filled others) where
+    pub cell-missing : filled < count → Comes rest rows count shared line (λ Z limit. stop (LineNotDue (line + rows + filled)))
     unfolding contentLines _>>=_ continue taken
-    no-cell h e = rw (rows-lines rows line, le-ltb good (rowsIn ns) all, cells .lines (line + rowsIn ns), lt-ltb filled (cellsIn ns) h) e
+    cell-missing h Z limit c g = rw (rows-lines R line, le-ltb good rows all, ← c, C .lines "cell" refl (line + rows), lt-ltb filled count h)
 
-    -- The launch that was read, if its end is right.
-    abbrev launch : definition.Launch
-    launch = record { threads = threadsIn ns; limit = limitIn ns; table = rowsOf (take (4 * rowsIn ns) table); cells = take (cellsIn ns) words }
-
-    abbrev endLine : ℕ
-    endLine = line + rowsIn ns + cellsIn ns
-
-    module _ (full : cellsIn ns ≤ filled) (t : Bool) (found : keyedValue (text "end") (exactBytes (text "kernel")) last ≡ wordIn t) where
-      at-end : contentLines ns line rest ≡ continue (lineRead endLine (wordIn t) (nextIn last)) (λ u. fileEnds >> gives launch)
-      unfolding contentLines _>>=_ _>>_ continue taken
-      at-end =
+    module _ (full : count ≤ filled) {global global′ last : List ℕ} {found : ℕ} (G : CellsTaken (text "gcell") shared others global global′ found last) where
+      pub global-missing : found < shared → Comes rest rows count shared line (λ Z limit. stop (LineNotDue (line + rows + count + found)))
+      unfolding contentLines _>>=_ continue taken
+      global-missing h Z limit c g =
           rw (
-            rows-lines rows line,
-            le-ltb good (rowsIn ns) all,
-            cells .lines (line + rowsIn ns),
-            le-ltb filled (cellsIn ns) full,
-            due-word "end" "kernel" endLine last t found,
+            rows-lines R line,
+            le-ltb good rows all,
+            ← c,
+            C .lines "cell" refl (line + rows),
+            le-ltb filled count full,
+            ← g,
+            G .lines "gcell" refl (line + rows + count),
+            lt-ltb found shared h,
           )
 
-      all-cells : filled ≡ cellsIn ns
-      all-cells = omega (arith, cells .within)
+      -- The launch that was read, if its end is right.
+      abbrev launch : Sizes → ℕ → definition.Launch
+      launch Z limit = record { sizes = Z; limit = limit; table = rowsOf (take (4 * rows) table′); cells = take count cells′ ++ take shared global′ }
 
-      pub no-end : t ≡ false → {r : Parsed} → r ≡ refusedWith (LineNotDue endLine) → ReadAs (contentLines ns line rest) r
-      unfolding continue lineRead
-      no-end f e = rw (at-end, f) e
+      abbrev endLine : ℕ
+      endLine = line + rows + count + shared
 
-      module _ (f : t ≡ true) {more : List ℕ} (q : more ≡ nextIn last) where
-        pub bytes-behind : (length more ≡ 0 → ⊥) → {r : Parsed} → r ≡ refusedWith (LineNotDue (endLine + 1)) → ReadAs (contentLines ns line rest) r
-        unfolding continue lineRead _>>_
-        bytes-behind n e = rw (at-end, f, ← q, not-ended (suc endLine) more n, ← add-one endLine) e
+      module _ (whole : shared ≤ found) (t : Bool) (word : keyedValue (text "end") (exactBytes (text "kernel")) last ≡ wordIn t) where
+        at-end : Comes rest rows count shared line
+            (λ Z limit. continue (lineRead endLine (wordIn t) (nextIn last)) (λ u. fileEnds >> gives (launch Z limit)))
+        unfolding contentLines _>>=_ _>>_ continue taken
+        at-end Z limit c g =
+            rw (
+              rows-lines R line,
+              le-ltb good rows all,
+              ← c,
+              C .lines "cell" refl (line + rows),
+              le-ltb filled count full,
+              ← g,
+              G .lines "gcell" refl (line + rows + count),
+              le-ltb found shared whole,
+              due-word "end" "kernel" endLine last t word,
+            )
 
-        pub accepts : Within (threadsIn ns) (limitIn ns) (rowsIn ns) (cellsIn ns) → length more ≡ 0
-            → ReadAs (contentLines ns line rest)
-            (record {
-              answer = Accepted;
-              launch = record { threads = threadsIn ns; limit = limitIn ns; rows = rowsIn ns; count = cellsIn ns; table = table; cells = words };
-            })
-        unfolding continue lineRead _>>_ gives
-        accepts within n =
-            rw (at-end, f, ← q, ended (suc endLine) more n)
-            (record {
-              answer = refl;
-              threads = refl;
-              limit = refl;
-              table = refl;
-              cells = refl;
-              within = within;
-              tableLong = rows .long;
-              cellsLong = cells .long;
-              tableZeros = subst (λ k. drop (4 * k) table ≡ drop (4 * k) (replicate 1024 0)) all-rows (rows .kept) ∙ zeros-behind 1024 (4 * rowsIn ns);
-              cellsZeros = subst (λ k. drop k words ≡ drop k (replicate 1024 0)) all-cells (cells .kept) ∙ zeros-behind 1024 (cellsIn ns);
-            })
+        pub end-missing : t ≡ false → Comes rest rows count shared line (λ Z limit. stop (LineNotDue endLine))
+        unfolding continue lineRead
+        end-missing f Z limit c g = at-end Z limit c g ∙ rw f
+
+        module _ (f : t ≡ true) {more : List ℕ} (q : more ≡ nextIn last) where
+          pub more-behind : (length more ≡ 0 → ⊥) → Comes rest rows count shared line (λ Z limit. stop (LineNotDue (endLine + 1)))
+          unfolding continue lineRead _>>_
+          more-behind n Z limit c g = at-end Z limit c g ∙ rw (f, ← q, not-ended (suc endLine) more n, ← add-one endLine)
+
+          all-there : length more ≡ 0 → Comes rest rows count shared line (λ Z limit. read (launch Z limit) (endLine + 1) [])
+          unfolding continue lineRead _>>_ gives
+          all-there n Z limit c g = at-end Z limit c g ∙ rw (f, ← q, ended (suc endLine) more n, ← add-one endLine)
+
+          pub accepts : length more ≡ 0 → line ≡ 2 + lineCount → ContentsRead rest rows count shared table cells global Accepted table′ cells′ global′
+          unfolding answered
+          accepts n e =
+              let r : good ≡ rows = omega (arith, R .within) in
+              let k : filled ≡ count = omega (arith, C .within) in
+              let m : found ≡ shared = omega (arith, G .within) in
+              record {
+                answer = subst (λ l. Comes rest rows count shared l (λ Z limit. read (launch Z limit) (l + rows + count + shared + 1) [])) e (all-there n);
+                filled = λ q.
+                    record {
+                      bytes = record {
+                        left = own;
+                        lines = subst (λ k. (line : ℕ) → times k (due "row" rowBytes) line rest ≡ read (foursOf (take (4 * k) table′)) (line + k) own) r (R .front);
+                      };
+                      tableLong = R .long;
+                      cellsLong = C .long;
+                      globalLong = G .long;
+                      tableKept = subst (λ k. drop (4 * k) table′ ≡ drop (4 * k) table) r (R .kept);
+                      cellsKept = subst (λ k. drop k cells′ ≡ drop k cells) k (C .kept);
+                      globalKept = subst (λ k. drop k global′ ≡ drop k global) m (G .kept);
+                    };
+              }

@@ -9,11 +9,11 @@ use native.Mathlib.Nat.{suc-mul, mul-le-mul-right}
 use lib.ListN.{length, getD, replicate, take, drop, length-append, length-take, length-replicate, getD-replicate, List·getD-eq-default}
 use lib.Seq.{ext-getD, take-all, drop-append-seam}
 use Rattle.spec.specs.Access.{Mode, reads, writes, adds}
-use Rattle.spec.specs.Limits.{logPerCell, recordsLent, maxRecords}
+use Rattle.spec.specs.Limits.{logPerCell, recordsLent, maxRecords, groupsPerCell}
 use Rattle.spec.specs.Lists.{joined}
 use Rattle.spec.specs.Mask.{Mask, has}
 use Rattle.spec.specs.Log.{Log, masksOf, emptyLog, logWords}
-use Rattle.spec.specs.GroupLog.{GroupLog, groupMasksOf, emptyGroupLog}
+use Rattle.spec.specs.GroupLog.{GroupLog, groupMasksOf, emptyGroupLog, groupWords}
 use Rattle.spec.specs.Shape.{Sizes, Shape, shapeOf, total}
 use Rattle.spec.specs.Table.{Table, rowsOf}
 use Rattle.spec.specs.LockStep.{LockState, initialState}
@@ -24,7 +24,7 @@ use Rattle.allruns.proofs.LogRecord.{replicate-has}
 use Rattle.allruns.proofs.LaunchCounts.{runAt}
 use Rattle.layout.specs.Memory.{Masks}
 use Rattle.layout.specs.Views.{part, logPart, ownFrom, globalFrom, Sized}
-use Rattle.layout.specs.Shared.{groupsPerCell, groupPart, groupWords}
+use Rattle.layout.specs.Shared.{groupPart}
 use Rattle.layout.proofs.Parts.{part-at, part-size, same-log, log-part-masks}
 use Rattle.layout.proofs.GlobalTurn.{group-part-masks, same-groups}
 use Rattle.layout.proofs.LogBuffer.{empty-is}
@@ -36,8 +36,9 @@ use Rattle.spec.specs.Entries.{over}
 use Rattle.grouprun.specs.Groups.{GroupStart, followed}
 use Rattle.grouprun.proofs.Recording.{intervals-start}
 use Rattle.placing.proofs.Logs.{empty-log-words, empty-group-words}
-use Rattle.launchrun.specs.declared.Ran.{Ran}
+use Rattle.spec.specs.declared.Outcome.{Outcome}
 use Rattle.launchrun.specs.Launches.{LaunchIs}
+use Rattle.launchrun.proofs.Buffers.{Buffers}
 use Rattle.launchrun.proofs.Launching.{Launched, later, intervalsOf, runs-split, part-front, zeros-more, empty-groups-masks}
 
 part-replicate : {A : Type 0} (d x : A) (a k t : ℕ) → a + k ≤ t → part a k (replicate t x) ≡ replicate k x
@@ -88,8 +89,14 @@ none-entered n k reads i h = nobody-in n k i h
 none-entered n k writes i h = nobody-in n k i h
 none-entered n k adds i h = nobody-in n k i h
 
-module _ (table : List ℕ) (Z : Sizes) (limit : ℕ) (cells global : List ℕ) (some : 1 ≤ Z .groups) (few : Z .groups ≤ 8)
-    (cells-long : length cells ≡ Z .groups * Z .cells) (global-long : length global ≡ Z .global) where
+module _ (table : List ℕ) (Z : Sizes) (limit : ℕ) (W : Buffers) (some : 1 ≤ Z .groups) (few : Z .groups ≤ 8)
+    (cells-long : length (W .cells) ≡ Z .groups * Z .cells) (global-long : length (W .global) ≡ Z .global) where
+  abbrev cells : List ℕ
+  cells = W .cells
+
+  abbrev global : List ℕ
+  global = W .global
+
   abbrev T : Table
   T = rowsOf table
 
@@ -177,10 +184,10 @@ module _ (table : List ℕ) (Z : Sizes) (limit : ℕ) (cells global : List ℕ) 
       own-first : 0 * Z .cells + Z .cells ≤ length cells
       own-first = let a = mul-le-mul-right (Z .cells) some in let e = suc-mul 0 (Z .cells) in omega (arith, a, e, cells-long)
 
-  pub launched-start : (lent log masks records steps stamps memo : List ℕ) → recordsLent ≤ length lent
-      → log ≡ replicate ((logPerCell + groupsPerCell) * t) 0 → masks ≡ replicate (groupsPerCell * Z .global) 0 → records ≡ begun 0 0 0 lent
-      → steps ≡ replicate 256 0 → Older 1 stamps → Memo memo → Launched table Z limit all lent j 0 0 0 cells global log masks records steps stamps memo
-  launched-start lent log masks records steps stamps memo h el em er es O M =
+  pub launched-start : (lent : List ℕ) → recordsLent ≤ length lent
+      → W .log ≡ replicate ((logPerCell + groupsPerCell) * t) 0 → W .masks ≡ replicate (groupsPerCell * Z .global) 0 → W .records ≡ begun 0 0 0 lent
+      → W .steps ≡ replicate 256 0 → Older 1 (W .stamps) → Memo (W .memo) → Launched table Z limit all lent j 0 0 0 W
+  launched-start lent h el em er es O M =
       record {
         state = s;
         before = [];
@@ -188,7 +195,7 @@ module _ (table : List ℕ) (Z : Sizes) (limit : ℕ) (cells global : List ℕ) 
         runs-are = unfold groupRuns in refl;
         count = refl;
         done-long = unfold joined in (let y : _≡_ {A = ℕ} 0 (0 * Z .threads) = omega arith in y);
-        start = start masks em;
+        start = start (W .masks) em;
         cells-are = unfold initialState in refl;
         cells-long = cells-long;
         global-long = global-long;
@@ -198,7 +205,7 @@ module _ (table : List ℕ) (Z : Sizes) (limit : ℕ) (cells global : List ℕ) 
         unentered = λ k l u i. unentered k u i;
         own-masks = λ i l u. ap (λ H. getD (groupMasksOf H u) i []) masks-are;
         steps-are = es ∙ (unfold joined in refl);
-        ledger = ledger-start whole lent _ records h er (first ∙ intervals-start T L (limit - 0) s ∙ (unfold initialState in refl)) whole-is;
+        ledger = ledger-start whole lent _ (W .records) h er (first ∙ intervals-start T L (limit - 0) s ∙ (unfold initialState in refl)) whole-is;
         rows-most = omega arith;
         barriers-few = omega arith;
         older = O;
@@ -241,13 +248,12 @@ some-words : (T : Table) (Z : Sizes) (all : List ℕ) (limit : ℕ) → 3 ≤ le
 unfolding intervalRecords groupRuns joined allOf recordsOf recordWords
 some-words T Z all limit = rw (runs-split T Z limit (Z .groups - 1) 0 (initialState Z all)) (omega arith)
 
-pub lent-is : (table : List ℕ) (Z : Sizes) (limit : ℕ) (all lent begun-with : List ℕ) (r : Ran) (cells global log records steps : List ℕ)
+pub lent-is : (table : List ℕ) (Z : Sizes) (limit : ℕ) (all lent begun-with : List ℕ) (r : Outcome) (cells global log records steps : List ℕ)
     → begun-with ≡ begun 0 0 0 lent → LaunchIs table Z limit all begun-with r cells global log records steps → LaunchIs table Z limit all lent r cells global log records steps
 lent-is table Z limit all lent begun-with r cells global log records steps e R =
     let w = recordWords (intervalRecords (rowsOf table) Z all limit) in
     record {
       outcome-is = R .outcome-is;
-      group-is = R .group-is;
       cells-are = R .cells-are;
       log-is = R .log-is;
       records-are = R .records-are ∙ ap (over w) e ∙ over-begun w lent (some-words (rowsOf table) Z all limit);

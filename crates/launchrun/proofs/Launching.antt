@@ -13,15 +13,16 @@ use Rattle.spec.specs.declared.Verdict.{Verdict}
 use Rattle.spec.specs.declared.Verdict.the-variants.{Passed, Race, GroupRace, Outside, Diverged, Spent}
 use Rattle.spec.specs.Answers.{isPassed}
 use Rattle.spec.specs.Access.{Mode, reads, writes, adds}
-use Rattle.spec.specs.Limits.{logPerCell, recordsLent, maxRecords}
+use Rattle.spec.specs.Limits.{logPerCell, recordsLent, maxRecords, groupsPerCell}
 use Rattle.spec.specs.Lists.{joined, lastOf}
 use Rattle.spec.specs.Mask.{has}
 use Rattle.spec.specs.Log.{Log, masksOf, emptyLog, logWords}
-use Rattle.spec.specs.GroupLog.{GroupLog, groupMasksOf, emptyGroupLog}
+use Rattle.spec.specs.GroupLog.{GroupLog, groupMasksOf, emptyGroupLog, groupWords}
 use Rattle.spec.specs.Shape.{Sizes, Shape, shapeOf, total, isGlobal}
 use Rattle.spec.specs.Table.{Table, rowsOf}
 use Rattle.spec.specs.LockStep.{LockState, LockResult, initialState, runFrom, outcomeOf}
-use Rattle.spec.specs.LaunchRun.{GroupRun, groupResult, groupRuns, lastRun, lockstep, nextStart, rowsLeft, runsFrom, stepsByLaunch}
+use Rattle.spec.specs.Launch.{allLogWords}
+use Rattle.spec.specs.LaunchRun.{GroupRun, groupResult, groupRuns, lastGroup, lastRun, lockstep, nextStart, rowsLeft, runsFrom, stepsByLaunch}
 use Rattle.spec.specs.Intervals.{Interval, Intervals, allOf, started, intervalsFrom, recordsOf, intervalRecords, recordWords, conflictsOf}
 use Rattle.spec.specs.Entries.{over}
 use Rattle.allruns.proofs.LockInvariants.{RunKeeps, run-keeps}
@@ -29,7 +30,7 @@ use Rattle.allruns.proofs.LaunchCounts.{runAt, startBehind}
 use Rattle.allruns.proofs.GroupMatches.{empty-groups-sized}
 use Rattle.layout.specs.Memory.{Masks}
 use Rattle.layout.specs.Views.{part, putPart, logPart, putLog, ownFrom, globalFrom, Sized}
-use Rattle.layout.specs.Shared.{groupsPerCell, groupPart, putGroups, groupWords}
+use Rattle.layout.specs.Shared.{groupPart, putGroups}
 use Rattle.layout.proofs.Parts.{LogFits, part-size, put-size, sized-fits, own-before, own-within, global-within, log-part-fits, put-log-fits, log-part-above, masks-part}
 use Rattle.layout.proofs.GlobalTurn.{group-part-masks}
 use Rattle.banks.specs.Counting.{Older}
@@ -43,8 +44,10 @@ use Rattle.placing.proofs.Logs.{log-placed, groups-placed, empty-group-words, l
 use Rattle.grouprun.proofs.Recording.{intervals-start}
 use Rattle.grouprun.specs.declared.Ended.{Ended}
 use Rattle.grouprun.specs.Groups.{GroupStart, GroupEnd, GroupRan, SomeStart, followed}
-use Rattle.launchrun.specs.declared.Ran.{Ran}
-use Rattle.launchrun.specs.Launches.{launchWords, TurnDone, placedLog, Closed, LaunchIs}
+use Rattle.spec.specs.declared.Outcome.{Outcome}
+use Rattle.groupturn.specs.Turns.{TurnDone}
+use Rattle.launchrun.specs.Launches.{placedLog, Closed, LaunchIs}
+use Rattle.launchrun.proofs.Buffers.{Buffers, withRecords}
 use Rattle.launchrun.proofs.Stretches.{one-group-log}
 use Rattle.launchrun.proofs.Between.{cells-rebuilt, next-log, next-sized, masks-kept, whole-log}
 
@@ -67,15 +70,20 @@ runs-split T Z limit zero g s = refl
 runs-split T Z limit (suc j) g s = refl
 
 -- There is none behind a group that has not passed, nor behind the last one.
-pub later-stopped : (T : Table) (Z : Sizes) (limit j g : ℕ) (s : LockState) → isPassed (groupResult T limit (runAt Z g s) .verdict) ≡ false
+later-stopped : (T : Table) (Z : Sizes) (limit j g : ℕ) (s : LockState) → isPassed (groupResult T limit (runAt Z g s) .verdict) ≡ false
     → later T Z limit j g s ≡ []
 unfolding later
 later-stopped T Z limit zero g s e = refl
 later-stopped T Z limit (suc j) g s e = ap (λ b. cond b (runsFrom T Z limit j (suc g) (startBehind T Z limit g s)) []) e
 
-pub later-last : (T : Table) (Z : Sizes) (limit j g : ℕ) (s : LockState) → j ≡ 0 → later T Z limit j g s ≡ []
+later-last : (T : Table) (Z : Sizes) (limit j g : ℕ) (s : LockState) → j ≡ 0 → later T Z limit j g s ≡ []
 unfolding later
 later-last T Z limit j g s e = ap (λ i. later T Z limit i g s) e
+
+pub later-over : (T : Table) (Z : Sizes) (limit j g : ℕ) (s : LockState) → (isPassed (groupResult T limit (runAt Z g s) .verdict) ≡ false) ⊎ (j ≡ 0)
+    → later T Z limit j g s ≡ []
+later-over T Z limit j g s (inl e) = later-stopped T Z limit j g s e
+later-over T Z limit j g s (inr e) = later-last T Z limit j g s e
 
 -- One more behind others.
 joined-more : {A : Type 0} (f : GroupRun → List A) (us : List GroupRun) (u : GroupRun) → joined (map f (us ++ (u ∷ []))) ≡ joined (map f us) ++ f u
@@ -116,35 +124,43 @@ empty-groups-masks g k m = let S = empty-groups-sized g k in record { count = S 
 -- ---- between two turns
 
 -- Group g is to start from `state`, with j groups behind it.
-pub record Launched (table : List ℕ) (Z : Sizes) (limit : ℕ) (all lent : List ℕ) (j g rows barriers : ℕ)
-    (cells global log masks records steps stamps memo : List ℕ) : Type 0 where
+pub record Launched (table : List ℕ) (Z : Sizes) (limit : ℕ) (all lent : List ℕ) (j g rows barriers : ℕ) (W : Buffers) : Type 0 where
   pub state : LockState
   pub before : List GroupRun
   pub behind : suc (j + g) ≡ Z .groups
   pub runs-are : groupRuns (rowsOf table) Z all limit ≡ before ++ runsFrom (rowsOf table) Z limit j g state
   pub count : length before ≡ g
   pub done-long : length (joined (map (stepsOf (rowsOf table) limit) before)) ≡ g * Z .threads
-  pub start : GroupStart (Z .threads) g rows barriers (part (g * Z .cells) (Z .cells) cells) global masks (shapeOf Z g) state
-  pub cells-are : cells ++ global ≡ state .cells
-  pub cells-long : length cells ≡ Z .groups * Z .cells
-  pub global-long : length global ≡ Z .global
-  pub log-is : log ≡ logWords (state .log) ++ replicate (groupsPerCell * (Z .groups * Z .cells + Z .global)) 0
+  pub start : GroupStart (Z .threads) g rows barriers (part (g * Z .cells) (Z .cells) (W .cells)) (W .global) (W .masks) (shapeOf Z g) state
+  pub cells-are : W .cells ++ W .global ≡ state .cells
+  pub cells-long : length (W .cells) ≡ Z .groups * Z .cells
+  pub global-long : length (W .global) ≡ Z .global
+  pub log-is : W .log ≡ logWords (state .log) ++ replicate (groupsPerCell * (Z .groups * Z .cells + Z .global)) 0
   pub own-logs : (h : ℕ) → g ≤ h → h < Z .groups → logPart (h * Z .cells) (Z .cells) (state .log) ≡ emptyLog (Z .threads) (Z .cells)
   pub unentered : (h : ℕ) → g ≤ h → (u : Mode) (i : ℕ) → has (getD (groupMasksOf (state .groupLog) u) i []) h ≡ false
   pub own-masks : (i : ℕ) → i < Z .groups * Z .cells → (u : Mode) → getD (groupMasksOf (state .groupLog) u) i []
       ≡ getD (groupMasksOf (emptyGroupLog (Z .groups) (Z .groups * Z .cells + Z .global)) u) i []
-  pub steps-are : steps ≡ joined (map (stepsOf (rowsOf table) limit) before)
+  pub steps-are : W .steps ≡ joined (map (stepsOf (rowsOf table) limit) before)
       ++ replicate (256 - length (joined (map (stepsOf (rowsOf table) limit) before))) 0
   pub ledger : Ledger (intervalRecords (rowsOf table) Z all limit) lent
       (followed (intervalsFrom (rowsOf table) (shapeOf Z g) (limit - rows) state) (joined (map (intervalsOf (rowsOf table) limit) (later (rowsOf table) Z limit j g state))))
-      (barriers + g) rows records
+      (barriers + g) rows (W .records)
   pub rows-most : rows ≤ limit
   pub barriers-few : barriers ≤ rows
-  pub older : Older (rows + 1) stamps
-  pub remembered : Memo memo
+  pub older : Older (rows + 1) (W .stamps)
+  pub remembered : Memo (W .memo)
 
-module _ (table : List ℕ) (Z : Sizes) (limit : ℕ) (all lent : List ℕ) (j g rows barriers : ℕ) (cells global log masks records steps stamps memo : List ℕ)
-    (P : Launched table Z limit all lent j g rows barriers cells global log masks records steps stamps memo) where
+module _ (table : List ℕ) (Z : Sizes) (limit : ℕ) (all lent : List ℕ) (j g rows barriers : ℕ) (W : Buffers)
+    (P : Launched table Z limit all lent j g rows barriers W) where
+  abbrev cells : List ℕ
+  cells = W .cells
+
+  abbrev global : List ℕ
+  global = W .global
+
+  abbrev steps : List ℕ
+  steps = W .steps
+
   abbrev T : Table
   T = rowsOf table
 
@@ -174,7 +190,7 @@ module _ (table : List ℕ) (Z : Sizes) (limit : ℕ) (all lent : List ℕ) (j g
   result-is = ap (λ r. runFrom T L (limit - r) s) (P .start .rows-is)
 
   -- what the turn asks
-  pub some-start : SomeStart table (Z .threads) g limit rows barriers (part (g * Z .cells) (Z .cells) cells) global masks records
+  pub some-start : SomeStart table (Z .threads) g limit rows barriers (part (g * Z .cells) (Z .cells) cells) global (W .masks) (W .records)
   some-start = record { shape = L; state = s; start = P .start; whole = whole; lent = lent; more = more; ledger = P .ledger }
 
   pub place-in : g * Z .cells + Z .cells ≤ length cells
@@ -189,21 +205,30 @@ module _ (table : List ℕ) (Z : Sizes) (limit : ℕ) (all lent : List ℕ) (j g
       let e = suc-mul g (Z .threads) in
       omega (arith, h, e)
 
-  module _ (k total′ at by n : ℕ) (ek : k ≡ Z .cells) (et : total′ ≡ Z .groups * Z .cells + Z .global) (ea : at ≡ g * Z .cells) (eb : by ≡ g * Z .threads) (en : n ≡ Z .threads)
-      (r : Ended) (cells′ global′ log′ own′ shared′ masks′ records′ counts′ steps′ stamps′ memo′ : List ℕ)
-      (D : TurnDone table n g limit rows barriers k total′ at by cells global log masks records steps r
-      cells′ global′ log′ own′ shared′ masks′ records′ counts′ steps′ stamps′ memo′) where
+  module _ (all-cells : ℕ) (et : all-cells ≡ Z .groups * Z .cells + Z .global) (r : Ended) (W′ : Buffers)
+      (D : TurnDone table (Z .threads) g limit rows barriers (Z .cells) all-cells cells global (W .log) (W .masks) (W .records) steps r
+      (W′ .cells) (W′ .global) (W′ .log) (W′ .own) (W′ .shared) (W′ .masks) (W′ .records) (W′ .counts) (W′ .steps) (W′ .stamps) (W′ .memo)) where
+    abbrev cells′ : List ℕ
+    cells′ = W′ .cells
+
+    abbrev global′ : List ℕ
+    global′ = W′ .global
+
+    abbrev records′ : List ℕ
+    records′ = W′ .records
+
     abbrev z : LockState
     z = o .state
 
-    came : GroupEnd limit L (runFrom T L (limit - rows) s) r (part at k cells′) own′ global′ shared′ masks′ counts′ stamps′ memo′
+    came : GroupEnd limit L (runFrom T L (limit - rows) s) r (part (g * Z .cells) (Z .cells) cells′) (W′ .own) global′ (W′ .shared) (W′ .masks)
+        (W′ .counts) (W′ .stamps) (W′ .memo)
         × ((x : ℕ) × Ledger whole lent (followed (started x) more) (r .barriers + g) (r .rows) records′)
-    came =
-        D .ran L s (subst (λ c. GroupStart n g rows barriers c global masks L s) (λ i. part (sym ea i) (sym ek i) cells)
-        (subst (λ c. GroupStart c g rows barriers (part (g * Z .cells) (Z .cells) cells) global masks L s) (sym en) (P .start))) whole lent more (P .ledger)
+    came = D .ran L s (P .start) whole lent more (P .ledger)
 
-    pub ending : GroupEnd limit L o r (part at k cells′) own′ global′ shared′ masks′ counts′ stamps′ memo′
-    ending = subst (λ q. GroupEnd limit L q r (part at k cells′) own′ global′ shared′ masks′ counts′ stamps′ memo′) result-is (came .0)
+    pub ending : GroupEnd limit L o r (part (g * Z .cells) (Z .cells) cells′) (W′ .own) global′ (W′ .shared) (W′ .masks)
+        (W′ .counts) (W′ .stamps) (W′ .memo)
+    ending = subst (λ q. GroupEnd limit L q r (part (g * Z .cells) (Z .cells) cells′) (W′ .own) global′ (W′ .shared) (W′ .masks)
+        (W′ .counts) (W′ .stamps) (W′ .memo)) result-is (came .0)
 
     keeps : RunKeeps L s z
     unfolding groupResult
@@ -222,13 +247,12 @@ module _ (table : List ℕ) (Z : Sizes) (limit : ℕ) (all lent : List ℕ) (j g
     -- all cells
     pub cells-long-after : length cells′ ≡ length cells
     cells-long-after =
-        ap length (D .cells-are) ∙ put-size at (part at k cells′) cells
-        (omega (arith, ea, ek, place-in, own-count))
+        ap length (D .cells-are) ∙ put-size (g * Z .cells) (part (g * Z .cells) (Z .cells) cells′) cells (omega (arith, place-in, own-count))
       where
-        own-count : length (part at k cells′) ≡ k
+        own-count : length (part (g * Z .cells) (Z .cells) cells′) ≡ Z .cells
         own-count =
             ap length (ending .cells-are)
-            ∙ part-size (ownFrom L) (Z .cells) (z .cells) (omega (arith, ending .sized .cells-are, own-within L z (ending .sized))) ∙ sym ek
+            ∙ part-size (ownFrom L) (Z .cells) (z .cells) (omega (arith, ending .sized .cells-are, own-within L z (ending .sized)))
 
     pub global-long-after : length global′ ≡ Z .global
     global-long-after =
@@ -258,7 +282,7 @@ module _ (table : List ℕ) (Z : Sizes) (limit : ℕ) (all lent : List ℕ) (j g
             ∙ put-front Y global [] (sym (ap length (ending .global-are)) ∙ global-long-after ∙ sym (P .global-long)) ∙ append-nil Y ∙ sym (ending .global-are))
 
         own-put : putPart own X cells ≡ cells′
-        own-put = sym (D .cells-are ∙ (λ i. putPart (ea i) (ending .cells-are i) cells))
+        own-put = sym (D .cells-are ∙ ap (λ w. putPart own w cells) (ending .cells-are))
 
         owns-put : putPart own X (cells ++ global′) ≡ cells′ ++ global′
         owns-put = put-before own X cells global′ (omega (arith, X-long, place-in)) ∙ ap (λ l. l ++ global′) own-put
@@ -274,10 +298,10 @@ module _ (table : List ℕ) (Z : Sizes) (limit : ℕ) (all lent : List ℕ) (j g
     own-fits =
         log-part-fits (Z .threads) (total L) (z .log) (sized-fits L z (ending .sized) .log-fits) (ownFrom L) (Z .cells) (own-within L z (ending .sized))
 
-    log-after : log′ ≡ logWords (putLog (ownFrom L) own-log (s .log)) ++ zeros
+    log-after : W′ .log ≡ logWords (putLog (ownFrom L) own-log (s .log)) ++ zeros
     unfolding total
     log-after =
-        D .log-is ∙ (λ i. kindsPlaced 0 (et i) (ea i) (ek i) logPerCell (ending .log-is i) (P .log-is i))
+        D .log-is ∙ (λ i. kindsPlaced 0 (et i) (g * Z .cells) (Z .cells) logPerCell (ending .log-is i) (P .log-is i))
         ∙ log-placed (Z .threads) (Z .cells) (total L) (ownFrom L) own-log (s .log) zeros own-fits (sized-fits L s sizedₛ .log-fits) (own-within L s sizedₛ)
 
     -- the steps with this group's behind the others
@@ -287,15 +311,15 @@ module _ (table : List ℕ) (Z : Sizes) (limit : ℕ) (all lent : List ℕ) (j g
     abbrev done : List ℕ
     done = joined (map (stepsOf T limit) (P .before))
 
-    taken : take n counts′ ≡ z .steps
+    taken : take (Z .threads) (W′ .counts) ≡ z .steps
     unfolding over
     taken =
-        ap₂ take (en ∙ sym steps-count) (ending .counts-are) ∙ take-append-seam (z .steps) (drop (length (z .steps)) (replicate 32 0))
+        ap₂ take (sym steps-count) (ending .counts-are) ∙ take-append-seam (z .steps) (drop (length (z .steps)) (replicate 32 0))
 
     steps-after : Z .groups ≤ 8 → Z .threads ≤ 32
-        → steps′ ≡ joined (map (stepsOf T limit) (P .before ++ (u ∷ []))) ++ replicate (256 - length (joined (map (stepsOf T limit) (P .before ++ (u ∷ []))))) 0
+        → W′ .steps ≡ joined (map (stepsOf T limit) (P .before ++ (u ∷ []))) ++ replicate (256 - length (joined (map (stepsOf T limit) (P .before ++ (u ∷ []))))) 0
     steps-after few threads =
-        D .steps-are ∙ (λ i. putPart (eb i) (taken i) steps) ∙ ap (λ a. putPart a (z .steps) steps) (sym (P .done-long))
+        D .steps-are ∙ ap (λ w. putPart (g * Z .threads) w steps) taken ∙ ap (λ a. putPart a (z .steps) steps) (sym (P .done-long))
         ∙ counts-put 256 done (z .steps) steps (P .steps-are) (omega (arith, P .done-long, steps-count, threads-in few threads))
         ∙ ap (λ l. l ++ replicate (256 - length l) 0) (sym (joined-more (stepsOf T limit) (P .before) u))
 
@@ -356,7 +380,7 @@ module _ (table : List ℕ) (Z : Sizes) (limit : ℕ) (all lent : List ℕ) (j g
           (ap (λ m. followed (started (led .0)) m) more-is) (first-row (limit - r .rows) s₁) e)
 
       pub launched-next : Z .groups ≤ 8 → Z .threads ≤ 32 → (records″ : List ℕ) → records″ ≡ released (r .barriers + g) 0 (r .rows) records′
-          → Launched table Z limit all lent j′ (suc g) (r .rows) (r .barriers) cells′ global′ log′ masks′ records″ steps′ stamps′ memo′
+          → Launched table Z limit all lent j′ (suc g) (r .rows) (r .barriers) (withRecords W′ records″)
       unfolding nextStart
       launched-next few threads records″ er =
           record {
@@ -437,7 +461,7 @@ module _ (table : List ℕ) (Z : Sizes) (limit : ℕ) (all lent : List ℕ) (j g
       close-ends h l =
           ledger-ends whole lent _ (r .barriers + g) (r .rows) records′ (came .1 .1) (came .1 .0) (over-now (came .1 .0)) h (omega (arith, ending .rows-most))
 
-      steps-in-all : Z .groups ≤ 8 → Z .threads ≤ 32 → steps′ ≡ over (stepsByLaunch T Z all limit) (replicate 256 0)
+      steps-in-all : Z .groups ≤ 8 → Z .threads ≤ 32 → W′ .steps ≡ over (stepsByLaunch T Z all limit) (replicate 256 0)
       steps-in-all few threads = steps-after few threads ∙ sym (by-launch few threads)
         where
           mine : List ℕ
@@ -478,8 +502,8 @@ module _ (table : List ℕ) (Z : Sizes) (limit : ℕ) (all lent : List ℕ) (j g
       abbrev all-masks : GroupLog
       all-masks = emptyGroupLog (Z .groups) (Z .groups * Z .cells + Z .global)
 
-      log-in-all : (log″ : List ℕ) → log″ ≡ placedLog total′ (Z .groups * Z .cells) (Z .global) log′ shared′ masks′ → log″ ≡ launchWords z
-      unfolding launchWords total
+      log-in-all : (log″ : List ℕ) → log″ ≡ placedLog all-cells (Z .groups * Z .cells) (Z .global) (W′ .log) (W′ .shared) (W′ .masks) → log″ ≡ allLogWords z
+      unfolding allLogWords total
       log-in-all log″ e =
           let G = putLog (ownFrom L) own-log (s .log) in
           let fits = put-log-fits (Z .threads) (total L) (s .log) (sized-fits L s sizedₛ .log-fits) (ownFrom L) (Z .cells) own-log own-fits (own-within L s sizedₛ) in
@@ -505,9 +529,9 @@ module _ (table : List ℕ) (Z : Sizes) (limit : ℕ) (all lent : List ℕ) (j g
           empty-masks : (m : Mode) → Masks (Z .groups) (total L) (groupMasksOf all-masks m)
           empty-masks m = empty-groups-masks (Z .groups) (Z .groups * Z .cells + Z .global) m
 
-      pub launched-end : Z .groups ≤ 8 → Z .threads ≤ 32 → (q : Ran) (log″ records″ : List ℕ)
-          → Closed g (Z .global) total′ (Z .groups * Z .cells) log′ shared′ masks′ records′ r q log″ records″
-          → LaunchIs table Z limit all lent q cells′ global′ log″ records″ steps′
+      pub launched-end : Z .groups ≤ 8 → Z .threads ≤ 32 → (q : Outcome) (log″ records″ : List ℕ)
+          → Closed g (Z .global) all-cells (Z .groups * Z .cells) (W′ .log) (W′ .shared) (W′ .masks) records′ r q log″ records″
+          → LaunchIs table Z limit all lent q cells′ global′ log″ records″ (W′ .steps)
       unfolding outcomeOf
       launched-end few threads q log″ records″ C =
           let led = came .1 .1 in
@@ -518,14 +542,14 @@ module _ (table : List ℕ) (Z : Sizes) (limit : ℕ) (all lent : List ℕ) (j g
             outcome-is = C .outcome-is ∙ (λ i. record {
               verdict = ending .verdict-is i;
               row = ending .row-is i;
+              group = g;
               rows = ending .rows-is i;
               barriers = ending .barriers-is i;
               conflicts = costs i;
             })
-                ∙ ap (λ w. outcomeOf w (conflictsOf whole)) (sym result-here);
-            group-is = C .group-is ∙ ap (λ w. w .shape .group) (sym last-is);
+                ∙ ap₂ (λ w h. outcomeOf w h (conflictsOf whole)) (sym result-here) (unfold lastGroup in (ap (λ w. w .shape .group) (sym last-is)));
             cells-are = cells-after ∙ ap (λ w. w .state .cells) (sym result-here);
-            log-is = log-in-all log″ (C .log-is) ∙ ap (λ w. launchWords (w .state)) (sym result-here);
+            log-is = log-in-all log″ (C .log-is) ∙ ap (λ w. allLogWords (w .state)) (sym result-here);
             records-are = C .records-are ∙ ledger-words whole lent _ (r .barriers + g) (r .rows) records′ led (came .1 .0) over-it;
             steps-are = steps-in-all few threads;
           }

@@ -1,5 +1,7 @@
 mod Stretches
+mod Buffers
 mod Between
 mod Launching
 pub mod LaunchStart
 mod Turns
+pub mod Results

@@ -5,9 +5,8 @@ use mathlib.Core.List.{List, [], _∷_, _++_, map}
 use mathlib.Core.Bool.{Bool, true, false}
 use Prim.Native.Nat.{ℕ, zero, suc, _+_, _-_, _*_, _<_, _≤_}
 use native.Mathlib.Omega.{arith}
-use lib.ListN.{length, getD, replicate, take, drop}
-use lib.Seq.{ext-getD, drop-drop}
-use borrow.Rule.Slice.PartMut.{midOf, putMid}
+use lib.ListN.{length, getD, replicate}
+use lib.Seq.{ext-getD}
 use Rattle.spec.specs.Access.{Mode, reads, writes, adds}
 use Rattle.spec.specs.Mask.{Mask}
 use Rattle.spec.specs.Log.{Log, masksOf, emptyLog, nobody, cleared}
@@ -113,14 +112,3 @@ all-cleared n k G F =
     masks reads = mode-wiped reads
     masks writes = mode-wiped writes
     masks adds = mode-wiped adds
-
--- A part that is lent, and the slice with it given back.
-pub lent-part : (a k : ℕ) (xs : List ℕ) → midOf a (a + k - a) xs ≡ part a k xs
-unfolding part
-lent-part a k xs = ap (λ j. take j (drop a xs)) (let z : a + k - a ≡ k = omega arith in z)
-
-pub given-back : (a k : ℕ) (xs ys : List ℕ) → length ys ≡ k → putMid a (a + k - a) xs ys ≡ putPart a ys xs
-unfolding putPart
-given-back a k xs ys e =
-    let j : a + (a + k - a) ≡ a + length ys = omega arith in
-    ap (λ r. take a xs ++ (ys ++ r)) (drop-drop (a + k - a) a xs ∙ ap (λ i. drop i xs) j)

@@ -1,60 +1,32 @@
 -- The lock-step run of a launch over lent buffers: what its parts ask and come to, and what it leaves. Assumes nothing.
 use mathlib.Core.Path.{_≡_}
+use mathlib.Core.Bool.{Bool, true, false}
 use mathlib.Core.List.{List, _++_}
+use mathlib.Core.Logic.{_⊎_}
 use Prim.Native.Nat.{ℕ, _+_, _-_, _*_, _<_, _≤_}
-use lib.ListN.{length, replicate, take}
+use lib.ListN.{length, replicate}
 use Rattle.spec.specs.declared.Outcome.{Outcome}
-use Rattle.spec.specs.Limits.{logPerCell, recordsLent}
-use Rattle.spec.specs.Log.{logWords}
+use Rattle.spec.specs.declared.Verdict.{Verdict}
+use Rattle.spec.specs.Answers.{isPassed}
+use Rattle.spec.specs.Limits.{logPerCell, recordsLent, groupsPerCell, maxLaunchThreads}
 use Rattle.spec.specs.Shape.{Sizes}
 use Rattle.spec.specs.Table.{rowsOf}
-use Rattle.spec.specs.LockStep.{LockState, outcomeOf}
-use Rattle.spec.specs.LaunchRun.{lastRun, lockstep, stepsByLaunch}
+use Rattle.spec.specs.LockStep.{outcomeOf}
+use Rattle.spec.specs.LaunchRun.{lastGroup, lockstep, stepsByLaunch}
+use Rattle.spec.specs.Launch.{Launch, allLogWords, launchOutcome, launchIntervals, launchSteps, launchLog, ownAfter, globalAfter}
 use Rattle.spec.specs.Intervals.{intervalRecords, recordWords, conflictsOf}
 use Rattle.spec.specs.Entries.{over}
 use Rattle.layout.specs.Running.{Runnable}
-use Rattle.layout.specs.Views.{part, putPart}
-use Rattle.layout.specs.Shared.{groupsPerCell, groupWords}
 use Rattle.banks.specs.Counting.{Older}
 use Rattle.banks.specs.Remembering.{Memo}
 use Rattle.intervals.specs.Records.{inUse, begun, ended, costsUpTo, EndAsks}
 use Rattle.placing.specs.Kinds.{kindsPlaced}
 use Rattle.grouprun.specs.declared.Ended.{Ended}
-use Rattle.grouprun.specs.Groups.{GroupRan, SomeStart}
-use Rattle.launchrun.specs.declared.Ran.{Ran}
 
--- The words of a launch's log buffer: the five kinds of the log, then the group masks, each with all cells of the launch.
-unfoldable pub launchWords : LockState → List ℕ
-launchWords z = logWords (z .log) ++ groupWords (z .groupLog)
-
--- A group's turn: `own` is the log of its own cells while it runs, `at` the place of its first cell among all, `by` that of its first thread.
-pub record TurnAsks (table ends : List ℕ) (n group limit rows barriers k total at by : ℕ) (cells global log own shared masks records stamps memo : List ℕ) : Type 0 where
-  pub runnable : Runnable table ends
-  pub some-threads : 1 ≤ n
-  pub few-threads : n ≤ 32
-  pub few-groups : group < 8
-  pub few-rows : limit ≤ 1000000
-  pub rows-most : rows ≤ limit
-  pub barriers-few : barriers ≤ rows
-  pub cells-in : at + k ≤ length cells
-  pub cells-few : length cells + length global ≤ total
-  pub total-few : total ≤ 1024
-  pub threads-in : by + n ≤ 256
-  pub log-sized : (logPerCell + groupsPerCell) * total ≤ length log
-  pub own-sized : length own ≡ logPerCell * k
-  pub shared-sized : length shared ≡ logPerCell * length global
-  pub masks-sized : length masks ≡ groupsPerCell * length global
-  pub lent : recordsLent ≤ length records
-  pub older : Older (rows + 1) stamps
-  pub remembered : Memo memo
-  pub start : SomeStart table n group limit rows barriers (part at k cells) global masks records
-
-pub record TurnDone (table : List ℕ) (n group limit rows barriers k total at by : ℕ) (cells global log masks records steps : List ℕ) (r : Ended)
-    (cells′ global′ log′ own′ shared′ masks′ records′ counts′ steps′ stamps′ memo′ : List ℕ) : Type 0 where
-  pub ran : GroupRan table n group limit rows barriers (part at k cells) global masks records r (part at k cells′) own′ global′ shared′ masks′ records′ counts′ stamps′ memo′
-  pub cells-are : cells′ ≡ putPart at (part at k cells′) cells
-  pub log-is : log′ ≡ kindsPlaced 0 total at k logPerCell own′ log
-  pub steps-are : steps′ ≡ putPart by (take n counts′) steps
+-- Whether another group runs behind group g with this verdict.
+pub record GoesOn (v : Verdict) (g groups : ℕ) (on : Bool) : Type 0 where
+  pub more : on ≡ true → (isPassed v ≡ true) × (g + 1 < groups)
+  pub over : on ≡ false → (isPassed v ≡ false) ⊎ (groups ≤ g + 1)
 
 -- The end of a launch, after the last group's turn: the log of the global cells, from place `at` on, and their group masks are put into the launch's.
 pub record CloseAsks (group k total at : ℕ) (log shared masks records : List ℕ) (r : Ended) : Type 0 where
@@ -71,13 +43,13 @@ pub record CloseAsks (group k total at : ℕ) (log shared masks records : List �
 abbrev pub placedLog : (total at k : ℕ) → (log shared masks : List ℕ) → List ℕ
 placedLog total at k log shared masks = kindsPlaced logPerCell total at k groupsPerCell masks (kindsPlaced 0 total at k logPerCell shared log)
 
-pub record Closed (group k total at : ℕ) (log shared masks records : List ℕ) (r : Ended) (q : Ran) (log′ records′ : List ℕ) : Type 0 where
+pub record Closed (group k total at : ℕ) (log shared masks records : List ℕ) (r : Ended) (q : Outcome) (log′ records′ : List ℕ) : Type 0 where
   pub log-is : log′ ≡ placedLog total at k log shared masks
   pub records-are : records′ ≡ ended (inUse (r .barriers + group)) (r .rows) records
-  pub group-is : q .group ≡ group
-  pub outcome-is : q .outcome ≡ record {
+  pub outcome-is : q ≡ record {
     verdict = r .verdict;
     row = r .row;
+    group = group;
     rows = r .rows;
     barriers = r .barriers;
     conflicts = costsUpTo (inUse (r .barriers + group) + 1) records′;
@@ -96,11 +68,10 @@ pub record LaunchAsks (table ends : List ℕ) (n groups k limit : ℕ) (cells gl
   pub log-sized : length log ≡ (logPerCell + groupsPerCell) * (groups * k + length global)
   pub lent : recordsLent ≤ length records
 
-pub record LaunchIs (table : List ℕ) (Z : Sizes) (limit : ℕ) (all lent : List ℕ) (r : Ran) (cells global log records steps : List ℕ) : Type 0 where
-  pub outcome-is : r .outcome ≡ outcomeOf (lockstep (rowsOf table) Z all limit) (conflictsOf (intervalRecords (rowsOf table) Z all limit))
-  pub group-is : r .group ≡ lastRun (rowsOf table) Z all limit .shape .group
+pub record LaunchIs (table : List ℕ) (Z : Sizes) (limit : ℕ) (all lent : List ℕ) (r : Outcome) (cells global log records steps : List ℕ) : Type 0 where
+  pub outcome-is : r ≡ outcomeOf (lockstep (rowsOf table) Z all limit) (lastGroup (rowsOf table) Z all limit) (conflictsOf (intervalRecords (rowsOf table) Z all limit))
   pub cells-are : cells ++ global ≡ lockstep (rowsOf table) Z all limit .state .cells
-  pub log-is : log ≡ launchWords (lockstep (rowsOf table) Z all limit .state)
+  pub log-is : log ≡ allLogWords (lockstep (rowsOf table) Z all limit .state)
   pub records-are : records ≡ over (recordWords (intervalRecords (rowsOf table) Z all limit)) lent
   pub steps-are : steps ≡ over (stepsByLaunch (rowsOf table) Z all limit) (replicate 256 0)
 
@@ -119,3 +90,12 @@ pub record Fresh (k : ℕ) (global log own shared masks records steps stamps mem
   pub steps-empty : steps ≡ replicate 256 0
   pub older : Older 1 stamps
   pub remembered : Memo memo
+
+-- The same, as the definitions say it of a launch.
+pub record RunIs (launch : Launch) (lent : List ℕ) (r : Outcome) (cells global log records steps : List ℕ) : Type 0 where
+  pub outcome-is : r ≡ launchOutcome launch
+  pub cells-are : cells ≡ ownAfter launch
+  pub global-are : global ≡ globalAfter launch
+  pub log-is : log ≡ launchLog launch
+  pub records-are : records ≡ over (recordWords (launchIntervals launch)) lent
+  pub steps-are : steps ≡ over (launchSteps launch) (replicate maxLaunchThreads 0)

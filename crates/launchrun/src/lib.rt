@@ -3,81 +3,22 @@ ghost use mathlib.Core.Path.{_≡_};
 ghost use mathlib.Core.List.{_++_};
 ghost use Prim.Native.Nat.{_+_, _*_, _<_, _≤_};
 ghost use lib.ListN.{length};
-ghost use Rattle.spec.specs.Answers.{isPassed};
-ghost use Rattle.launchrun.specs.Launches.{TurnAsks, TurnDone, CloseAsks, Closed, LaunchAsks, LaunchIs, Fresh, sizesBy};
+ghost use Rattle.spec.specs.Entries.{bareLaunch};
+ghost use Rattle.launchrun.specs.Launches.{GoesOn, CloseAsks, Closed, LaunchAsks, LaunchIs, RunIs, Fresh, sizesBy};
 
-// The outcome of a launch, and the group that it ended in.
-pub struct Ran {
-    pub outcome: spec::Outcome,
-    pub group: u32,
-}
-
-fn passed(v: spec::Verdict) -> bool
-    ensures { λ r. ⌜ r ≡ isPassed v ⌝ }
+// Whether another group runs behind group g with this verdict.
+fn goes_on(v: spec::Verdict, g: u32, groups: u32) -> bool
+    requires { ⌜ g < 8 ⌝ }
+    ensures { λ r. ⌜ GoesOn v g groups r ⌝ }
 {
     match v {
-        spec::Verdict::Passed => true,
+        spec::Verdict::Passed => g + 1 < groups,
         spec::Verdict::Race(_, _, _, _) => false,
         spec::Verdict::GroupRace(_, _, _, _) => false,
         spec::Verdict::Outside(_, _) => false,
         spec::Verdict::Diverged(_, _) => false,
         spec::Verdict::Spent => false,
     }
-}
-
-// A group's turn over its own cells, the k from place `at` on, and the global ones. Its log goes to its place in the launch's, its steps to its threads'.
-fn turn(
-    table: &[u8],
-    ends: &[u8; 256],
-    n: u32,
-    group: u32,
-    limit: u32,
-    rows: u32,
-    barriers: u32,
-    k: usize,
-    total: usize,
-    at: usize,
-    by: usize,
-    cells: &mut [u32],
-    global: &mut [u32],
-    log: &mut [u32],
-    own: &mut [u32],
-    shared: &mut [u32],
-    masks: &mut [u32],
-    records: &mut [u32],
-    counts: &mut [u32; 32],
-    steps: &mut [u32; 256],
-    stamps: &mut [u32; 1024],
-    memo: &mut [u32; 544],
-) -> grouprun::Ended
-    requires { ⌜ TurnAsks (now table) (now ends) n group limit rows barriers k total at by (now cells) (now global) (now log) (now own) (now shared) (now masks)
-        (now records) (now stamps) (now memo) ⌝ }
-    ensures { λ r. ⌜ TurnDone (now (table .entry)) n group limit rows barriers k total at by (now (cells .entry)) (now (global .entry)) (now (log .entry))
-        (now (masks .entry)) (now (records .entry)) (now (steps .entry)) r
-        (now (cells .exit)) (now (global .exit)) (now (log .exit)) (now (own .exit)) (now (shared .exit)) (now (masks .exit)) (now (records .exit))
-        (now (counts .exit)) (now (steps .exit)) (now (stamps .exit)) (now (memo .exit)) ⌝ }
-{
-    let r = grouprun::run_group(
-        table,
-        ends,
-        n,
-        group,
-        limit,
-        rows,
-        barriers,
-        &mut cells[at..at + k],
-        own,
-        global,
-        shared,
-        masks,
-        records,
-        counts,
-        stamps,
-        memo,
-    );
-    placing::place_kinds(own, 5, 0, k, total, at, log);
-    placing::copy_counts(counts, n as usize, by, steps);
-    r
 }
 
 // The launch is over in this group's run: the log of the k global cells, from place `at` on, and their group masks go to the launch's log.
@@ -91,7 +32,7 @@ fn close(
     at: usize,
     group: u32,
     r: grouprun::Ended,
-) -> Ran
+) -> spec::Outcome
     requires { ⌜ CloseAsks group k total at (now log) (now shared) (now masks) (now records) r ⌝ }
     ensures { λ q. ⌜ Closed group k total at (now (log .entry)) (now (shared .entry)) (now (masks .entry)) (now (records .entry)) r q
         (now (log .exit)) (now (records .exit)) ⌝ }
@@ -100,35 +41,17 @@ fn close(
     placing::place_kinds(masks, 3, 5, k, total, at, log);
     let conflicts = intervals::finish(records, r.barriers + group, r.rows);
     let verdict = r.verdict;
-    let outcome = spec::Outcome {
+    spec::Outcome {
         verdict: verdict,
         row: r.row as u32,
+        group: group,
         rows: r.rows,
         barriers: r.barriers,
         conflicts: conflicts,
-    };
-    Ran { outcome, group }
+    }
 }
 
-// The launch number of a group's first thread.
-fn first_thread(group: u32, n: u32) -> usize
-    requires { ⌜ (group < 8) × (n ≤ 32) ⌝ }
-    ensures { λ r. ⌜ r ≡ group * n ⌝ }
-{
-    let first = threadnumbers::InGroup { number: 0 };
-    let t = threadnumbers::in_launch(group, n, first);
-    t.number as usize
-}
-
-// The first cell of a group among all.
-fn first_cell(group: u32, k: usize) -> usize
-    requires { ⌜ (group < 8) × (k ≤ 1024) ⌝ }
-    ensures { λ r. ⌜ r ≡ group * k ⌝ }
-{
-    (group as usize) * k
-}
-
-// Group after group, up to one that has not passed.
+// Group after group, up to one that has not passed or is the last.
 fn run_groups(
     table: &[u8],
     ends: &[u8; 256],
@@ -147,7 +70,7 @@ fn run_groups(
     steps: &mut [u32; 256],
     stamps: &mut [u32; 1024],
     memo: &mut [u32; 544],
-) -> Ran
+) -> spec::Outcome
     requires { ⌜ LaunchAsks (now table) (now ends) n groups k limit (now cells) (now global) (now log) (now records)
         × Fresh k (now global) (now log) (now own) (now shared) (now masks) (now records) (now steps) (now stamps) (now memo) ⌝ }
     ensures { λ r. ⌜ LaunchIs (now (table .entry)) (sizesBy n groups k (now (global .entry))) limit (now (cells .entry) ++ now (global .entry)) (now (records .entry)) r
@@ -159,10 +82,8 @@ fn run_groups(
     let mut g: u32 = 0;
     let mut rows: u32 = 0;
     let mut barriers: u32 = 0;
-    while g + 1 < groups {
-        let place = first_cell(g, k);
-        let by = first_thread(g, n);
-        let r = turn(
+    loop {
+        let r = groupturn::turn(
             table,
             ends,
             n,
@@ -172,8 +93,6 @@ fn run_groups(
             barriers,
             k,
             total,
-            place,
-            by,
             cells,
             global,
             log,
@@ -187,7 +106,7 @@ fn run_groups(
             memo,
         );
         let v = r.verdict;
-        if !passed(v) {
+        if !goes_on(v, g, groups) {
             return close(log, shared, masks, records, m, total, at, g, r);
         }
         rows = r.rows;
@@ -195,33 +114,6 @@ fn run_groups(
         intervals::release(records, barriers + g, 0, rows);
         g = g + 1;
     }
-    let place = first_cell(g, k);
-    let by = first_thread(g, n);
-    let r = turn(
-        table,
-        ends,
-        n,
-        g,
-        limit,
-        rows,
-        barriers,
-        k,
-        total,
-        place,
-        by,
-        cells,
-        global,
-        log,
-        own,
-        shared,
-        masks,
-        records,
-        counts,
-        steps,
-        stamps,
-        memo,
-    );
-    close(log, shared, masks, records, m, total, at, g, r)
 }
 
 // The run of a launch. `cells` holds the own cells of all groups, k each, `log` eight words for each cell of the launch, the global ones too.
@@ -237,10 +129,10 @@ pub fn run_launch(
     log: &mut [u32],
     records: &mut [u32],
     steps: &mut [u32; 256],
-) -> Ran
+) -> spec::Outcome
     requires { ⌜ LaunchAsks (now table) (now ends) n groups k limit (now cells) (now global) (now log) (now records) ⌝ }
-    ensures { λ r. ⌜ LaunchIs (now (table .entry)) (sizesBy n groups k (now (global .entry))) limit (now (cells .entry) ++ now (global .entry)) (now (records .entry)) r
-        (now (cells .exit)) (now (global .exit)) (now (log .exit)) (now (records .exit)) (now (steps .exit)) ⌝ }
+    ensures { λ r. ⌜ RunIs (bareLaunch (now (table .entry)) (sizesBy n groups k (now (global .entry))) limit (now (cells .entry)) (now (global .entry)))
+        (now (records .entry)) r (now (cells .exit)) (now (global .exit)) (now (log .exit)) (now (records .exit)) (now (steps .exit)) ⌝ }
 {
     let m = global.len();
     let mut own: [u32; 5120] = [0; 5120];

@@ -9,7 +9,7 @@ use Rattle.spec.specs.declared.Verdict.{Verdict}
 use Rattle.spec.specs.Access.{Kind, Mode, mode}
 use Rattle.spec.specs.Mask.{Mask, maskWord, members}
 use Rattle.spec.specs.Log.{masksOf, withThread}
-use Rattle.spec.specs.GroupLog.{groupMasksOf, groupLogged}
+use Rattle.spec.specs.GroupLog.{groupMasksOf, groupLogged, groupWords}
 use Rattle.spec.specs.Op.{GLOBAL}
 use Rattle.spec.specs.Shape.{Shape, total}
 use Rattle.spec.specs.LockStep.{LockState, Step, continues, stops, inTurn, enterGroup}
@@ -17,7 +17,7 @@ use Rattle.spec.proofs.LogLaws.{same, groups-logged}
 use Rattle.layout.specs.declared.Access.the-variants.{Done, Stop}
 use Rattle.layout.specs.Memory.{Masks, LogIs, Memory, Kept}
 use Rattle.layout.specs.Views.{part, putPart, logPart, putLog, viewOf, putView, globalFrom, Sized}
-use Rattle.layout.specs.Shared.{groupPart, putGroups, groupWords, GroupsAre, GlobalMemory, GlobalOnly, GlobalDid}
+use Rattle.layout.specs.Shared.{groupPart, putGroups, GroupsAre, GlobalMemory, GlobalOnly, GlobalDid}
 use Rattle.layout.proofs.Parts.{part-size, part-put, part-set, put-size, put-part, put-put, masks-part, LogFits, log-part-fits, put-log-part, put-log-fits}
 use Rattle.layout.proofs.Parts.{log-part-put, put-log-put}
 use Rattle.layout.proofs.GroupBuffer.{masks-entered}

@@ -6,17 +6,18 @@ use Prim.Native.Nat.{ℕ, zero, suc, _+_, _-_, _*_, _^_, _<_, _≤_}
 use native.Mathlib.Omega.{arith}
 use lib.Bits.{bitAnd, bitOr}
 use lib.ListN.{length, getD, set, length-set, length-map}
+use Rattle.spec.specs.Limits.{groupsPerCell}
 use Rattle.spec.specs.Access.{Kind, load, store, atomicAdd, Mode, reads, writes, adds, mode, agree}
 use Rattle.spec.specs.Lists.{joined}
 use Rattle.spec.specs.Mask.{Mask, maskWord, has, union}
 use Rattle.spec.specs.Log.{nobody, withThread, shownKind}
-use Rattle.spec.specs.GroupLog.{GroupLog, groupMasksOf, groupLogged, conflictingGroups, groupConflictMask, groupRaceKind}
+use Rattle.spec.specs.GroupLog.{GroupLog, groupMasksOf, groupLogged, conflictingGroups, groupConflictMask, groupRaceKind, groupKinds, groupWords}
 use Rattle.spec.proofs.Laws.{union-size}
 use Rattle.spec.proofs.LogLaws.{same, groups-logged, nobody-size}
 use Rattle.masks.proofs.Words.{word-or, word-set, word-except}
 use Rattle.layout.specs.Memory.{Masks}
 use Rattle.layout.specs.Logging.{modeOf, rank, placeOf, wordOf, hasBit, maskEntered}
-use Rattle.layout.specs.Shared.{groupKinds, groupWords, groupsPerCell, GroupsAre, groupsMet, rivalsWord, groupKindWord}
+use Rattle.layout.specs.Shared.{GroupsAre, groupsMet, rivalsWord, groupKindWord}
 use Rattle.layout.proofs.Lists.{map-set, Even, joined-size, joined-at, joined-set}
 use Rattle.layout.proofs.Buffers.{masks-set, mask-at}
 use Rattle.layout.proofs.LogBuffer.{nobody-word, bit-has}
@@ -56,10 +57,6 @@ module _ (n k : ℕ) (H : GroupLog) (masks : List ℕ) (M : GroupsAre n k H mask
   kinds-even (suc zero) h = length-map (H .writers) maskWord ∙ M .masks-are writes .count
   kinds-even (suc (suc zero)) h = length-map (H .adders) maskWord ∙ M .masks-are adds .count
   kinds-even (suc (suc (suc q))) h = absurd (omega arith)
-
-  pub groups-size : length masks ≡ groupsPerCell * k
-  unfolding groupWords groupKinds
-  groups-size = ap length (M .words-are) ∙ joined-size k (groupKinds H) kinds-even
 
   module _ (c : ℕ) (h : c < k) (op : ℕ) (x : Kind) (o : modeOf op ≡ mode x) where
     mask-size : (m : Mode) → length (getD (groupMasksOf H m) c []) ≡ n

@@ -7,6 +7,7 @@ use Prim.Native.Nat.{ℕ, suc, _<_, _≤_}
 use native.Mathlib.Omega.{arith}
 use lib.Dec.{ltb}
 use lib.ListN.{length, replicate}
+use Rattle.spec.specs.GroupLog.{groupWords}
 use Rattle.spec.specs.declared.Verdict.{Verdict}
 use Rattle.spec.specs.declared.Verdict.the-variants.{Diverged}
 use Rattle.spec.specs.Op.{Op, Calc, CALC, GLOBAL, Mem, MEM, BARRIER, value}
@@ -21,7 +22,7 @@ use Rattle.layout.specs.declared.Next.the-variants as next
 use Rattle.layout.specs.Memory.{Regs, LogIs, Memory, Kept, stateOf}
 use Rattle.layout.specs.Represents.{Represents, After, movedOn, accessed}
 use Rattle.layout.specs.Views.{part, logPart, viewOf, putView, mapStep, ownFrom, globalFrom, alone, withCleared, Sized, isOwnSpace, isOwnRow}
-use Rattle.layout.specs.Shared.{groupPart, groupWords, GlobalMemory, GlobalOnly, GlobalDid}
+use Rattle.layout.specs.Shared.{groupPart, GlobalMemory, GlobalOnly, GlobalDid}
 use Rattle.layout.specs.Groups.{GroupStands, GroupAfter, SharedAfter}
 use Rattle.layout.proofs.LogBuffer.{cleared-is}
 use Rattle.layout.proofs.Parts.{part-size, part-put-below, log-part-fits, log-part-below, sized-fits, own-before, own-within, global-within}

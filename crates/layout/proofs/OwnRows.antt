@@ -419,10 +419,6 @@ module _ (L : Shape) (z : LockState) (S : Sized L z) where
       subst (λ y. OwnAfter L (outside (stateOf q)) y (stateOf q)) (sym (ap stateOf (barrier-row T x) ∙ step-state ended q))
       (own-after (outside (stateOf q)) (stateOf q) (outside-fits (stateOf q)) (alone-fits (L .threads) (L .cells) T x BARRIER view own-fits))
 
-  -- The global cells are such a stretch, and so is every one between them and the own cells.
-  pub global-apart : Apart L (globalFrom L) (L .global)
-  global-apart = inr (own-before L z S)
-
   -- The log that a BARRIER clears outside the view: that of all global cells, and of no others.
   pub global-cleared : logPart (globalFrom L) (L .global) (withCleared (isGlobal L) z .log) ≡ cleared (λ c. true) (logPart (globalFrom L) (L .global) (z .log))
   unfolding withCleared isGlobal
@@ -431,11 +427,3 @@ module _ (L : Shape) (z : LockState) (S : Sized L z) where
       ∙ cleared-like (L .threads) (L .global) (logPart (globalFrom L) (L .global) (z .log))
       (log-part-fits (L .threads) (total L) (z .log) (sized-fits L z S .log-fits) (globalFrom L) (L .global) (global-within L z S))
       (λ c. isGlobal L (globalFrom L + c)) (λ c. true) (λ c l. le-leb (globalFrom L) (globalFrom L + c) (omega arith))
-
-  pub others-kept : (b m : ℕ) → b + m ≤ globalFrom L → logPart b m (withCleared (isGlobal L) z .log) ≡ logPart b m (z .log)
-  unfolding withCleared isGlobal
-  others-kept b m h =
-      log-part-cleared (isGlobal L) b m (z .log)
-      ∙ cleared-nowhere (L .threads) m (logPart b m (z .log))
-      (log-part-fits (L .threads) (total L) (z .log) (sized-fits L z S .log-fits) b m (omega (arith, global-within L z S)))
-      (λ c. isGlobal L (b + c)) (λ c l. lt-leb (globalFrom L) (b + c) (omega arith))

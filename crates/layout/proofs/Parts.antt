@@ -39,25 +39,6 @@ module _ {A : Type 0} where
   unfolding part
   part-set a k xs c v h = ap (take k) (drop-set-add a xs c v) ∙ take-set-lt k (drop a xs) c v h
 
-  -- a store outside it
-  pub part-set-below : (a k : ℕ) (xs : List A) (i : ℕ) (v : A) → i < a → part a k (set xs i v) ≡ part a k xs
-  unfolding part
-  part-set-below a k xs i v h = ap (take k) (drop-set-lt a xs i v h)
-
-  pub part-set-above : (a k : ℕ) (xs : List A) (i : ℕ) (v : A) → a + k ≤ i → part a k (set xs i v) ≡ part a k xs
-  unfolding part
-  part-set-above a k xs i v h =
-      ap (λ (j : ℕ). take k (drop a (set xs j v))) (let e : i ≡ a + (i - a) = omega arith in e) ∙ ap (take k) (drop-set-add a xs (i - a) v)
-      ∙ take-set-le k (drop a xs) (i - a) v (omega arith)
-
-  pub part-whole : (k : ℕ) (xs : List A) → length xs ≡ k → part 0 k xs ≡ xs
-  unfolding part
-  part-whole k xs e = ap (λ (j : ℕ). take j xs) (sym e) ∙ whole xs
-    where
-      whole : (ys : List A) → take (length ys) ys ≡ ys
-      whole [] = refl
-      whole (y ∷ ys) = ap (λ (r : List A). y ∷ r) (whole ys)
-
   -- its end counted from the front
   part-front : (a k : ℕ) (xs : List A) → take k (drop a xs) ≡ drop a (take (a + k) xs)
   part-front zero k xs = ap (λ (j : ℕ). take j xs) (let e : k ≡ 0 + k = omega arith in e)
@@ -209,10 +190,6 @@ module _ {A B : Type 0} (f : A → B) where
   map-drop (suc a) [] = refl
   map-drop (suc a) (x ∷ xs) = map-drop a xs
 
-  pub map-part : (a k : ℕ) (xs : List A) → map f (part a k xs) ≡ part a k (map f xs)
-  unfolding part
-  map-part a k xs = map-take k (drop a xs) ∙ ap (take k) (map-drop a xs)
-
   pub map-put : (a : ℕ) (ys xs : List A) → map f (putPart a ys xs) ≡ putPart a (map f ys) (map f xs)
   unfolding putPart
   map-put a ys xs =
@@ -257,22 +234,6 @@ module _ {A : Type 0} (f : A → A) where
   part-where p a k xs =
       ap (take k) (where-drop p 0 a xs ∙ ap (λ (j : ℕ). mapWhere p f j (drop a xs)) (let z : 0 + a ≡ a = omega arith in z))
       ∙ where-take p a k (drop a xs)
-
-  part-short : (a k : ℕ) (xs : List A) → length (part a k xs) ≤ k
-  unfolding part
-  part-short a k xs = short k (drop a xs)
-    where
-      short : (k : ℕ) (ys : List A) → length (take k ys) ≤ k
-      short zero ys = omega arith
-      short (suc k) [] = omega arith
-      short (suc k) (y ∷ ys) = suc-le-suc (short k ys)
-
-  -- a stretch on which p holds throughout; one on which it holds nowhere
-  pub part-where-all : (p : ℕ → Bool) (a k : ℕ) (xs : List A) → ((c : ℕ) → c < k → p (a + c) ≡ true) → part a k (mapWhere p f 0 xs) ≡ map f (part a k xs)
-  part-where-all p a k xs h = part-where p a k xs ∙ where-all p f a (part a k xs) (λ c l. h c (omega (arith, part-short a k xs)))
-
-  pub part-where-none : (p : ℕ → Bool) (a k : ℕ) (xs : List A) → ((c : ℕ) → c < k → p (a + c) ≡ false) → part a k (mapWhere p f 0 xs) ≡ part a k xs
-  part-where-none p a k xs h = part-where p a k xs ∙ where-none p a (part a k xs) (λ c l. h c (omega (arith, part-short a k xs)))
 
   -- Where p and q differ at the stretch only, what p changes is what q changes, with the stretch as p has it.
   pub where-put : (p q : ℕ → Bool) (a k : ℕ) (xs : List A) → a + k ≤ length xs
@@ -545,14 +506,6 @@ module _ (n t : ℕ) (z : LockState) (F : StateFits n t z) where
       }
 
   module _ (a k : ℕ) (v : LockState) (U : StateFits n k v) (h : a + k ≤ t) where
-    pub put-view-fits : StateFits n t (putView a v z)
-    unfolding putView
-    put-view-fits =
-        record {
-          cells-fit = put-size a (v .cells) (z .cells) (omega (arith, U .cells-fit, F .cells-fit)) ∙ F .cells-fit;
-          log-fits = put-log-fits n t (z .log) (F .log-fits) a k (v .log) (U .log-fits) h;
-        }
-
     -- the view of a state with a view put back
     pub view-put : viewOf a k (putView a v z) ≡ v
     unfolding putView viewOf
@@ -586,22 +539,6 @@ module _ (n t : ℕ) (z : LockState) (F : StateFits n t z) where
     pub log-above : (b m : ℕ) → a + k ≤ b → viewOf b m (putView a v z) .log ≡ viewOf b m z .log
     unfolding putView viewOf
     log-above b m l = log-part-above n t (z .log) (F .log-fits) a k (v .log) (U .log-fits) h b m l
-
-    pub put-view-put : (w : LockState) → StateFits n k w → putView a w (putView a v z) ≡ putView a w z
-    unfolding putView
-    put-view-put w W =
-        λ i. record {
-          row = w .row;
-          enabled = w .enabled;
-          saved = w .saved;
-          regs = w .regs;
-          cells = put-put a (w .cells) (v .cells) (z .cells) (omega (arith, F .cells-fit)) (W .cells-fit ∙ sym (U .cells-fit)) i;
-          log = put-log-put n t (z .log) (F .log-fits) a k (v .log) (U .log-fits) h (w .log) (W .log-fits) i;
-          groupLog = w .groupLog;
-          rows = w .rows;
-          steps = w .steps;
-          barriers = w .barriers;
-        }
 
 -- ---- the stretches of a launch
 

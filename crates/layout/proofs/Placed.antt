@@ -44,14 +44,6 @@ module _ (n k : ℕ) (G : Log) (F : LogFits n k G) (c t : ℕ) (x : Kind) (l : c
       marks (store v) = unfold logged in length-set (G .marks) c (unequal G c v)
       marks (atomicAdd v) = unfold logged in refl
 
-pub made-fits : (n k : ℕ) (s : LockState) → StateFits n k s → (t d c : ℕ) (x : Kind) → c < k → StateFits n k (madeAccess s t d c x)
-unfolding madeAccess update
-made-fits n k s F t d c x l =
-    record {
-      cells-fit = length-set (s .cells) c (cellAfter x (getD (s .cells) c 0)) ∙ F .cells-fit;
-      log-fits = logged-fits n k (s .log) (F .log-fits) c t x l;
-    }
-
 -- P is the log of the k cells from a on; cell c of them stands at a + c.
 module _ (n t a k : ℕ) (G P : Log) (F : LogFits n t G) (Q : LogFits n k P) (h : a + k ≤ t) (c : ℕ) (l : c < k) where
   placed-mask : (m : Mode) → getD (masksOf (putLog a P G) m) (a + c) [] ≡ getD (masksOf P m) c []

@@ -152,13 +152,6 @@ module _ (n k : ℕ) where
         (λ e s (c, F). (c, log-cleared-fits n k (s .log) F (reaches (alone n k)))) y (Y .cells-fit, Y .log-fits) in
         record { cells-fit = r .0; log-fits = r .1 }
 
-    pub alone-groups : stateOf (runRow T (alone n k) x y o) .groupLog ≡ y .groupLog
-    alone-groups = row-keeps (λ cells G H. H ≡ y .groupLog) T (alone n k) x o (λ p m e. keeps p) (λ e s H. H) y refl
-      where
-        keeps : (p : Space) → Makes (λ cells G H. H ≡ y .groupLog) (alone n k) p
-        keeps OWN s t d c κ l H = unfold enterGroup madeAccess update in H
-        keeps GLOBAL s t d c κ l H = absurd (alone-global n k c l)
-
 -- The sizes of a launch's state, group masks too.
 abbrev LaunchSized : (L : Shape) → List ℕ → Log → GroupLog → Type 0
 LaunchSized L cells G H = LogSized (L .threads) (total L) cells G H × ((m : Mode) → Masks (L .groups) (total L) (groupMasksOf H m))

@@ -3,17 +3,12 @@ use mathlib.Core.Path.{_≡_}
 use mathlib.Core.List.{List}
 use mathlib.Core.Option.{none}
 use Prim.Native.Nat.{ℕ, _+_, _*_, _<_, _≤_}
-use lib.ListN.{length, getD, replicate}
-use Rattle.spec.specs.declared.Verdict.{Verdict}
-use Rattle.spec.specs.declared.Outcome.{Outcome}
+use lib.ListN.{length, getD}
 use Rattle.spec.specs.Op.{WHILE, opOf}
 use Rattle.spec.specs.Table.{Table, Row, rowsOf, rowAt, endOf}
 use Rattle.spec.specs.TableCheck.{tableRefusal}
 use Rattle.spec.specs.Limits.{logPerCell}
-use Rattle.spec.specs.Log.{logWords}
-use Rattle.spec.specs.LockStep.{LockState, runRow, LockResult, outcomeOf}
-use Rattle.spec.specs.Intervals.{Interval, recordWords, conflictsOf}
-use Rattle.spec.specs.Entries.{over}
+use Rattle.spec.specs.LockStep.{LockState, runRow}
 use Rattle.layout.specs.declared.State.{State}
 use Rattle.layout.specs.declared.Next.{Next}
 use Rattle.layout.specs.Memory.{ComputeAsks, Computed, KeptBut, shapeBy}
@@ -71,19 +66,6 @@ pub record Steps (table : List ℕ) (n : ℕ) (s : State) (regs cells log saved 
   pub saved-are : saved′ ≡ savedAfter (getD table (s .row * 4) 0) s saved openers
   pub openers-are : openers′ ≡ openersAfter (getD table (s .row * 4) 0) s openers
 
--- What the run comes to: the answer, the cells, the log and the step counts are those of the definition's result o, and the lent list holds the records
--- of its intervals.
-pub record RunIs (o : LockResult) (intervals : List Interval) (lent : List ℕ) (r : Outcome) (cells log records counts : List ℕ) : Type 0 where
-  pub outcome-is : r ≡ outcomeOf o (conflictsOf intervals)
-  pub cells-are : cells ≡ o .state .cells
-  pub log-is : log ≡ logWords (o .state .log)
-  pub records-are : records ≡ over (recordWords intervals) lent
-  pub counts-are : counts ≡ over (o .state .steps) (replicate 32 0)
-
 -- The state at a group's start, with the mask of all threads, after so many rows and barriers.
 abbrev pub startState : (all rows barriers : ℕ) → State
 startState all rows barriers = record { reach = 0; row = 0; mask = all; depth = 0; rows = rows; since = 0; barriers = barriers }
-
--- The answer of a run that has ended in this state.
-abbrev pub endedAs : Verdict → State → (conflicts : ℕ) → Outcome
-endedAs v s conflicts = record { verdict = v; row = s .row; rows = s .rows; barriers = s .barriers; conflicts = conflicts }

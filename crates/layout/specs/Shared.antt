@@ -5,12 +5,13 @@ use mathlib.Core.Bool.{false, cond}
 use Prim.Native.Nat.{ℕ, _+_, _-_, _*_, _%_, _^_, _<_, _≤_}
 use lib.Bits.{bitAnd, bitOr}
 use lib.ListN.{length}
+use Rattle.spec.specs.Limits.{groupsPerCell}
 use Rattle.spec.specs.declared.AccessKind.{AccessKind}
 use Rattle.spec.specs.Access.{Mode, reads, writes, adds, agree}
 use Rattle.spec.specs.Lists.{joined}
 use Rattle.spec.specs.Mask.{maskWord, members}
 use Rattle.spec.specs.Log.{shownKind}
-use Rattle.spec.specs.GroupLog.{GroupLog, groupMasksOf}
+use Rattle.spec.specs.GroupLog.{GroupLog, groupMasksOf, groupWords}
 use Rattle.spec.specs.Op.{GLOBAL, OWN, Mem, MEM, opOf}
 use Rattle.spec.specs.Table.{Row}
 use Rattle.spec.specs.Shape.{Shape}
@@ -29,16 +30,6 @@ groupPart a k H = record { readers = part a k (H .readers); writers = part a k (
 unfoldable pub putGroups : (a : ℕ) → (P H : GroupLog) → GroupLog
 putGroups a P H =
     record { readers = putPart a (P .readers) (H .readers); writers = putPart a (P .writers) (H .writers); adders = putPart a (P .adders) (H .adders) }
-
--- Their words, kind by kind: all readers, all writers, all adders.
-abbrev pub groupsPerCell : ℕ
-groupsPerCell = 3
-
-unfoldable pub groupKinds : GroupLog → List (List ℕ)
-groupKinds H = map maskWord (H .readers) ∷ map maskWord (H .writers) ∷ map maskWord (H .adders) ∷ []
-
-unfoldable pub groupWords : GroupLog → List ℕ
-groupWords H = joined (groupKinds H)
 
 pub record GroupsAre (groups k : ℕ) (H : GroupLog) (masks : List ℕ) : Type 0 where
   pub words-are : masks ≡ groupWords H

@@ -35,11 +35,11 @@ const FORMS: [u8; 256] = [
     4, // 16 LOAD
     4, // 17 STORE
     4, // 18 ATOMIC ADD
-    0, // 19 and on
-    0,
-    0,
-    0,
-    0,
+    2, // 19 LAUNCH NUMBER
+    4, // 20 GLOBAL LOAD
+    4, // 21 GLOBAL STORE
+    4, // 22 GLOBAL ADD
+    0, // 23 and on
     0,
     0,
     0,

@@ -6,13 +6,13 @@ use native.Mathlib.Omega.{arith}
 use lib.ListN.{length, getD, replicate}
 use Rattle.spec.specs.Access.{Mode}
 use Rattle.spec.specs.Lists.{joined}
-use Rattle.spec.specs.Limits.{logPerCell}
+use Rattle.spec.specs.Limits.{logPerCell, groupsPerCell}
 use Rattle.spec.specs.Mask.{maskWord}
 use Rattle.spec.specs.Log.{Log, markWord, logKinds, logWords, emptyLog}
-use Rattle.spec.specs.GroupLog.{GroupLog, groupMasksOf, emptyGroupLog}
+use Rattle.spec.specs.GroupLog.{GroupLog, groupMasksOf, emptyGroupLog, groupKinds, groupWords}
 use Rattle.layout.specs.Memory.{Masks, LogIs}
 use Rattle.layout.specs.Views.{putPart, putLog}
-use Rattle.layout.specs.Shared.{groupKinds, groupWords, groupsPerCell, putGroups, GroupsAre}
+use Rattle.layout.specs.Shared.{putGroups, GroupsAre}
 use Rattle.layout.proofs.Lists.{joined-zeros}
 use Rattle.layout.proofs.Parts.{map-put, LogFits}
 use Rattle.layout.proofs.LogBuffer.{kinds-even, log-size, empty-is, none-words}
@@ -49,9 +49,6 @@ empty-log-words n k = sym (empty-is n k (replicate (logPerCell * k) 0) refl .wor
 
 groups-are : (g k : ℕ) (H : GroupLog) → ((m : Mode) → Masks g k (groupMasksOf H m)) → GroupsAre g k H (groupWords H)
 groups-are g k H M = record { words-are = refl; masks-are = M }
-
-pub group-words-size : (g k : ℕ) (H : GroupLog) → ((m : Mode) → Masks g k (groupMasksOf H m)) → length (groupWords H) ≡ groupsPerCell * k
-group-words-size g k H M = groups.groups-size g k H (groupWords H) (groups-are g k H M)
 
 group-kinds-put : (at : ℕ) (Q H : GroupLog) → putEach at (groupKinds Q) (groupKinds H) ≡ groupKinds (putGroups at Q H)
 unfolding putEach groupKinds putGroups

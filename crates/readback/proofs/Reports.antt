@@ -25,17 +25,17 @@ use Rattle.readback.proofs.Back.{inKey, keyed, lineText, lines-back, sa
 use Rattle.readback.proofs.Ends.{cut-off}
 
 -- The lines of a run's report behind its head, up to the last: each key with its numbers, of which the keys about intervals have one each.
-abbrev keyNumbers : Outcome → (steps cells : List ℕ) → List (String × List ℕ)
-keyNumbers o steps cells = ("steps", steps) ∷ ("barriers", o .barriers ∷ []) ∷ ("conflicts", o .conflicts ∷ []) ∷ ("cell", cells) ∷ []
+abbrev keyNumbers : Outcome → (steps cells global : List ℕ) → List (String × List ℕ)
+keyNumbers o steps cells global = ("steps", steps) ∷ ("barriers", o .barriers ∷ []) ∷ ("conflicts", o .conflicts ∷ []) ∷ ("cell", cells) ∷ ("gcell", global) ∷ []
 
 -- Such lines, and then these.
 unfoldable linesOf : List (String × List ℕ) → List Line → List Line
 linesOf [] rest = rest
 linesOf (k ∷ ks) rest = eachLine (text (k .0)) (k .1) ++ linesOf ks rest
 
-run-lines : (o : Outcome) (steps cells : List ℕ) → runLines o steps cells ≡ headLines o ++ linesOf (keyNumbers o steps cells) (endLine ∷ [])
+run-lines : (o : Outcome) (steps cells global : List ℕ) → runLines o steps cells global ≡ headLines o ++ linesOf (keyNumbers o steps cells global) (endLine ∷ [])
 unfolding runLines intervalLines eachLine _is_ linesOf
-run-lines o steps cells = refl
+run-lines o steps cells global = refl
 
 -- The keys of reports are such that each line is read as it was written.
 head-keyed : (o : Outcome) → every keyed (headLines o) ≡ true
@@ -60,11 +60,11 @@ all-keyed (k ∷ ks) h rest e =
     let t = and-eq-true-iff (every inKey (text (k .0))) _ .0 h in
     each-keyed (k .0) (t .0) (k .1) _ (all-keyed ks (t .1) rest e)
 
-run-keyed : (o : Outcome) (steps cells : List ℕ) → every keyed (runLines o steps cells) ≡ true
+run-keyed : (o : Outcome) (steps cells global : List ℕ) → every keyed (runLines o steps cells global) ≡ true
 unfolding every inKey noNewline text
-run-keyed o steps cells =
-    ap (every keyed) (run-lines o steps cells)
-    ∙ every-append keyed (headLines o) _ (head-keyed o) (all-keyed (keyNumbers o steps cells) refl _ end-keyed)
+run-keyed o steps cells global =
+    ap (every keyed) (run-lines o steps cells global)
+    ∙ every-append keyed (headLines o) _ (head-keyed o) (all-keyed (keyNumbers o steps cells global) refl _ end-keyed)
 
 refusal-keyed : (number place : ℕ) → every keyed (refusalLines number place) ≡ true
 unfolding every keyed inKey noNewline refusalLines endLine _is_ text
@@ -118,27 +118,27 @@ ends-once ls e f =
       whole = λ k h. cut-off (isLine "end=report") ls endLine e f k h;
     }
 
-run-ends : (o : Outcome) (steps cells : List ℕ) → EndsOnce (runReport o steps cells)
+run-ends : (o : Outcome) (steps cells global : List ℕ) → EndsOnce (runReport o steps cells global)
 unfolding runReport anyOf isLine equalList lineText headLines headWith _is_ text linesOf every
-run-ends o steps cells = rw (sym same) (ends-once front (ap (every keyed) same ∙ run-keyed o steps cells) no-end)
+run-ends o steps cells global = rw (sym same) (ends-once front (ap (every keyed) same ∙ run-keyed o steps cells global) no-end)
   where
     front : List Line
-    front = headLines o ++ linesOf (keyNumbers o steps cells) []
+    front = headLines o ++ linesOf (keyNumbers o steps cells global) []
 
-    same : front ++ (endLine ∷ []) ≡ runLines o steps cells
-    same = simp append-assoc (sym (run-lines o steps cells))
+    same : front ++ (endLine ∷ []) ≡ runLines o steps cells global
+    same = simp append-assoc (sym (run-lines o steps cells global))
 
     no-end : anyOf (isLine "end=report") (map lineText front) ≡ false
-    no-end = any-line (isLine "end=report") o (keyNumbers o steps cells) (λ n. refl) []
+    no-end = any-line (isLine "end=report") o (keyNumbers o steps cells global) (λ n. refl) []
 
 refusal-ends : (number place : ℕ) → EndsOnce (refusalReport number place)
 unfolding refusalReport refusalLines anyOf isLine equalList lineText _is_ text
 refusal-ends number place = ends-once ("refused" is _ ∷ "place" is _ ∷ []) (refusal-keyed number place) refl
 
 -- The first line of a run's report says its verdict.
-run-read : (o : Outcome) (steps cells : List ℕ) → linesIn (runReport o steps cells) ≡ map lineText (runLines o steps cells)
+run-read : (o : Outcome) (steps cells global : List ℕ) → linesIn (runReport o steps cells global) ≡ map lineText (runLines o steps cells global)
 unfolding runReport
-run-read o steps cells = lines-back (runLines o steps cells) (run-keyed o steps cells)
+run-read o steps cells global = lines-back (runLines o steps cells global) (run-keyed o steps cells global)
 
 refusal-read : (number place : ℕ) → linesIn (refusalReport number place) ≡ map lineText (refusalLines number place)
 unfolding refusalReport
@@ -156,23 +156,23 @@ passed-line (Outside thread at) = refl
 passed-line (Diverged thread other) = refl
 passed-line Spent = refl
 
-begins : (s : String) (o : Outcome) (steps cells : List ℕ) → beginsWith s (runReport o steps cells) ≡ isLine s (verdictLine (o .verdict))
+begins : (s : String) (o : Outcome) (steps cells global : List ℕ) → beginsWith s (runReport o steps cells global) ≡ isLine s (verdictLine (o .verdict))
 unfolding beginsWith isFirst runLines headLines headWith lineText _is_ valueText verdictLine
-begins s o steps cells = ap (isFirst s) (run-read o steps cells)
+begins s o steps cells global = ap (isFirst s) (run-read o steps cells global)
 
-pub begins-passed : (o : Outcome) (steps cells : List ℕ) → beginsWith "verdict=passed" (runReport o steps cells) ≡ isPassed (o .verdict)
-begins-passed o steps cells = begins "verdict=passed" o steps cells ∙ passed-line (o .verdict)
+pub begins-passed : (o : Outcome) (steps cells global : List ℕ) → beginsWith "verdict=passed" (runReport o steps cells global) ≡ isPassed (o .verdict)
+begins-passed o steps cells global = begins "verdict=passed" o steps cells global ∙ passed-line (o .verdict)
 
 or-none : (b : Bool) → (b || false) ≡ b
 or-none true = refl
 or-none false = refl
 
 -- `verdict=passed` stands nowhere else.
-anywhere : (o : Outcome) (steps cells : List ℕ) → hasLine "verdict=passed" (runReport o steps cells) ≡ isPassed (o .verdict)
+anywhere : (o : Outcome) (steps cells global : List ℕ) → hasLine "verdict=passed" (runReport o steps cells global) ≡ isPassed (o .verdict)
 unfolding hasLine headLines headWith endLine _is_ anyOf isLine equalList lineText valueText verdictLine text every
-anywhere o steps cells =
-    ap (anyOf (isLine "verdict=passed")) (run-read o steps cells ∙ ap (map lineText) (run-lines o steps cells))
-    ∙ any-line (isLine "verdict=passed") o (keyNumbers o steps cells) (λ n. refl) (endLine ∷ [])
+anywhere o steps cells global =
+    ap (anyOf (isLine "verdict=passed")) (run-read o steps cells global ∙ ap (map lineText) (run-lines o steps cells global))
+    ∙ any-line (isLine "verdict=passed") o (keyNumbers o steps cells global) (λ n. refl) (endLine ∷ [])
     ∙ or-none _ ∙ or-none _ ∙ passed-line (o .verdict)
 
 -- A loader's decision, by where `end=report` stands.
@@ -194,11 +194,11 @@ read-by what report e b a =
       cutOff = λ k h. ap (λ (x : Bool). beginsWith "verdict=passed" (take k report) && x) (e .whole k h) ∙ and-false (beginsWith "verdict=passed" (take k report));
     }
 
-pub readable : (what : Subject) (steps cells : List ℕ) → Readable what (reportOf what steps cells)
+pub readable : (what : Subject) (steps cells global : List ℕ) → Readable what (reportOf what steps cells global)
 unfolding reportOf hasPassed hasLine beginsWith isFirst refusalLines endLine anyOf isLine equalList lineText _is_ text
-readable (subject.Ran o) steps cells =
-    read-by (subject.Ran o) (runReport o steps cells) (run-ends o steps cells) (begins-passed o steps cells) (anywhere o steps cells)
-readable (subject.Refused number place) steps cells =
+readable (subject.Ran o) steps cells global =
+    read-by (subject.Ran o) (runReport o steps cells global) (run-ends o steps cells global) (begins-passed o steps cells global) (anywhere o steps cells global)
+readable (subject.Refused number place) steps cells global =
     read-by (subject.Refused number place) (refusalReport number place) (refusal-ends number place)
     (ap (isFirst "verdict=passed") (refusal-read number place)) (ap (anyOf (isLine "verdict=passed")) (refusal-read number place))
 
@@ -225,12 +225,12 @@ spent-line (Outside thread at) e = absurd (false≢true e)
 spent-line (Diverged thread other) e = absurd (false≢true e)
 spent-line Spent e = refl
 
-pub begins-spent : (o : Outcome) (steps cells : List ℕ) → beginsWith "verdict=spent" (runReport o steps cells) ≡ true → o .verdict ≡ Spent
-begins-spent o steps cells e = spent-line (o .verdict) (sym (begins "verdict=spent" o steps cells) ∙ e)
+pub begins-spent : (o : Outcome) (steps cells global : List ℕ) → beginsWith "verdict=spent" (runReport o steps cells global) ≡ true → o .verdict ≡ Spent
+begins-spent o steps cells global e = spent-line (o .verdict) (sym (begins "verdict=spent" o steps cells global) ∙ e)
 
-pub spent-begins : (o : Outcome) (steps cells : List ℕ) → o .verdict ≡ Spent → beginsWith "verdict=spent" (runReport o steps cells) ≡ true
+pub spent-begins : (o : Outcome) (steps cells global : List ℕ) → o .verdict ≡ Spent → beginsWith "verdict=spent" (runReport o steps cells global) ≡ true
 unfolding isLine equalList verdictLine verdictText text
-spent-begins o steps cells e = begins "verdict=spent" o steps cells ∙ ap (λ v. isLine "verdict=spent" (verdictLine v)) e
+spent-begins o steps cells global e = begins "verdict=spent" o steps cells global ∙ ap (λ v. isLine "verdict=spent" (verdictLine v)) e
 
 -- The numbers on the lines of a run's report.
 each-said : (key own : String) (ns : List ℕ) (rest : List Line)
@@ -262,33 +262,37 @@ all-said key [] rest = refl
 all-said key (k ∷ ks) rest =
     each-said key (k .0) (k .1) _ ∙ ap (λ xs. cond (equalList (text (k .0)) (text key)) (map some (k .1)) [] ++ xs) (all-said key ks rest)
 
-module _ (key : String) (o : Outcome) (steps cells : List ℕ) where
-  behind-said : saidBy key (linesOf (keyNumbers o steps cells) (endLine ∷ [])) ≡ saidUnder key (keyNumbers o steps cells) (saidBy key (endLine ∷ []))
-  behind-said = all-said key (keyNumbers o steps cells) (endLine ∷ [])
+module _ (key : String) (o : Outcome) (steps cells global : List ℕ) where
+  behind-said : saidBy key (linesOf (keyNumbers o steps cells global) (endLine ∷ [])) ≡ saidUnder key (keyNumbers o steps cells global) (saidBy key (endLine ∷ []))
+  behind-said = all-said key (keyNumbers o steps cells global) (endLine ∷ [])
 
-  said-in : numbersAt key (runReport o steps cells) ≡ saidBy key (headLines o ++ linesOf (keyNumbers o steps cells) (endLine ∷ []))
+  said-in : numbersAt key (runReport o steps cells global) ≡ saidBy key (headLines o ++ linesOf (keyNumbers o steps cells global) (endLine ∷ []))
   unfolding runReport
-  said-in = numbers-back key (runLines o steps cells) (run-keyed o steps cells) ∙ ap (saidBy key) (run-lines o steps cells)
+  said-in = numbers-back key (runLines o steps cells global) (run-keyed o steps cells global) ∙ ap (saidBy key) (run-lines o steps cells global)
 
-module _ (o : Outcome) (steps cells : List ℕ) where
-  pub rows-read : numbersAt "rows" (runReport o steps cells) ≡ some (o .rows) ∷ []
+module _ (o : Outcome) (steps cells global : List ℕ) where
+  pub rows-read : numbersAt "rows" (runReport o steps cells global) ≡ some (o .rows) ∷ []
   unfolding headLines headWith endLine saidBy saidUnder _is_ equalList text valueText
   rows-read =
-      said-in "rows" o steps cells
-      ∙ ap₂ (λ (x : Option ℕ) (xs : List (Option ℕ)). x ∷ xs) (number-back (o .rows)) (behind-said "rows" o steps cells)
+      said-in "rows" o steps cells global
+      ∙ ap₂ (λ (x : Option ℕ) (xs : List (Option ℕ)). x ∷ xs) (number-back (o .rows)) (behind-said "rows" o steps cells global)
 
-  pub steps-read : numbersAt "steps" (runReport o steps cells) ≡ map some steps
+  pub steps-read : numbersAt "steps" (runReport o steps cells global) ≡ map some steps
   unfolding headLines headWith endLine saidBy saidUnder _is_ equalList text valueText
-  steps-read = said-in "steps" o steps cells ∙ behind-said "steps" o steps cells ∙ append-nil (map some steps)
+  steps-read = said-in "steps" o steps cells global ∙ behind-said "steps" o steps cells global ∙ append-nil (map some steps)
 
-  pub barriers-read : numbersAt "barriers" (runReport o steps cells) ≡ some (o .barriers) ∷ []
+  pub barriers-read : numbersAt "barriers" (runReport o steps cells global) ≡ some (o .barriers) ∷ []
   unfolding headLines headWith endLine saidBy saidUnder _is_ equalList text valueText
-  barriers-read = said-in "barriers" o steps cells ∙ behind-said "barriers" o steps cells
+  barriers-read = said-in "barriers" o steps cells global ∙ behind-said "barriers" o steps cells global
 
-  pub conflicts-read : numbersAt "conflicts" (runReport o steps cells) ≡ some (o .conflicts) ∷ []
+  pub conflicts-read : numbersAt "conflicts" (runReport o steps cells global) ≡ some (o .conflicts) ∷ []
   unfolding headLines headWith endLine saidBy saidUnder _is_ equalList text valueText
-  conflicts-read = said-in "conflicts" o steps cells ∙ behind-said "conflicts" o steps cells
+  conflicts-read = said-in "conflicts" o steps cells global ∙ behind-said "conflicts" o steps cells global
 
-  pub cells-read : numbersAt "cell" (runReport o steps cells) ≡ map some cells
+  pub cells-read : numbersAt "cell" (runReport o steps cells global) ≡ map some cells
   unfolding headLines headWith endLine saidBy saidUnder _is_ equalList text valueText
-  cells-read = said-in "cell" o steps cells ∙ behind-said "cell" o steps cells ∙ append-nil (map some cells)
+  cells-read = said-in "cell" o steps cells global ∙ behind-said "cell" o steps cells global ∙ append-nil (map some cells)
+
+  pub global-read : numbersAt "gcell" (runReport o steps cells global) ≡ map some global
+  unfolding headLines headWith endLine saidBy saidUnder _is_ equalList text valueText
+  global-read = said-in "gcell" o steps cells global ∙ behind-said "gcell" o steps cells global ∙ append-nil (map some global)

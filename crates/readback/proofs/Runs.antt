@@ -2,7 +2,7 @@
 use mathlib.Core.Path.{_≡_, refl, sym, ap, subst, _∙_}
 use mathlib.Core.Logic.{_↔_}
 use mathlib.Core.Bool.{true, false, false≢true}
-use mathlib.Core.List.{List, [], _∷_}
+use mathlib.Core.List.{List, [], _∷_, _++_}
 use mathlib.Core.Option.{some}
 use Prim.Native.Nat.{ℕ}
 use Rattle.spec.specs.declared.Outcome.{Outcome}
@@ -10,47 +10,54 @@ use Rattle.spec.specs.declared.Refusal.{Refusal}
 use Rattle.spec.specs.declared.Subject.the-variants as subject
 use Rattle.spec.specs.declared.Verdict.the-variants.{Passed, Spent}
 use Rattle.spec.specs.Answers.{refusalNumber, refusalPlace}
-use Rattle.spec.specs.LockStep.{LockResult, outcomeOf}
+use Rattle.spec.specs.LockStep.{outcomeOf}
 use Rattle.spec.specs.Intervals.{conflictsOf}
-use Rattle.spec.specs.AllRuns.{countedInAll, Demand3}
-use Rattle.spec.specs.LaunchFile.{Launch, Checked, refused, accepted, fileLaunch}
+use Rattle.spec.specs.AllRuns.{countedInAll}
+use Rattle.spec.specs.Launch.{Launch, launchIntervals, launchOutcome, launchSteps, ownAfter, globalAfter}
+use Rattle.spec.specs.LaunchFile.{Checked, refused, accepted, fileLaunch}
 use Rattle.spec.specs.Report.{reportOf}
 use Rattle.spec.specs.Reading.{beginsWith, numbersAt, hasPassed, Readable}
 use Rattle.spec.specs.Answers.{isPassed}
-use Rattle.spec.specs.Entries.{sizesOf, launchRun, launchIntervals, launchOutcome, launchReport, printed, checkPrints, subjectOf}
-use Rattle.spec.specs.Demands.{RunsEndWell, countedIn, PassedReport, ReportDemand3, FileReadable}
-use Rattle.allruns.proofs.Launches.{launch-demand3}
+use Rattle.spec.specs.Entries.{launchReport, printed, checkPrints, subjectOf}
+use Rattle.spec.specs.Demands.{LaunchDemand3, RunsEndWell, countedIn, PassedReport, ReportDemand3, FileReadable}
+use Rattle.allruns.proofs.Launches.{file-demand3}
 use Rattle.readback.proofs.Reports.{readable, begins-passed, begins-spent, spent-begins, only-passed, is-passed}
-use Rattle.readback.proofs.Reports.{steps-read, barriers-read, conflicts-read, rows-read, cells-read}
+use Rattle.readback.proofs.Reports.{steps-read, barriers-read, conflicts-read, rows-read, cells-read, global-read}
 
 pub file-readable : (file : List ℕ) → FileReadable file (checkPrints file)
 unfolding checkPrints
 file-readable file = by (fileLaunch file)
   where
     by : (x : Checked Launch) → Readable (subjectOf x) (printed x)
-    by (refused why) = unfold subjectOf printed reportOf in (readable (subject.Refused (refusalNumber why) (refusalPlace why)) [] [])
+    by (refused why) = unfold subjectOf printed reportOf in (readable (subject.Refused (refusalNumber why) (refusalPlace why)) [] [] [])
     by (accepted launch) =
-        let run = launchRun launch in
-        unfold subjectOf printed launchReport reportOf in (readable (subject.Ran (launchOutcome launch)) (run .state .steps) (run .state .cells))
+        unfold subjectOf printed launchReport reportOf in
+        (readable (subject.Ran (launchOutcome launch)) (launchSteps launch) (ownAfter launch) (globalAfter launch))
 
 -- An accepted launch.
 module _ (file : List ℕ) (launch : Launch) (e : fileLaunch file ≡ accepted launch) where
-  abbrev run : LockResult
-  run = launchRun launch
-
   abbrev outcome : Outcome
   outcome = launchOutcome launch
 
-  demand : Demand3 (launch .table) (sizesOf launch) (launch .cells) (launch .limit) outcome (run .state .steps) (run .state .cells)
-  demand = launch-demand3 file launch e
+  abbrev steps : List ℕ
+  steps = launchSteps launch
+
+  abbrev own : List ℕ
+  own = ownAfter launch
+
+  abbrev global : List ℕ
+  global = globalAfter launch
+
+  demand : LaunchDemand3 launch outcome steps (own ++ global)
+  demand = file-demand3 file launch e
 
   has-passed : beginsWith "verdict=passed" (launchReport launch) ≡ true → outcome .verdict ≡ Passed
   unfolding launchReport
-  has-passed b = only-passed (outcome .verdict) (sym (begins-passed outcome (run .state .steps) (run .state .cells)) ∙ b)
+  has-passed b = only-passed (outcome .verdict) (sym (begins-passed outcome steps own global) ∙ b)
 
   says-passed : outcome .verdict ≡ Passed → beginsWith "verdict=passed" (launchReport launch) ≡ true
   unfolding launchReport
-  says-passed p = begins-passed outcome (run .state .steps) (run .state .cells) ∙ is-passed (outcome .verdict) p
+  says-passed p = begins-passed outcome steps own global ∙ is-passed (outcome .verdict) p
 
   not-spent : outcome .verdict ≡ Passed → ¬ (outcome .verdict ≡ Spent)
   unfolding isPassed
@@ -58,18 +65,20 @@ module _ (file : List ℕ) (launch : Launch) (e : fileLaunch file ≡ accepted l
 
   unspent : beginsWith "verdict=spent" (launchReport launch) ≡ false → ¬ (outcome .verdict ≡ Spent)
   unfolding launchReport
-  unspent b q = false≢true (sym b ∙ spent-begins outcome (run .state .steps) (run .state .cells) q)
+  unspent b q = false≢true (sym b ∙ spent-begins outcome steps own global q)
 
   passed-report : outcome .verdict ≡ Passed → PassedReport launch (launchReport launch)
   unfolding launchReport
   passed-report p =
       record {
-        steps = run .state .steps;
+        steps = steps;
         barriers = outcome .barriers;
-        final = run .state .cells;
-        stepsLines = steps-read outcome (run .state .steps) (run .state .cells);
-        barriersLine = barriers-read outcome (run .state .steps) (run .state .cells);
-        cellLines = cells-read outcome (run .state .steps) (run .state .cells);
+        own = own;
+        global = global;
+        stepsLines = steps-read outcome steps own global;
+        barriersLine = barriers-read outcome steps own global;
+        cellLines = cells-read outcome steps own global;
+        gcellLines = global-read outcome steps own global;
         runs = demand .exactly (not-spent p) .0 p;
         says = demand .passed p;
       }
@@ -79,16 +88,16 @@ module _ (file : List ℕ) (launch : Launch) (e : fileLaunch file ≡ accepted l
 
   counted : numbersAt "barriers" (launchReport launch) ≡ some (countedInAll (countedIn launch)) ∷ []
   unfolding launchReport
-  counted = barriers-read outcome (run .state .steps) (run .state .cells) ∙ ap (λ n. some n ∷ []) (sym (demand .counted))
+  counted = barriers-read outcome steps own global ∙ ap (λ n. some n ∷ []) (sym (demand .counted))
 
   spent : beginsWith "verdict=spent" (launchReport launch) ≡ true → numbersAt "rows" (launchReport launch) ≡ some (launch .limit) ∷ []
   unfolding launchReport
-  spent b = rows-read outcome (run .state .steps) (run .state .cells) ∙ ap (λ n. some n ∷ []) (demand .spent (begins-spent outcome (run .state .steps) (run .state .cells) b))
+  spent b = rows-read outcome steps own global ∙ ap (λ n. some n ∷ []) (demand .spent (begins-spent outcome steps own global b))
 
 -- Under every verdict the `conflicts=` line says what the rows of all intervals cost.
 pub conflicts-said : (launch : Launch) → numbersAt "conflicts" (launchReport launch) ≡ some (conflictsOf (launchIntervals launch)) ∷ []
 unfolding launchReport launchOutcome outcomeOf
-conflicts-said launch = conflicts-read (launchOutcome launch) (launchRun launch .state .steps) (launchRun launch .state .cells)
+conflicts-said launch = conflicts-read (launchOutcome launch) (launchSteps launch) (ownAfter launch) (globalAfter launch)
 
 -- What is printed for an accepted file is its launch's report; what is printed for any other does not begin with `verdict=passed`.
 pub launch-printed : (file : List ℕ) (launch : Launch) → fileLaunch file ≡ accepted launch → checkPrints file ≡ launchReport launch

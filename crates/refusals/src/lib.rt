@@ -25,5 +25,7 @@ pub fn words(why: Refusal) -> [u32; 2]
         Refusal::ReportLines => [23, 0],
         Refusal::OutputLength => [24, 0],
         Refusal::RecordsLength => [30, 0],
+        Refusal::GroupsOutOfRange(place) => [32, place],
+        Refusal::TooManyCells(place) => [33, place],
     }
 }

@@ -1,4 +1,4 @@
--- The report of a run as the parts that the writer writes: the head, the steps, the lines about intervals, the cells, the last line. Assumes nothing.
+-- The report of a run as the parts that the writer writes: the head, the steps, the lines about intervals, the own cells, the global ones, the last line. Assumes nothing.
 use mathlib.Core.Path.{_≡_, refl, sym, ap, _∙_}
 use mathlib.Core.List.{List, [], _∷_, _++_, append-assoc}
 use Prim.Native.Nat.{ℕ, _+_}
@@ -28,6 +28,9 @@ intervalsPart values = bytesOf (tableLines values intervalsNumber 2)
 abbrev pub cellsPart : List ℕ → List ℕ
 cellsPart cells = bytesOf (eachLine (text "cell") cells)
 
+abbrev pub globalPart : List ℕ → List ℕ
+globalPart global = bytesOf (eachLine (text "gcell") global)
+
 abbrev pub last : List Value → List ℕ
 last values = bytesOf (tableLines values endNumber 1)
 
@@ -41,6 +44,9 @@ toIntervals values steps = toSteps values steps ++ intervalsPart values
 abbrev pub toCells : List Value → (steps cells : List ℕ) → List ℕ
 toCells values steps cells = toIntervals values steps ++ cellsPart cells
 
+abbrev pub toGlobal : List Value → (steps cells global : List ℕ) → List ℕ
+toGlobal values steps cells global = toCells values steps cells ++ globalPart global
+
 -- Their lengths.
 pub to-steps : (values : List Value) (steps : List ℕ) → length (toSteps values steps) ≡ length (head values) + length (stepsPart steps)
 to-steps values steps = length-append (head values) (stepsPart steps)
@@ -53,25 +59,37 @@ pub to-cells : (values : List Value) (steps cells : List ℕ)
     → length (toCells values steps cells) ≡ length (head values) + length (stepsPart steps) + length (intervalsPart values) + length (cellsPart cells)
 to-cells values steps cells = omega (arith, to-intervals values steps, length-append (toIntervals values steps) (cellsPart cells))
 
--- The lines of a report, part by part, as bytes.
-bytes-of-parts : (h s i c l : List Line) → bytesOf (h ++ (s ++ (i ++ (c ++ l)))) ≡ (((bytesOf h ++ bytesOf s) ++ bytesOf i) ++ bytesOf c) ++ bytesOf l
-bytes-of-parts h s i c l =
-    ap bytesOf (sym (append-assoc h s (i ++ (c ++ l))) ∙ sym (append-assoc (h ++ s) i (c ++ l)) ∙ sym (append-assoc ((h ++ s) ++ i) c l))
-    ∙ bytes-append (((h ++ s) ++ i) ++ c) l
-    ∙ ap (λ (x : List ℕ). x ++ bytesOf l) (bytes-append ((h ++ s) ++ i) c
-    ∙ ap (λ (x : List ℕ). x ++ bytesOf c) (bytes-append (h ++ s) i ∙ ap (λ (x : List ℕ). x ++ bytesOf i) (bytes-append h s)))
+pub to-global : (values : List Value) (steps cells global : List ℕ)
+    → length (toGlobal values steps cells global)
+    ≡ length (head values) + length (stepsPart steps) + length (intervalsPart values) + length (cellsPart cells) + length (globalPart global)
+to-global values steps cells global = omega (arith, to-cells values steps cells, length-append (toCells values steps cells) (globalPart global))
 
-module _ (o : Outcome) (steps cells : List ℕ) (values : List Value) (e : values ≡ runValues o) where
-  pub run-parts : toCells values steps cells ++ last values ≡ runReport o steps cells
+-- The lines of a report, part by part, as bytes.
+bytes-of-parts : (h s i c g l : List Line)
+    → bytesOf (h ++ (s ++ (i ++ (c ++ (g ++ l))))) ≡ ((((bytesOf h ++ bytesOf s) ++ bytesOf i) ++ bytesOf c) ++ bytesOf g) ++ bytesOf l
+bytes-of-parts h s i c g l =
+    ap bytesOf
+    (sym (append-assoc h s (i ++ (c ++ (g ++ l)))) ∙ sym (append-assoc (h ++ s) i (c ++ (g ++ l))) ∙ sym (append-assoc ((h ++ s) ++ i) c (g ++ l))
+    ∙ sym (append-assoc (((h ++ s) ++ i) ++ c) g l))
+    ∙ bytes-append ((((h ++ s) ++ i) ++ c) ++ g) l
+    ∙ ap (λ (x : List ℕ). x ++ bytesOf l) (bytes-append (((h ++ s) ++ i) ++ c) g
+    ∙ ap (λ (x : List ℕ). x ++ bytesOf g) (bytes-append ((h ++ s) ++ i) c
+    ∙ ap (λ (x : List ℕ). x ++ bytesOf c) (bytes-append (h ++ s) i ∙ ap (λ (x : List ℕ). x ++ bytesOf i) (bytes-append h s))))
+
+module _ (o : Outcome) (steps cells global : List ℕ) (values : List Value) (e : values ≡ runValues o) where
+  pub run-parts : toGlobal values steps cells global ++ last values ≡ runReport o steps cells global
   unfolding runReport runLines
   run-parts =
       rw (e, head-listed o, intervals-listed o, end-listed o)
-      (sym (bytes-of-parts (headLines o) (eachLine (text "steps") steps) (intervalLines o) (eachLine (text "cell") cells) (endLine ∷ [])))
+      (sym (bytes-of-parts (headLines o) (eachLine (text "steps") steps) (intervalLines o) (eachLine (text "cell") cells) (eachLine (text "gcell") global)
+      (endLine ∷ [])))
 
   pub run-size :
-      length (head values) + length (stepsPart steps) + length (intervalsPart values) + length (cellsPart cells) + length (last values)
-      ≡ length (runReport o steps cells)
-  run-size = omega (arith, ap length run-parts, to-cells values steps cells, length-append (toCells values steps cells) (last values))
+      length (head values) + length (stepsPart steps) + length (intervalsPart values) + length (cellsPart cells) + length (globalPart global)
+      + length (last values)
+      ≡ length (runReport o steps cells global)
+  run-size =
+      omega (arith, ap length run-parts, to-global values steps cells global, length-append (toGlobal values steps cells global) (last values))
 
 -- Nothing has been written.
 pub nothing : (xs : List ℕ) → Stands xs xs [] 0
@@ -80,6 +98,6 @@ nothing xs = started (omega arith) refl refl
 
 -- A refusal's report is the last lines of the table.
 pub refusal-part : (number place : ℕ) (values : List Value) → values ≡ refusalValues number place
-    → bytesOf (tableLines values refusedNumber 3) ≡ reportOf (refused number place) [] []
+    → bytesOf (tableLines values refusedNumber 3) ≡ reportOf (refused number place) [] [] []
 unfolding reportOf refusalReport
 refusal-part number place values e = ap (λ (v : List Value). bytesOf (tableLines v refusedNumber 3)) e ∙ ap bytesOf (refusal-listed number place)

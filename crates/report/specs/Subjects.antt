@@ -18,5 +18,5 @@ abbrev pub refused : ℕ → ℕ → Subject
 refused = subject.Refused
 
 -- A report that is not turned back by 23 fits into the output that the whole-file entry asks for.
-abbrev pub FitsOutput : Subject → (steps cells : List ℕ) → Type 0
-FitsOutput what steps cells = linesReported what steps cells ≡ none → length (reportOf what steps cells) ≤ fileOutput
+abbrev pub FitsOutput : Subject → (steps cells global : List ℕ) → Type 0
+FitsOutput what steps cells global = linesReported what steps cells global ≡ none → length (reportOf what steps cells global) ≤ fileOutput

@@ -15,26 +15,26 @@ linesFrom line from (suc n) = line from ∷ linesFrom line (suc from) n
 
 -- The keys of a run's head and of the lines about its intervals, which are the same whatever the outcome, and then a refusal's.
 abbrev pub someOutcome : Outcome
-someOutcome = record { verdict = Passed; row = 0; rows = 0; barriers = 0; conflicts = 0 }
+someOutcome = record { verdict = Passed; row = 0; group = 0; rows = 0; barriers = 0; conflicts = 0 }
 
 unfoldable pub keys : List (List ℕ)
 keys = map (λ (l : Line). l .key) (headLines someOutcome ++ (intervalLines someOutcome ++ refusalLines 0 0))
 
 -- How many they are, how many of them are the head's, and the numbers of the first one about intervals, of a refusal's first line and of the last one.
 abbrev pub keyCount : ℕ
-keyCount = 12
+keyCount = 14
 
 abbrev pub headCount : ℕ
-headCount = 7
+headCount = 9
 
 abbrev pub intervalsNumber : ℕ
-intervalsNumber = 7
+intervalsNumber = 9
 
 abbrev pub refusedNumber : ℕ
-refusedNumber = 9
+refusedNumber = 11
 
 abbrev pub endNumber : ℕ
-endNumber = 11
+endNumber = 13
 
 -- Line i of the table, where the lines have these values.
 unfoldable pub tableLine : List Value → ℕ → Line

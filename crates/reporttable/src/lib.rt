@@ -9,22 +9,23 @@ ghost use Rattle.reporttable.specs.Numbered.{keyCount, tableLines};
 
 // How many lines the table has. The first HEAD are a run's, before its steps; then come the two about its intervals, and a refusal's, of which the last one ends a
 // run's report too.
-pub const COUNT: usize = 12;
+pub const COUNT: usize = 14;
 
-pub const HEAD: usize = 7;
+pub const HEAD: usize = 9;
 
-pub const INTERVALS: usize = 7;
+pub const INTERVALS: usize = 9;
 
-pub const REFUSED: usize = 9;
+pub const REFUSED: usize = 11;
 
-pub const PLACE: usize = 10;
+pub const PLACE: usize = 12;
 
-pub const END: usize = 11;
+pub const END: usize = 13;
 
 // The keys, one behind the other: key i starts at STARTS[i] and ends where the next one starts.
-const KEYS: [u8; 63] = *b"verdictrowthreadotherkindatrowsbarriersconflictsrefusedplaceend";
+const KEYS: [u8; 78] =
+    *b"verdictrowgroupothergroupthreadotherkindatrowsbarriersconflictsrefusedplaceend";
 
-const STARTS: [usize; 13] = [0, 7, 10, 16, 21, 25, 27, 31, 39, 48, 55, 60, 63];
+const STARTS: [usize; 15] = [0, 7, 10, 15, 25, 31, 36, 40, 42, 46, 54, 63, 70, 75, 78];
 
 // The length of n lines of the table.
 pub fn lines_length(values: [Value; COUNT], from: usize, n: usize) -> usize

@@ -5,54 +5,62 @@ use spec::Value;
 use spec::Verdict;
 ghost use mathlib.Core.Path.{_≡_};
 ghost use Rattle.spec.specs.Report.{detailsOf};
+ghost use Rattle.spec.specs.Report as report;
 ghost use Rattle.reportvalues.specs.Values.{runValues, refusalValues};
 
-fn details(verdict: Verdict, row: u32) -> Details
-    ensures { λ r. ⌜ r ≡ detailsOf verdict row ⌝ }
+fn details(
+    row: Value,
+    group: Value,
+    othergroup: Value,
+    thread: Value,
+    other: Value,
+    kind: Value,
+    at: Value,
+) -> Details
+    ensures { λ r. ⌜ r ≡ report.details row group othergroup thread other kind at ⌝ }
 {
+    Details {
+        row,
+        group,
+        othergroup,
+        thread,
+        other,
+        kind,
+        at,
+    }
+}
+
+// A race in the own group is one with this group; the other group of a race across groups has no thread to name.
+fn details_of(verdict: Verdict, row: u32, group: u32) -> Details
+    ensures { λ r. ⌜ r ≡ detailsOf verdict row group ⌝ }
+{
+    let none = Value::Hyphen;
+    let here = Value::Number(row);
+    let own = Value::Number(group);
     match verdict {
-        Verdict::Passed => Details {
-            row: Value::Hyphen,
-            thread: Value::Hyphen,
-            other: Value::Hyphen,
-            kind: Value::Hyphen,
-            at: Value::Hyphen,
-        },
-        Verdict::Race(thread, other, kind, at) => Details {
-            row: Value::Number(row),
-            thread: Value::Number(thread),
-            other: Value::Number(other),
-            kind: Value::Kind(kind),
-            at: Value::Number(at),
-        },
-        Verdict::GroupRace(thread, _, kind, at) => Details {
-            row: Value::Number(row),
-            thread: Value::Number(thread),
-            other: Value::Hyphen,
-            kind: Value::Kind(kind),
-            at: Value::Number(at),
-        },
-        Verdict::Outside(thread, at) => Details {
-            row: Value::Number(row),
-            thread: Value::Number(thread),
-            other: Value::Hyphen,
-            kind: Value::Hyphen,
-            at: Value::Number(at),
-        },
-        Verdict::Diverged(thread, other) => Details {
-            row: Value::Number(row),
-            thread: Value::Number(thread),
-            other: Value::Number(other),
-            kind: Value::Hyphen,
-            at: Value::Hyphen,
-        },
-        Verdict::Spent => Details {
-            row: Value::Number(row),
-            thread: Value::Hyphen,
-            other: Value::Hyphen,
-            kind: Value::Hyphen,
-            at: Value::Hyphen,
-        },
+        Verdict::Passed => details(none, none, none, none, none, none, none),
+        Verdict::Race(thread, other, kind, at) => {
+            let acting = Value::Number(thread);
+            let met = Value::Number(other);
+            let how = Value::Kind(kind);
+            details(here, own, own, acting, met, how, Value::Number(at))
+        }
+        Verdict::GroupRace(thread, othergroup, kind, at) => {
+            let acting = Value::Number(thread);
+            let met = Value::Number(othergroup);
+            let how = Value::Kind(kind);
+            details(here, own, met, acting, none, how, Value::Number(at))
+        }
+        Verdict::Outside(thread, at) => {
+            let acting = Value::Number(thread);
+            details(here, own, none, acting, none, none, Value::Number(at))
+        }
+        Verdict::Diverged(thread, other) => {
+            let acting = Value::Number(thread);
+            let met = Value::Number(other);
+            details(here, own, none, acting, met, none, none)
+        }
+        Verdict::Spent => details(here, own, none, none, none, none, none),
     }
 }
 
@@ -61,8 +69,10 @@ pub fn run_values(outcome: Outcome) -> [Value; reporttable::COUNT]
 {
     let none = Value::Hyphen;
     let verdict = outcome.verdict;
-    let stopped = details(verdict, outcome.row);
+    let stopped = details_of(verdict, outcome.row, outcome.group);
     let row = stopped.row;
+    let group = stopped.group;
+    let othergroup = stopped.othergroup;
     let thread = stopped.thread;
     let other = stopped.other;
     let kind = stopped.kind;
@@ -74,6 +84,8 @@ pub fn run_values(outcome: Outcome) -> [Value; reporttable::COUNT]
     [
         how,
         row,
+        group,
+        othergroup,
         thread,
         other,
         kind,

@@ -12,13 +12,13 @@ use Rattle.spec.specs.Mask.{maskWord, has, membersFrom, members, any, fu
 use Rattle.spec.specs.Shape.{launchNumber, total, bound, address, isGlobal, isOwn, reaches}
 use Rattle.spec.specs.Log.{masksOf, markWord, logKinds, logWords, emptyLog, nobody, cleared, clearedWhere, cellCleared, cellsCleared}
 use Rattle.spec.specs.Log.{withThread, firstValue, unequal, logged, conflicting, testedMask, conflictMask, shownKind, raceKind}
-use Rattle.spec.specs.GroupLog.{groupMasksOf, emptyGroupLog, groupLogged, conflictingGroups, groupConflictMask, groupRaceKind}
+use Rattle.spec.specs.GroupLog.{groupMasksOf, emptyGroupLog, groupLogged, conflictingGroups, groupConflictMask, groupRaceKind, groupKinds, groupWords}
 use Rattle.spec.specs.Steps.{stepped, allStepped, sum}
 use Rattle.spec.specs.LockStep as lockStep
 use Rattle.spec.specs.LockStep.{initialState, andThen, inTurn, advance, update, setReg, computeTurn, madeAccess, enterGroup, rivals, tryAccess, accessTurn}
 use Rattle.spec.specs.LockStep.{forEnabled, countSteps, topMask, topOpener, pop, ifRow, elseRow, endifRow, savedAtWhile, leaveOrStay, whileRow}
 use Rattle.spec.specs.LockStep.{endwhileRow, passBarrier, barrierRow, runRow, resultOf, runFrom, outcomeOf, countedAt, countedAfter, countedFrom}
-use Rattle.spec.specs.LaunchRun.{rowsLeft, groupResult, nextStart, runsFrom, groupRuns, lastRun, lockstep, stepsByLaunch, ownCells, countedBarriers}
+use Rattle.spec.specs.LaunchRun.{rowsLeft, groupResult, nextStart, runsFrom, groupRuns, lastRun, lockstep, lastGroup, stepsByLaunch, ownCells, countedBarriers}
 use Rattle.spec.specs.Banks.{different, inBank, mostInBank, conflictCost}
 use Rattle.spec.specs.Intervals.{usedCells, rowCost, allOf, started, withRow, behind, intervalsAfter, intervalsFrom, together, recordsOf}
 use Rattle.spec.specs.Intervals.{intervalRecords, recordWords, conflictsOf}
@@ -29,15 +29,16 @@ use Rattle.spec.specs.LaunchThreads as launch
 use Rattle.spec.specs.LaunchThreads.{noPart, hasMet, barredTo, partAtEnd, initialPart, initialGroups}
 use Rattle.spec.specs.AllRuns.{isMoveOf, isReleaseOf, isRelease, countedInAll}
 use Rattle.spec.specs.Text.{text, digitsWithin, decimal, isDigit, isNumber, digitsValue, numberBelow, startingWith, splitAt}
+use Rattle.spec.specs.Launch.{launchRun, launchIntervals, launchOutcome, launchSteps, ownPart, globalPart, ownAfter, globalAfter, allLogWords, launchLog}
 use Rattle.spec.specs.LaunchFile.{continue, _>>=_, _>>_, gives, inOrder, times, given, lineValue, isDue, due, require, fileEnds, exactly}
-use Rattle.spec.specs.LaunchFile.{number, byte, rowValue, numberLines, dueNumber, numbers, contentLines, launchLines, unlessRefused, checkedTable, fileLaunch}
+use Rattle.spec.specs.LaunchFile.{number, byte, rowValue, sizeLines, lengthLines, dueNumber, numbers, contentLines, launchLines, unlessRefused, checkedTable, fileLaunch}
 use Rattle.spec.specs.Report.{verdictText, kindText, valueText, keyLine, lineBytes, _is_, bytesOf, details, detailsOf, headWith, headLines, intervalLines}
 use Rattle.spec.specs.Report.{eachLine, endLine, runLines, runReport, refusalLines, refusalReport, reportOf}
 use Rattle.spec.specs.Reading.{onFirst, linesIn, isLine, hasLine, isFirst, beginsWith, numberIn, underKey, numbersOn, numbersAt, hasPassed, installs}
-use Rattle.spec.specs.Entries.{over, bareNumbers, bareLent, bareRefusal, bareRun, bareIntervals, bareOutcome, answerOf, keptIf, bareAnswer, bareCells}
+use Rattle.spec.specs.Entries.{over, bareNumbers, bareLent, bareRefusal, bareLaunch, answerOf, keptIf, bareAnswer, bareCells, bareGlobal}
 use Rattle.spec.specs.Entries.{bareLog, bareRecords, bareSteps}
-use Rattle.spec.specs.Entries.{linesReported, writerRefusal, writtenOf, writerAnswer, writerBuffer, fileLent, andState, fileChecked, launchRun, launchIntervals, launchOutcome}
-use Rattle.spec.specs.Entries.{launchReport, reportLength, fileAnswer, ifAccepted, fileCellsAfter, fileLogAfter, fileRecordsAfter, fileOutputAfter, printed}
+use Rattle.spec.specs.Entries.{linesReported, writerRefusal, writtenOf, writerAnswer, writerBuffer, fileLent, andState, fileChecked}
+use Rattle.spec.specs.Entries.{launchReport, reportLength, fileAnswer, ifAccepted, fileCellsAfter, fileGlobalAfter, fileLogAfter, fileRecordsAfter, fileOutputAfter, printed}
 use Rattle.spec.specs.Entries.{checkedRefusal, checkPrints, subjectOf}
 use Rattle.spec.specs.Examples.{withNewlines, lines, examples}
 use Rattle.spec.specs.RunExamples.{runExamples}
@@ -46,7 +47,8 @@ use Rattle.spec.specs.ShiftExamples.{shiftExamples}
 use Rattle.spec.specs.StepExamples.{stepExamples, stepSums}
 use Rattle.spec.specs.ConflictExamples.{conflictExamples, conflictRecords}
 use Rattle.spec.specs.StoreExamples.{storeExamples}
-use Rattle.spec.specs.GroupExamples.{sized, globalLoad, globalStore, globalAdd, launchTid, growing, numbering, groupExamples}
+use Rattle.spec.specs.GroupExamples.{globalLoad, globalStore, globalAdd, launchTid, growing, numbering, groupExamples}
+use Rattle.spec.specs.GroupFiles.{groupFiles, groupFileRecords}
 
 -- Whoever unfolds this unfolds them all.
 unfoldable pub computing : Unit {0}
@@ -61,12 +63,12 @@ unfolding refusalNumber refusalPlace named told toldBy toldIn unless orElse firs
     launchNumber total bound address isGlobal isOwn reaches
     masksOf markWord logKinds logWords emptyLog nobody cleared clearedWhere cellCleared cellsCleared withThread firstValue unequal logged
     conflicting testedMask conflictMask shownKind raceKind
-    groupMasksOf emptyGroupLog groupLogged conflictingGroups groupConflictMask groupRaceKind
+    groupMasksOf emptyGroupLog groupLogged conflictingGroups groupConflictMask groupRaceKind groupKinds groupWords
     stepped allStepped sum
     lockStep.reg initialState andThen inTurn advance update setReg computeTurn madeAccess enterGroup rivals tryAccess accessTurn forEnabled countSteps
     topMask topOpener pop ifRow elseRow endifRow savedAtWhile leaveOrStay whileRow endwhileRow passBarrier barrierRow runRow resultOf
     runFrom outcomeOf countedAt countedAfter countedFrom
-    rowsLeft groupResult nextStart runsFrom groupRuns lastRun lockstep stepsByLaunch ownCells countedBarriers
+    rowsLeft groupResult nextStart runsFrom groupRuns lastRun lockstep lastGroup stepsByLaunch ownCells countedBarriers
     different inBank mostInBank conflictCost
     usedCells rowCost allOf started withRow behind intervalsAfter intervalsFrom together recordsOf intervalRecords recordWords conflictsOf
     reg goto put reach onIf onWhile effectOf effect emptyRecord recorded anyBelow races initialThreads noThread threadCount effectAt
@@ -75,14 +77,15 @@ unfolding refusalNumber refusalPlace named told toldBy toldIn unless orElse firs
     noPart hasMet barredTo launch.next launch.possible partAtEnd launch.atEnd launch.shown initialPart initialGroups
     isMoveOf isReleaseOf isRelease countedInAll
     text digitsWithin decimal isDigit isNumber digitsValue numberBelow startingWith splitAt
-    continue _>>=_ _>>_ gives inOrder times given lineValue isDue due require fileEnds exactly number byte rowValue numberLines dueNumber
+    launchRun launchIntervals launchOutcome launchSteps ownPart globalPart ownAfter globalAfter allLogWords launchLog
+    continue _>>=_ _>>_ gives inOrder times given lineValue isDue due require fileEnds exactly number byte rowValue sizeLines lengthLines dueNumber
     numbers contentLines launchLines unlessRefused checkedTable fileLaunch
     verdictText kindText valueText keyLine lineBytes _is_ bytesOf details detailsOf headWith headLines intervalLines eachLine endLine runLines runReport
     refusalLines refusalReport reportOf
     onFirst linesIn isLine hasLine isFirst beginsWith numberIn underKey numbersOn numbersAt hasPassed installs
-    over bareNumbers bareLent bareRefusal bareRun bareIntervals bareOutcome answerOf keptIf bareAnswer bareCells bareLog bareRecords bareSteps linesReported writerRefusal
-    writtenOf writerAnswer writerBuffer fileLent andState fileChecked launchRun launchIntervals launchOutcome launchReport reportLength fileAnswer ifAccepted fileCellsAfter
+    over bareNumbers bareLent bareRefusal bareLaunch answerOf keptIf bareAnswer bareCells bareGlobal bareLog bareRecords bareSteps linesReported writerRefusal
+    writtenOf writerAnswer writerBuffer fileLent andState fileChecked launchReport reportLength fileAnswer ifAccepted fileCellsAfter fileGlobalAfter
     fileLogAfter fileRecordsAfter fileOutputAfter printed checkPrints checkedRefusal subjectOf
     withNewlines lines examples runExamples addExamples shiftExamples stepExamples stepSums conflictExamples conflictRecords storeExamples
-    sized globalLoad globalStore globalAdd launchTid growing numbering groupExamples
+    globalLoad globalStore globalAdd launchTid growing numbering groupExamples groupFiles groupFileRecords
 computing = tt

@@ -9,13 +9,13 @@ use lib.ListN.{length, getD, replicate}
 use Rattle.spec.specs.Access.{load, store, atomicAdd}
 use Rattle.spec.specs.Lists.{joined}
 use Rattle.spec.specs.Table.{Table, Row, rowOf}
-use Rattle.spec.specs.Shape.{Sizes}
+use Rattle.spec.specs.Shape.{Sizes, sizes}
 use Rattle.spec.specs.Threads as own
 use Rattle.spec.specs.LaunchThreads.{Part, Groups, noPart, hasMet, barredTo, Move, ofGroup, possible, atEnd, initialGroups}
 use Rattle.spec.specs.Runs.{many}
 use Rattle.spec.specs.LaunchRun.{stepsByLaunch, countedBarriers}
 use Rattle.spec.specs.AllRuns.{CompleteRun, leaves, cellsAtReleases, isMoveOf, isReleaseOf, isRelease, PassedSays}
-use Rattle.spec.specs.GroupExamples.{sized, globalLoad, globalStore, globalAdd, numbering}
+use Rattle.spec.specs.GroupExamples.{globalLoad, globalStore, globalAdd, numbering}
 use Rattle.spec.proofs.MachineRuns.{isRun}
 use Rattle.spec.proofs.Computing.{computing}
 
@@ -75,7 +75,7 @@ sharing =
     ∷ []
 
 unfoldable pub share : List (List Move) → Moved
-share mss = moved sharing (sized 2 2 2 2) (5 ∷ 6 ∷ 7 ∷ 8 ∷ 4 ∷ 0 ∷ []) mss
+share mss = moved sharing (sizes 2 2 2 2) (5 ∷ 6 ∷ 7 ∷ 8 ∷ 4 ∷ 0 ∷ []) mss
 
 -- Group 1 to its end before group 0 moves at all, thread 1 first; all four by turns; and group 1 to its end while group 0's threads stand at rows 3 and 1.
 unfoldable pub byTurns : ℕ → List Move
@@ -104,7 +104,7 @@ unfolding computing isRun rows release moved nobody sharing share byTurns groupO
 in-any-order = refl
 
 -- A thread's number in its group and its number in the launch, by threads that come to their ends last to first, and by all four by turns.
-pub both-numbers : map (λ mss. fate (moved numbering (sized 2 2 3 4) (replicate 10 9) mss))
+pub both-numbers : map (λ mss. fate (moved numbering (sizes 2 3 2 4) (replicate 10 9) mss))
     ((rows 1 1 4 ∷ rows 1 0 4 ∷ rows 0 1 4 ∷ rows 0 0 4 ∷ []) ∷ (byTurns 4 ∷ []) ∷ [])
     ≡ replicate 2 (true ∷ true ∷ false ∷ [], 0 ∷ 1 ∷ 9 ∷ 2 ∷ 3 ∷ 9 ∷ 0 ∷ 1 ∷ 0 ∷ 1 ∷ [])
 unfolding computing isRun rows release moved fate byTurns
@@ -154,14 +154,14 @@ bothStore = rowOf 16 1 0 0 ∷ globalStore 0 1 ∷ []
 unfoldable pub eitherOrder : ℕ → List (List (List Move))
 eitherOrder k = (rows 0 0 k ∷ rows 1 0 k ∷ []) ∷ (rows 1 0 k ∷ rows 0 0 k ∷ []) ∷ []
 
-pub stores-of-two-groups : map (λ v. map (λ mss. fate (moved bothStore (sized 2 1 1 1) (5 ∷ v ∷ 9 ∷ []) mss)) (eitherOrder 2)) (5 ∷ 6 ∷ []) ≡
+pub stores-of-two-groups : map (λ v. map (λ mss. fate (moved bothStore (sizes 1 1 2 1) (5 ∷ v ∷ 9 ∷ []) mss)) (eitherOrder 2)) (5 ∷ 6 ∷ []) ≡
     (let badly = true ∷ false ∷ true ∷ [] in
     ((badly, 5 ∷ 5 ∷ 5 ∷ []) ∷ (badly, 5 ∷ 5 ∷ 5 ∷ []) ∷ []) ∷ ((badly, 5 ∷ 6 ∷ 5 ∷ []) ∷ (badly, 5 ∷ 6 ∷ 6 ∷ []) ∷ []) ∷ [])
 unfolding computing isRun rows release moved fate bothStore eitherOrder
 stores-of-two-groups = refl
 
 -- No thread of either group may move then.
-pub nobody-after-that : map (λ mss. moved bothStore (sized 2 1 1 1) (5 ∷ 6 ∷ 9 ∷ []) mss .may) (eitherOrder 2) ≡ nobody ∷ nobody ∷ []
+pub nobody-after-that : map (λ mss. moved bothStore (sizes 1 1 2 1) (5 ∷ 6 ∷ 9 ∷ []) mss .may) (eitherOrder 2) ≡ nobody ∷ nobody ∷ []
 unfolding computing isRun rows release moved nobody bothStore eitherOrder
 nobody-after-that = refl
 
@@ -170,7 +170,7 @@ unfoldable pub twoAccesses : (one other : Row) → Table
 twoAccesses one other = rowOf 16 1 0 0 ∷ rowOf 32 0 1 0 ∷ one ∷ rowOf 33 0 0 0 ∷ other ∷ rowOf 34 0 0 0 ∷ []
 
 -- A store of 1 and a load: group 0 alone, group 1 alone, and both in either order.
-pub load-and-store : map (λ mss. fate (moved (twoAccesses (globalStore 0 1) (globalLoad 2 0)) (sized 2 1 1 1) (0 ∷ 1 ∷ 9 ∷ []) mss))
+pub load-and-store : map (λ mss. fate (moved (twoAccesses (globalStore 0 1) (globalLoad 2 0)) (sizes 1 1 2 1) (0 ∷ 1 ∷ 9 ∷ []) mss))
     ((rows 0 0 3 ∷ []) ∷ (rows 1 0 3 ∷ []) ∷ eitherOrder 3)
     ≡ (let well = true ∷ false ∷ false ∷ [] in
     let badly = true ∷ false ∷ true ∷ [] in
@@ -183,7 +183,7 @@ unfoldable pub globalAccesses : List Row
 globalAccesses = globalLoad 2 0 ∷ globalStore 0 1 ∷ globalAdd 0 1 ∷ []
 
 pub every-two-kinds : map
-    (λ mss. map (λ x. map (λ y. moved (twoAccesses x y) (sized 2 1 1 1) (0 ∷ 1 ∷ 9 ∷ []) mss .bad) globalAccesses) globalAccesses)
+    (λ mss. map (λ x. map (λ y. moved (twoAccesses x y) (sizes 1 1 2 1) (0 ∷ 1 ∷ 9 ∷ []) mss .bad) globalAccesses) globalAccesses)
     (eitherOrder 3)
     ≡ replicate 2 ((false ∷ true ∷ true ∷ []) ∷ (true ∷ true ∷ true ∷ []) ∷ (true ∷ true ∷ false ∷ []) ∷ [])
 unfolding computing isRun rows release moved eitherOrder twoAccesses globalAccesses
@@ -198,7 +198,7 @@ loading g = rows g 0 2 ++ rows g 1 2
 
 -- Group 0 alone may do so, as its own loads are forgotten: up to the store, and to its end. Not so where group 1 has loaded meanwhile, nor may group 1
 -- load behind that, nor, where both have loaded and been released, may thread 1 of group 0 or of group 1 store.
-pub released-accesses : map (λ mss. fate (moved handing (sized 2 2 1 1) (7 ∷ 8 ∷ 9 ∷ []) mss))
+pub released-accesses : map (λ mss. fate (moved handing (sizes 2 1 2 1) (7 ∷ 8 ∷ 9 ∷ []) mss))
     ((loading 0 ∷ release 0 ∷ rows 0 1 2 ∷ [])
     ∷ (loading 0 ∷ release 0 ∷ rows 0 1 3 ∷ rows 0 0 2 ∷ [])
     ∷ (loading 1 ∷ loading 0 ∷ release 0 ∷ rows 0 1 2 ∷ [])
@@ -219,20 +219,20 @@ unfolding computing isRun rows release moved fate handing loading
 released-accesses = refl
 
 -- With one group only the same table comes to its end; without the BARRIER thread 1's store is a race within the group.
-pub one-group-released : fate (moved handing (sized 1 2 1 1) (7 ∷ 9 ∷ []) (loading 0 ∷ release 0 ∷ rows 0 1 3 ∷ rows 0 0 2 ∷ [])) ≡
+pub one-group-released : fate (moved handing (sizes 2 1 1 1) (7 ∷ 9 ∷ []) (loading 0 ∷ release 0 ∷ rows 0 1 3 ∷ rows 0 0 2 ∷ [])) ≡
     (true ∷ true ∷ false ∷ [], 7 ∷ 1 ∷ [])
 unfolding computing isRun rows release moved fate handing loading
 one-group-released = refl
 
 pub within-a-group : map
-    (λ mss. moved (rowOf 2 0 0 0 ∷ globalLoad 2 5 ∷ rowOf 32 0 0 0 ∷ globalStore 5 0 ∷ rowOf 34 0 0 0 ∷ []) (sized 2 2 1 1) (7 ∷ 8 ∷ 9 ∷ []) mss .bad)
+    (λ mss. moved (rowOf 2 0 0 0 ∷ globalLoad 2 5 ∷ rowOf 32 0 0 0 ∷ globalStore 5 0 ∷ rowOf 34 0 0 0 ∷ []) (sizes 2 1 2 1) (7 ∷ 8 ∷ 9 ∷ []) mss .bad)
     ((rows 0 1 4 ∷ []) ∷ (rows 0 0 2 ∷ rows 0 1 3 ∷ []) ∷ (rows 0 0 2 ∷ rows 0 1 4 ∷ []) ∷ (rows 0 1 4 ∷ rows 0 0 2 ∷ []) ∷ (rows 0 1 4 ∷ rows 1 0 2 ∷ []) ∷ [])
     ≡ false ∷ false ∷ true ∷ true ∷ true ∷ []
 unfolding computing isRun rows release moved
 within-a-group = refl
 
 -- Equal stores to a global cell by two threads of one group are no race, by threads of two groups they are.
-pub equal-global-stores : map (λ mss. moved (rowOf 1 1 5 0 ∷ globalStore 0 1 ∷ []) (sized 2 2 1 1) (7 ∷ 8 ∷ 9 ∷ []) mss .bad)
+pub equal-global-stores : map (λ mss. moved (rowOf 1 1 5 0 ∷ globalStore 0 1 ∷ []) (sizes 2 1 2 1) (7 ∷ 8 ∷ 9 ∷ []) mss .bad)
     ((rows 0 0 2 ∷ rows 0 1 2 ∷ []) ∷ (rows 1 1 2 ∷ rows 1 0 2 ∷ []) ∷ (rows 0 0 2 ∷ rows 1 0 2 ∷ []) ∷ (rows 0 0 2 ∷ rows 1 1 2 ∷ []) ∷ [])
     ≡ false ∷ false ∷ true ∷ true ∷ []
 unfolding computing isRun rows release moved
@@ -240,7 +240,7 @@ equal-global-stores = refl
 
 -- Own cells with one number are different cells: both groups store their own, add to it and load it, by turns.
 pub own-cells-apart :
-    fate (moved (rowOf 1 1 3 0 ∷ rowOf 17 0 1 0 ∷ rowOf 18 0 1 0 ∷ rowOf 16 2 0 0 ∷ []) (sized 2 1 1 1) (7 ∷ 8 ∷ 9 ∷ [])
+    fate (moved (rowOf 1 1 3 0 ∷ rowOf 17 0 1 0 ∷ rowOf 18 0 1 0 ∷ rowOf 16 2 0 0 ∷ []) (sizes 1 1 2 1) (7 ∷ 8 ∷ 9 ∷ [])
     (rows 0 0 2 ∷ rows 1 0 2 ∷ rows 0 0 1 ∷ rows 1 0 2 ∷ rows 0 0 1 ∷ []))
     ≡ (true ∷ true ∷ false ∷ [], 6 ∷ 6 ∷ 9 ∷ [])
 unfolding computing isRun rows release moved fate
@@ -248,7 +248,7 @@ own-cells-apart = refl
 
 -- Two own cells and three global ones, two groups: own cell 1 and global cell 2 are there, own cell 2 and global cell 3 are outside.
 pub edges-of-cells : map
-    (λ x. map (λ v. moved (rowOf 1 1 v 0 ∷ x ∷ []) (sized 2 1 2 3) (replicate 7 9) (rows 1 0 2 ∷ []) .bad) (1 ∷ 2 ∷ 3 ∷ []))
+    (λ x. map (λ v. moved (rowOf 1 1 v 0 ∷ x ∷ []) (sizes 1 2 2 3) (replicate 7 9) (rows 1 0 2 ∷ []) .bad) (1 ∷ 2 ∷ 3 ∷ []))
     (rowOf 16 2 1 0 ∷ rowOf 17 1 1 0 ∷ globalLoad 2 1 ∷ globalStore 1 1 ∷ globalAdd 1 1 ∷ [])
     ≡ (false ∷ true ∷ true ∷ []) ∷ (false ∷ true ∷ true ∷ []) ∷ replicate 3 (false ∷ false ∷ true ∷ [])
 unfolding computing isRun rows release moved
@@ -256,7 +256,7 @@ edges-of-cells = refl
 
 -- Which of all cells they are.
 pub places-of-cells : map
-    (λ x. map (λ g. moved (rowOf 1 1 1 0 ∷ rowOf 1 2 5 0 ∷ x ∷ []) (sized 2 1 2 3) (replicate 7 9) (rows g 0 3 ∷ []) .cells) (0 ∷ 1 ∷ []))
+    (λ x. map (λ g. moved (rowOf 1 1 1 0 ∷ rowOf 1 2 5 0 ∷ x ∷ []) (sizes 1 2 2 3) (replicate 7 9) (rows g 0 3 ∷ []) .cells) (0 ∷ 1 ∷ []))
     (rowOf 17 1 2 0 ∷ globalStore 1 2 ∷ [])
     ≡ ((9 ∷ 5 ∷ 9 ∷ 9 ∷ 9 ∷ 9 ∷ 9 ∷ []) ∷ (9 ∷ 9 ∷ 9 ∷ 5 ∷ 9 ∷ 9 ∷ 9 ∷ []) ∷ []) ∷ replicate 2 (9 ∷ 9 ∷ 9 ∷ 9 ∷ 9 ∷ 5 ∷ 9 ∷ []) ∷ []
 unfolding computing isRun rows release moved
@@ -264,7 +264,7 @@ places-of-cells = refl
 
 -- TID and COUNT are the group's: thread 1 of group 1, of two groups of three threads.
 pub numbers-in-group : map (λ p. map (λ th. getD (th .regs) 0 9 ∷ getD (th .regs) 1 9 ∷ []) (p .threads))
-    (leaves (rowOf 2 0 0 0 ∷ rowOf 3 1 0 0 ∷ []) (sized 2 3 1 0) (7 ∷ 8 ∷ []) (rows 1 1 2) .parts)
+    (leaves (rowOf 2 0 0 0 ∷ rowOf 3 1 0 0 ∷ []) (sizes 3 1 2 0) (7 ∷ 8 ∷ []) (rows 1 1 2) .parts)
     ≡ replicate 3 (0 ∷ 0 ∷ []) ∷ ((0 ∷ 0 ∷ []) ∷ (1 ∷ 3 ∷ []) ∷ (0 ∷ 0 ∷ []) ∷ []) ∷ []
 unfolding computing rows
 numbers-in-group = refl
@@ -272,7 +272,7 @@ numbers-in-group = refl
 -- What is recorded of the threads of both groups, by where the cell stands: since the group's last release, and since the launch. Group 1's release
 -- empties its own first record and no other; group 0's store behind its release joins both records.
 unfoldable pub noted : (Part → own.AccessRecord) → List (List Move) → List (List (List ℕ))
-noted part mss = map (λ p. map (λ t. map (λ a. a .cell) (part p t)) (0 ∷ 1 ∷ [])) (leaves handing (sized 2 2 1 1) (7 ∷ 8 ∷ 9 ∷ []) (joined mss) .parts)
+noted part mss = map (λ p. map (λ t. map (λ a. a .cell) (part p t)) (0 ∷ 1 ∷ [])) (leaves handing (sizes 2 1 2 1) (7 ∷ 8 ∷ 9 ∷ []) (joined mss) .parts)
 
 pub records-of-groups : map (λ mss. noted (λ p. p .made) mss ++ noted (λ p. p .ever) mss)
     ((loading 0 ∷ rows 1 1 2 ∷ []) ∷ (loading 0 ∷ loading 1 ∷ release 1 ∷ []) ∷ (loading 0 ∷ release 0 ∷ rows 0 1 2 ∷ []) ∷ [])
@@ -294,8 +294,8 @@ someParts =
     ∷ []
 
 pub barred : map
-    (λ g. map (λ k. barredTo (sized 2 2 1 1) someParts g (record { cell = 2; kind = k })) (load ∷ store 5 ∷ atomicAdd 5 ∷ [])
-    ++ map (λ k. barredTo (sized 2 2 1 1) someParts g (record { cell = 1; kind = k })) (load ∷ store 5 ∷ atomicAdd 5 ∷ []))
+    (λ g. map (λ k. barredTo (sizes 2 1 2 1) someParts g (record { cell = 2; kind = k })) (load ∷ store 5 ∷ atomicAdd 5 ∷ [])
+    ++ map (λ k. barredTo (sizes 2 1 2 1) someParts g (record { cell = 1; kind = k })) (load ∷ store 5 ∷ atomicAdd 5 ∷ []))
     (0 ∷ 1 ∷ [])
     ≡ (false ∷ true ∷ true ∷ false ∷ false ∷ false ∷ []) ∷ replicate 6 false ∷ []
 unfolding computing someParts

@@ -3,20 +3,23 @@
 use mathlib.Core.Path.{_≡_, refl}
 use mathlib.Core.List.{List, [], _∷_, _++_, map}
 use mathlib.Core.Bool.{true, false}
-use Prim.Native.Nat.{ℕ}
-use lib.ListN.{replicate}
+use Prim.Native.Nat.{ℕ, _*_}
+use lib.ListN.{length, replicate}
+use Rattle.spec.specs.Limits.{logPerCell, groupsPerCell, launchLogPerCell}
 use Rattle.spec.specs.Answers.{Verdict, GroupRace, ReadWrite, WriteRead, WriteWrite, ReadAdd, AddRead, WriteAdd, AddWrite}
 use Rattle.spec.specs.Access.{load, store, atomicAdd, reads, writes, adds}
+use Rattle.spec.specs.Lists.{joined}
 use Rattle.spec.specs.Table.{Table, Row, rowOf}
-use Rattle.spec.specs.Shape.{shapeOf, launchNumber}
+use Rattle.spec.specs.Shape.{sizes, allOwn, allCells, allThreads, shapeOf, launchNumber}
 use Rattle.spec.specs.Mask.{maskWord}
-use Rattle.spec.specs.Log.{logKinds, shownKind}
-use Rattle.spec.specs.GroupLog.{GroupLog, groupMasksOf, emptyGroupLog, groupLogged, conflictingGroups, groupConflictMask, groupRaceKind}
+use Rattle.spec.specs.Log.{logKinds, logWords, emptyLog, shownKind}
+use Rattle.spec.specs.GroupLog.{GroupLog, groupMasksOf, emptyGroupLog, groupLogged, conflictingGroups, groupConflictMask, groupRaceKind, groupKinds, groupWords}
 use Rattle.spec.specs.LockStep.{LockState}
-use Rattle.spec.specs.LaunchRun.{rowsLeft, nextStart, groupRuns, lastRun, lockstep, stepsByLaunch, ownCells, countedBarriers}
+use Rattle.spec.specs.LaunchRun.{rowsLeft, nextStart, groupRuns, lockstep, lastGroup, stepsByLaunch, ownCells, countedBarriers}
+use Rattle.spec.specs.Launch.{ownPart, globalPart, allLogWords}
 use Rattle.spec.specs.Intervals.{intervalRecords, recordWords}
 use Rattle.spec.specs.AllRuns.{countedInAll}
-use Rattle.spec.specs.GroupExamples.{Ending, GroupLaunch, sized, globalLoad, globalStore, globalAdd, growing, groupExamples}
+use Rattle.spec.specs.GroupExamples.{Ending, GroupLaunch, globalLoad, globalStore, globalAdd, growing, groupExamples}
 use Rattle.spec.proofs.LogTable.{ofThree, everyMarked, someKinds}
 use Rattle.spec.proofs.IntervalTable.{interval, repeated}
 use Rattle.spec.proofs.OpTable.{bytesFrom}
@@ -33,7 +36,7 @@ ending x =
     let s = o .state in
     record {
       verdict = o .verdict;
-      group = lastRun T Z (x .cells) (x .limit) .shape .group;
+      group = lastGroup T Z (x .cells) (x .limit);
       row = s .row;
       rows = s .rows;
       barriers = s .barriers;
@@ -49,7 +52,7 @@ unfolding computing maskWords ending
 worked-groups = refl
 
 -- Three groups of four threads: the launch numbers of threads 0, 1 and 3 of each.
-pub launch-numbers : map (λ g. map (launchNumber (shapeOf (sized 3 4 5 7) g)) (0 ∷ 1 ∷ 3 ∷ [])) (0 ∷ 1 ∷ 2 ∷ []) ≡
+pub launch-numbers : map (λ g. map (launchNumber (shapeOf (sizes 4 5 3 7) g)) (0 ∷ 1 ∷ 3 ∷ [])) (0 ∷ 1 ∷ 2 ∷ []) ≡
     (0 ∷ 1 ∷ 3 ∷ []) ∷ (4 ∷ 5 ∷ 7 ∷ []) ∷ (8 ∷ 9 ∷ 11 ∷ []) ∷ []
 unfolding computing
 launch-numbers = refl
@@ -59,7 +62,7 @@ unfoldable pub behindGroup0 : (earlier : Table) → (later : Row) → Table
 behindGroup0 earlier later = rowOf 16 1 0 0 ∷ rowOf 32 0 1 0 ∷ later ∷ rowOf 33 0 0 0 ∷ (earlier ++ (rowOf 34 0 0 0 ∷ []))
 
 unfoldable pub comesTo : Table → Row → Verdict
-comesTo earlier later = lockstep (behindGroup0 earlier later) (sized 2 1 1 1) (0 ∷ 1 ∷ 9 ∷ []) 100 .verdict
+comesTo earlier later = lockstep (behindGroup0 earlier later) (sizes 1 1 2 1) (0 ∷ 1 ∷ 9 ∷ []) 100 .verdict
 
 -- The letter is that of group 0, w before a before r, of the kinds that conflict: a store meets load and add, load and store, add and store, and each alone;
 -- a load meets load and add, add and store; an add meets load and add, add and store, load and store.
@@ -117,6 +120,12 @@ pub group-masks : maskWords everyGroup ≡ (0 ∷ 170 ∷ []) ∷ (0 ∷ 204 ∷
 unfolding computing everyMarked everyGroup maskWords
 group-masks = refl
 
+-- Their words: all readers, all writers, all adders.
+pub group-words : groupKinds everyGroup ++ (groupWords everyGroup ∷ []) ≡
+    (0 ∷ 170 ∷ []) ∷ (0 ∷ 204 ∷ []) ∷ (0 ∷ 240 ∷ []) ∷ (0 ∷ 170 ∷ 0 ∷ 204 ∷ 0 ∷ 240 ∷ []) ∷ []
+unfolding computing everyMarked everyGroup
+group-words = refl
+
 -- By mode: whom a load, a store of the value stored and of another, and an add conflict with. Stores of one value conflict between groups.
 pub groups-by-mode : map (λ m. map (λ k. maskWord (conflictingGroups everyGroup 1 m k)) someKinds) (reads ∷ writes ∷ adds ∷ []) ≡
     (0 ∷ 170 ∷ 170 ∷ 170 ∷ []) ∷ (204 ∷ 204 ∷ 204 ∷ 204 ∷ []) ∷ (240 ∷ 240 ∷ 240 ∷ 0 ∷ []) ∷ []
@@ -165,20 +174,32 @@ behindGroup =
       barriers = 15;
     }
 
-pub a-group-starts : let s = nextStart (shapeOf (sized 2 3 1 1) 1) behindGroup in
+pub a-group-starts : let s = nextStart (shapeOf (sizes 3 1 2 1) 1) behindGroup in
     (s .row ∷ s .rows ∷ s .barriers ∷ maskWord (s .enabled) ∷ []) ∷ map (λ f. f .opener) (s .saved) ∷ s .steps ∷ s .cells ∷ s .regs ≡
     (0 ∷ 11 ∷ 15 ∷ 7 ∷ []) ∷ [] ∷ (0 ∷ 0 ∷ 0 ∷ []) ∷ (5 ∷ 6 ∷ 7 ∷ []) ∷ replicate 3 (replicate 16 0)
 unfolding computing behindGroup
 a-group-starts = refl
 
-pub log-at-its-start : let s = nextStart (shapeOf (sized 2 3 1 1) 1) behindGroup in logKinds (s .log) ++ maskWords (s .groupLog) ≡
+pub log-at-its-start : let s = nextStart (shapeOf (sizes 3 1 2 1) 1) behindGroup in logKinds (s .log) ++ maskWords (s .groupLog) ≡
     replicate 3 (5 ∷ 5 ∷ 0 ∷ []) ++ ((1 ∷ 2 ∷ 0 ∷ []) ∷ (1 ∷ 1 ∷ 0 ∷ []) ∷ replicate 3 1 ∷ replicate 3 2 ∷ replicate 3 3 ∷ [])
 unfolding computing behindGroup maskWords
 log-at-its-start = refl
 
+-- All words of that log, eight for each cell: the group masks behind the marks.
+pub all-words : allLogWords behindGroup ≡
+    joined (replicate 3 (replicate 3 5)) ++ (1 ∷ 2 ∷ 3 ∷ 1 ∷ 1 ∷ 1 ∷ 1 ∷ 1 ∷ 1 ∷ 2 ∷ 2 ∷ 2 ∷ 3 ∷ 3 ∷ 3 ∷ [])
+unfolding computing behindGroup
+all-words = refl
+
+-- Five words a cell that the threads enter, three of group masks, eight in all.
+pub words-a-cell : length (logWords (emptyLog 2 7)) ∷ length (groupWords (emptyGroupLog 3 7)) ∷ length (allLogWords behindGroup) ∷ [] ≡
+    logPerCell * 7 ∷ groupsPerCell * 7 ∷ launchLogPerCell * 3 ∷ []
+unfolding computing behindGroup
+words-a-cell = refl
+
 -- The groups that start under limits 0 to 7, three groups of `growing`: the rows that are run before each, and those left to it.
 pub starting-groups : map
-    (λ k. map (λ u. u .shape .group ∷ u .start .rows ∷ rowsLeft k u ∷ []) (groupRuns growing (sized 3 1 1 1) (7 ∷ 8 ∷ 9 ∷ 0 ∷ []) k))
+    (λ k. map (λ u. u .shape .group ∷ u .start .rows ∷ rowsLeft k u ∷ []) (groupRuns growing (sizes 1 1 3 1) (7 ∷ 8 ∷ 9 ∷ 0 ∷ []) k))
     (bytesFrom 0 8)
     ≡ ((0 ∷ 0 ∷ 0 ∷ []) ∷ [])
     ∷ ((0 ∷ 0 ∷ 1 ∷ []) ∷ [])
@@ -193,16 +214,16 @@ unfolding computing bytesFrom
 starting-groups = refl
 
 -- The last of them, the steps by launch number and the records, under limits 1, 3 and 4.
-pub last-group : map (λ k. lastRun growing (sized 3 1 1 1) (7 ∷ 8 ∷ 9 ∷ 0 ∷ []) k .shape .group) (1 ∷ 3 ∷ 4 ∷ []) ≡ 0 ∷ 1 ∷ 2 ∷ []
+pub last-group : map (lastGroup growing (sizes 1 1 3 1) (7 ∷ 8 ∷ 9 ∷ 0 ∷ [])) (1 ∷ 3 ∷ 4 ∷ []) ≡ 0 ∷ 1 ∷ 2 ∷ []
 unfolding computing
 last-group = refl
 
-pub steps-so-far : map (stepsByLaunch growing (sized 3 2 1 1) (7 ∷ 8 ∷ 9 ∷ 0 ∷ [])) (1 ∷ 3 ∷ 4 ∷ []) ≡
+pub steps-so-far : map (stepsByLaunch growing (sizes 2 1 3 1) (7 ∷ 8 ∷ 9 ∷ 0 ∷ [])) (1 ∷ 3 ∷ 4 ∷ []) ≡
     (1 ∷ 1 ∷ 0 ∷ 0 ∷ 0 ∷ 0 ∷ []) ∷ (2 ∷ 2 ∷ 1 ∷ 1 ∷ 0 ∷ 0 ∷ []) ∷ (2 ∷ 2 ∷ 2 ∷ 2 ∷ 0 ∷ 0 ∷ []) ∷ []
 unfolding computing
 steps-so-far = refl
 
-pub records-so-far : map (λ k. recordWords (intervalRecords growing (sized 3 1 1 1) (7 ∷ 8 ∷ 9 ∷ 0 ∷ []) k)) (1 ∷ 3 ∷ 4 ∷ []) ≡
+pub records-so-far : map (λ k. recordWords (intervalRecords growing (sizes 1 1 3 1) (7 ∷ 8 ∷ 9 ∷ 0 ∷ []) k)) (1 ∷ 3 ∷ 4 ∷ []) ≡
     (0 ∷ 1 ∷ 0 ∷ []) ∷ (0 ∷ 2 ∷ 0 ∷ 0 ∷ 1 ∷ 0 ∷ []) ∷ (0 ∷ 2 ∷ 0 ∷ 0 ∷ 2 ∷ 0 ∷ 0 ∷ 0 ∷ 0 ∷ []) ∷ []
 unfolding computing
 records-so-far = refl
@@ -213,13 +234,19 @@ pub own-cells : map (λ g. ownCells (ofThree g) (bytesFrom 20 14)) (0 ∷ 1 ∷ 
 unfolding computing bytesFrom ofThree
 own-cells = refl
 
+-- Those of all groups, and the global ones; three groups of five threads with four cells each and two global ones.
+pub both-parts : let Z = sizes 5 4 3 2 in ownPart Z (bytesFrom 20 14) ∷ globalPart Z (bytesFrom 20 14) ∷ (allOwn Z ∷ allCells Z ∷ allThreads Z ∷ []) ∷ [] ≡
+    bytesFrom 20 12 ∷ (32 ∷ 33 ∷ []) ∷ (12 ∷ 14 ∷ 15 ∷ []) ∷ []
+unfolding computing bytesFrom
+both-parts = refl
+
 -- SET R1 = 3, ADD it to own cell 0 and to the global cell, BARRIER, twice. Each group shows its own cell only, at its own barriers: under limits up to both
 -- groups' end, within group 1, at its start, and within group 0. The barriers in all.
 unfoldable pub depositing : Table
 depositing = rowOf 1 1 3 0 ∷ rowOf 18 0 1 0 ∷ globalAdd 0 1 ∷ rowOf 37 0 0 0 ∷ rowOf 18 0 1 0 ∷ rowOf 37 0 0 0 ∷ []
 
 unfoldable pub shownUnder : ℕ → List (List (List ℕ))
-shownUnder k = countedBarriers depositing (sized 2 2 1 1) (10 ∷ 20 ∷ 30 ∷ []) k
+shownUnder k = countedBarriers depositing (sizes 2 1 2 1) (10 ∷ 20 ∷ 30 ∷ []) k
 
 pub shown-at-barriers : map shownUnder (100 ∷ 12 ∷ 11 ∷ 10 ∷ 6 ∷ 5 ∷ 0 ∷ []) ≡
     (((16 ∷ []) ∷ (22 ∷ []) ∷ []) ∷ ((26 ∷ []) ∷ (32 ∷ []) ∷ []) ∷ [])
@@ -244,7 +271,7 @@ turning =
     rowOf 1 3 32 0 ∷ rowOf 1 4 1 0 ∷ rowOf 35 0 3 0 ∷ (replicate 16 (rowOf 37 0 0 0) ++ (rowOf 5 3 3 4 ∷ rowOf 36 0 0 0 ∷ []))
 
 pub cap-for-starts :
-    recordWords (intervalRecords turning (sized 3 1 1 0) (7 ∷ 8 ∷ 9 ∷ []) 10000)
+    recordWords (intervalRecords turning (sizes 1 1 3 0) (7 ∷ 8 ∷ 9 ∷ []) 10000)
     ≡ (let round = recordWords (map (λ r. interval r 1 0) (bytesFrom 4 15)) in
     let most = (0 ∷ 4 ∷ 0 ∷ round) ++ repeated 30 (19 ∷ 4 ∷ 0 ∷ round) in
     most ++ ((19 ∷ 4 ∷ 0 ∷ round) ++ (19 ∷ 3 ∷ 0 ∷ most) ++ (19 ∷ 4 ∷ 0 ∷ recordWords (map (λ r. interval r 1 0) (bytesFrom 4 14))) ++ (18 ∷ 615 ∷ 0 ∷ [])))

@@ -10,7 +10,7 @@ use Rattle.spec.specs.declared.Subject.the-variants as subject
 use Rattle.spec.specs.Op.{GLOBAL, MEM, LOAD, STORE, ATOMICADD, opOf}
 use Rattle.spec.specs.Table.{Table, rowOf}
 use Rattle.spec.specs.Mask.{Mask}
-use Rattle.spec.specs.Shape.{oneGroup}
+use Rattle.spec.specs.Shape.{sizes, oneGroup}
 use Rattle.spec.specs.Log.{emptyLog}
 use Rattle.spec.specs.GroupLog.{emptyGroupLog}
 use Rattle.spec.specs.LockStep.{LockState}
@@ -209,7 +209,9 @@ unfoldable pub twoApart : List ℕ
 twoApart = 2 ∷ 0 ∷ 0 ∷ 0 ∷ 1 ∷ 1 ∷ 16 ∷ 0 ∷ 6 ∷ 2 ∷ 0 ∷ 1 ∷ []
 
 unfoldable pub launched : (table : List ℕ) → (limit : ℕ) → (log records : List ℕ) → Answer × List ℕ
-launched table limit log records = (bareAnswer table 2 17 limit (replicate 17 7) log records, bareRecords table 2 17 limit (replicate 17 7) log records)
+launched table limit log records =
+    let Z = sizes 2 17 1 0 in
+    (bareAnswer table Z limit (replicate 17 7) [] log records, bareRecords table Z limit (replicate 17 7) [] log records)
 
 -- LOAD, BARRIER, ATOMIC ADD; and then the end, a STORE by both into cell 7, a LOAD of cell 49, a BARRIER for thread 1 alone, or the limit. The first
 -- interval costs 1, the second too, and the lent words behind their records are kept.
@@ -217,26 +219,26 @@ unfoldable pub twoIntervals : List ℕ → List ℕ
 twoIntervals rest = twoApart ++ (16 ∷ 3 ∷ 2 ∷ 0 ∷ 37 ∷ 0 ∷ 0 ∷ 0 ∷ 18 ∷ 2 ∷ 1 ∷ 0 ∷ rest)
 
 pub each-verdict :
-    launched (twoIntervals []) 100 (replicate 85 9) (replicate 3075 9)
-    ∷ launched (twoIntervals (17 ∷ 3 ∷ 0 ∷ 0 ∷ [])) 100 (replicate 85 9) (replicate 3076 9)
-    ∷ launched (twoIntervals (6 ∷ 3 ∷ 3 ∷ 3 ∷ 16 ∷ 4 ∷ 3 ∷ 0 ∷ [])) 100 (replicate 85 9) (replicate 3077 9)
-    ∷ launched (twoIntervals (32 ∷ 0 ∷ 0 ∷ 0 ∷ 37 ∷ 0 ∷ 0 ∷ 0 ∷ 34 ∷ 0 ∷ 0 ∷ 0 ∷ [])) 100 (replicate 85 9) (replicate 3078 9)
-    ∷ launched (twoIntervals (37 ∷ 0 ∷ 0 ∷ 0 ∷ [])) 6 (replicate 85 9) (replicate 3079 9)
+    launched (twoIntervals []) 100 (replicate 136 9) (replicate 3075 9)
+    ∷ launched (twoIntervals (17 ∷ 3 ∷ 0 ∷ 0 ∷ [])) 100 (replicate 136 9) (replicate 3076 9)
+    ∷ launched (twoIntervals (6 ∷ 3 ∷ 3 ∷ 3 ∷ 16 ∷ 4 ∷ 3 ∷ 0 ∷ [])) 100 (replicate 136 9) (replicate 3077 9)
+    ∷ launched (twoIntervals (32 ∷ 0 ∷ 0 ∷ 0 ∷ 37 ∷ 0 ∷ 0 ∷ 0 ∷ 34 ∷ 0 ∷ 0 ∷ 0 ∷ [])) 100 (replicate 136 9) (replicate 3078 9)
+    ∷ launched (twoIntervals (37 ∷ 0 ∷ 0 ∷ 0 ∷ [])) 6 (replicate 136 9) (replicate 3079 9)
     ∷ []
-    ≡ (answer.Ran (record { verdict = Passed; row = 6; rows = 6; barriers = 1; conflicts = 2 }), 0 ∷ 5 ∷ 1 ∷ 5 ∷ 1 ∷ 1 ∷ replicate 3069 9)
-    ∷ (answer.Ran (record { verdict = Race 1 0 WriteWrite 7; row = 6; rows = 6; barriers = 1; conflicts = 2 }), 0 ∷ 5 ∷ 1 ∷ 5 ∷ 1 ∷ 1 ∷ replicate 3070 9)
-    ∷ (answer.Ran (record { verdict = Outside 0 49; row = 7; rows = 7; barriers = 1; conflicts = 2 }), 0 ∷ 5 ∷ 1 ∷ 5 ∷ 2 ∷ 1 ∷ replicate 3071 9)
-    ∷ (answer.Ran (record { verdict = Diverged 1 0; row = 7; rows = 7; barriers = 1; conflicts = 2 }), 0 ∷ 5 ∷ 1 ∷ 5 ∷ 2 ∷ 1 ∷ replicate 3072 9)
-    ∷ (answer.Ran (record { verdict = Spent; row = 6; rows = 6; barriers = 1; conflicts = 2 }), 0 ∷ 5 ∷ 1 ∷ 5 ∷ 1 ∷ 1 ∷ replicate 3073 9)
+    ≡ (answer.Ran (record { verdict = Passed; row = 6; group = 0; rows = 6; barriers = 1; conflicts = 2 }), 0 ∷ 5 ∷ 1 ∷ 5 ∷ 1 ∷ 1 ∷ replicate 3069 9)
+    ∷ (answer.Ran (record { verdict = Race 1 0 WriteWrite 7; row = 6; group = 0; rows = 6; barriers = 1; conflicts = 2 }), 0 ∷ 5 ∷ 1 ∷ 5 ∷ 1 ∷ 1 ∷ replicate 3070 9)
+    ∷ (answer.Ran (record { verdict = Outside 0 49; row = 7; group = 0; rows = 7; barriers = 1; conflicts = 2 }), 0 ∷ 5 ∷ 1 ∷ 5 ∷ 2 ∷ 1 ∷ replicate 3071 9)
+    ∷ (answer.Ran (record { verdict = Diverged 1 0; row = 7; group = 0; rows = 7; barriers = 1; conflicts = 2 }), 0 ∷ 5 ∷ 1 ∷ 5 ∷ 2 ∷ 1 ∷ replicate 3072 9)
+    ∷ (answer.Ran (record { verdict = Spent; row = 6; group = 0; rows = 6; barriers = 1; conflicts = 2 }), 0 ∷ 5 ∷ 1 ∷ 5 ∷ 1 ∷ 1 ∷ replicate 3073 9)
     ∷ []
 unfolding computing twoApart twoIntervals launched
 each-verdict = refl
 
 -- The same launch refused: the records are kept, be there enough of them or not.
 pub records-kept :
-    launched (twoIntervals []) 100 (replicate 84 9) (replicate 3075 9)
-    ∷ launched (twoIntervals []) 100 (replicate 84 9) (replicate 3074 9)
-    ∷ launched (twoIntervals []) 100 (replicate 85 9) (replicate 3074 9)
+    launched (twoIntervals []) 100 (replicate 135 9) (replicate 3075 9)
+    ∷ launched (twoIntervals []) 100 (replicate 135 9) (replicate 3074 9)
+    ∷ launched (twoIntervals []) 100 (replicate 136 9) (replicate 3074 9)
     ∷ []
     ≡ (answer.Refused LogLength, replicate 3075 9) ∷ (answer.Refused LogLength, replicate 3074 9) ∷ (answer.Refused RecordsLength, replicate 3074 9) ∷ []
 unfolding computing twoApart twoIntervals launched
@@ -260,7 +262,7 @@ longTable =
 unfoldable pub withinRound : List ℕ
 withinRound = recordWords (map (λ r. interval r 1 0) (bytesFrom 7 15))
 
-pub the-last-goes-on : bareRecords longTable 2 17 10000 (replicate 17 7) (replicate 85 9) (replicate 3077 9) ≡
+pub the-last-goes-on : bareRecords longTable (sizes 2 17 1 0) 10000 (replicate 17 7) [] (replicate 136 9) (replicate 3077 9) ≡
     (0 ∷ 7 ∷ 0 ∷ withinRound) ++ (repeated 63 (22 ∷ 4 ∷ 0 ∷ withinRound) ++ (22 ∷ 7 ∷ 2 ∷ 9 ∷ 9 ∷ []))
 unfolding computing bytesFrom interval twoApart repeated longTable withinRound
 the-last-goes-on = refl
@@ -268,14 +270,14 @@ the-last-goes-on = refl
 -- A file: the records that it leaves, and what its report is made of.
 unfoldable pub itsFile : List ℕ
 itsFile =
-    lines "kernel=1/threads=2/cells=17/limit=100/rows=7/row=2,0,0,0/row=1,1,16,0/row=6,2,0,1/row=16,3,2,0/row=37,0,0,0/row=18,2,1,0/row=37,0,0,0"
+    lines "kernel=1/threads=2/cells=17/groups=1/global=0/limit=100/rows=7/row=2,0,0,0/row=1,1,16,0/row=6,2,0,1/row=16,3,2,0/row=37,0,0,0/row=18,2,1,0/row=37,0,0,0"
     ++ lines "cell=7/cell=7/cell=7/cell=7/cell=7/cell=7/cell=7/cell=7/cell=7/cell=7/cell=7/cell=7/cell=7/cell=7/cell=7/cell=7/cell=7/end=kernel"
 
-pub file-intervals : fileRecordsAfter itsFile (replicate 1024 9) (replicate 5120 8) (replicate 3080 6) (replicate 17408 7) ≡
+pub file-intervals : fileRecordsAfter itsFile (replicate 1024 9) (replicate 1024 5) (replicate 8192 8) (replicate 3080 6) (replicate 24576 7) ≡
     0 ∷ 5 ∷ 1 ∷ 5 ∷ 2 ∷ 1 ∷ 7 ∷ 0 ∷ 0 ∷ replicate 3071 6
 unfolding computing itsFile
 file-intervals = refl
 
-pub file-subject : subjectOf (fileLaunch itsFile) ≡ subject.Ran (record { verdict = Passed; row = 7; rows = 7; barriers = 2; conflicts = 2 })
+pub file-subject : subjectOf (fileLaunch itsFile) ≡ subject.Ran (record { verdict = Passed; row = 7; group = 0; rows = 7; barriers = 2; conflicts = 2 })
 unfolding computing itsFile
 file-subject = refl

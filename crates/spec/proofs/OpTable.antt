@@ -12,10 +12,10 @@ unfoldable pub bytesFrom : ℕ → ℕ → List ℕ
 bytesFrom first zero = []
 bytesFrom first (suc n) = first ∷ bytesFrom (suc first) n
 
--- 1 SET; 2 TID, 3 COUNT; 4 to 14; 16 LOAD, 17 STORE, 18 ATOMIC ADD; 32 IF, 33 ELSE, 34 ENDIF, 35 WHILE, 36 ENDWHILE, 37 BARRIER.
+-- 1 SET; 2 TID, 3 COUNT; 4 to 14; 16 LOAD, 17 STORE, 18 ATOMIC ADD; 19 launch number; 20 to 22 the same of global cells; 32 IF, 33 ELSE, 34 ENDIF, 35 WHILE, 36 ENDWHILE, 37 BARRIER.
 pub forms : map formOf (bytesFrom 0 256) ≡
     (unknownForm ∷ setForm ∷ dForm ∷ dForm ∷ replicate 11 dabForm)
-    ++ (unknownForm ∷ daForm ∷ daForm ∷ daForm ∷ replicate 13 unknownForm)
+    ++ (unknownForm ∷ daForm ∷ daForm ∷ daForm ∷ dForm ∷ daForm ∷ daForm ∷ daForm ∷ replicate 9 unknownForm)
     ++ (aForm ∷ noForm ∷ noForm ∷ aForm ∷ noForm ∷ noForm ∷ replicate 218 unknownForm)
 unfolding computing bytesFrom
 forms = refl
@@ -28,12 +28,12 @@ op-table-size = refl
 pub ops : map opOf (bytesFrom 0 257) ≡
     UNKNOWN
     ∷ map CALC (SET ∷ TID ∷ COUNT ∷ ADD ∷ SUB ∷ MUL ∷ AND ∷ OR ∷ XOR ∷ SHR ∷ SAR ∷ EQ ∷ LT ∷ SLT ∷ [])
-    ++ (UNKNOWN ∷ MEM OWN LOAD ∷ MEM OWN STORE ∷ MEM OWN ATOMICADD ∷ replicate 13 UNKNOWN)
+    ++ (UNKNOWN ∷ MEM OWN LOAD ∷ MEM OWN STORE ∷ MEM OWN ATOMICADD ∷ CALC LAUNCHTID ∷ MEM GLOBAL LOAD ∷ MEM GLOBAL STORE ∷ MEM GLOBAL ATOMICADD ∷ replicate 9 UNKNOWN)
     ++ (IF ∷ ELSE ∷ ENDIF ∷ WHILE ∷ ENDWHILE ∷ BARRIER ∷ replicate 219 UNKNOWN)
 unfolding computing bytesFrom
 ops = refl
 
--- No byte is the launch number yet, and it has the form of TID.
+-- The launch number has the form of TID.
 pub form-of-launch-number : form (CALC LAUNCHTID) ≡ dForm
 unfolding computing
 form-of-launch-number = refl

@@ -45,26 +45,28 @@ refusedBy x op =
     toldAs (tableRefusal (rowOf op x 0 0 ∷ [])) .0 ∷ toldAs (tableRefusal (rowOf op 0 x 0 ∷ [])) .0 ∷ toldAs (tableRefusal (rowOf op 0 0 x ∷ [])) .0 ∷ []
 
 unfoldable pub knownOps : List ℕ
-knownOps = bytesFrom 1 14 ++ (16 ∷ 17 ∷ 18 ∷ bytesFrom 32 6)
+knownOps = bytesFrom 1 14 ++ (bytesFrom 16 7 ++ bytesFrom 32 6)
 
--- x = 1: SET; TID, COUNT; ADD to SLT; LOAD, STORE, ATOMIC ADD; IF, ELSE, ENDIF, WHILE, ENDWHILE, BARRIER.
+-- x = 1: SET; TID, COUNT; ADD to SLT; LOAD, STORE, ATOMIC ADD; the launch number; the three of global cells; IF, ELSE, ENDIF, WHILE, ENDWHILE, BARRIER.
 pub by-op-1 : map (refusedBy 1) knownOps ≡
     (0 ∷ 0 ∷ 0 ∷ [])
     ∷ replicate 2 (0 ∷ 4 ∷ 4 ∷ [])
     ++ (replicate 11 (0 ∷ 0 ∷ 0 ∷ [])
     ++ (replicate 3 (0 ∷ 0 ∷ 4 ∷ [])
-    ++ ((4 ∷ 7 ∷ 4 ∷ []) ∷ (4 ∷ 4 ∷ 4 ∷ []) ∷ (4 ∷ 4 ∷ 4 ∷ []) ∷ (4 ∷ 7 ∷ 4 ∷ []) ∷ (4 ∷ 4 ∷ 4 ∷ []) ∷ (4 ∷ 4 ∷ 4 ∷ []) ∷ [])))
+    ++ ((0 ∷ 4 ∷ 4 ∷ [])
+    ∷ replicate 3 (0 ∷ 0 ∷ 4 ∷ [])
+    ++ ((4 ∷ 7 ∷ 4 ∷ []) ∷ (4 ∷ 4 ∷ 4 ∷ []) ∷ (4 ∷ 4 ∷ 4 ∷ []) ∷ (4 ∷ 7 ∷ 4 ∷ []) ∷ (4 ∷ 4 ∷ 4 ∷ []) ∷ (4 ∷ 4 ∷ 4 ∷ []) ∷ []))))
 unfolding computing bytesFrom orZero toldAs refusedBy knownOps
 by-op-1 = refl
 
 -- x = 16 fits nowhere but in SET's a and b.
-pub by-op-16 : map (refusedBy 16) knownOps ≡ (4 ∷ 0 ∷ 0 ∷ []) ∷ replicate 22 (4 ∷ 4 ∷ 4 ∷ [])
+pub by-op-16 : map (refusedBy 16) knownOps ≡ (4 ∷ 0 ∷ 0 ∷ []) ∷ replicate 26 (4 ∷ 4 ∷ 4 ∷ [])
 unfolding computing bytesFrom orZero toldAs refusedBy knownOps
 by-op-16 = refl
 
 -- A table of one row, all of whose bytes but the op's are 0, for each of the 256 op bytes: 3 where the op is unknown, 5 for ELSE and the ends, 7 for IF and WHILE.
 pub by-byte : map (λ op. toldAs (tableRefusal (rowOf op 0 0 0 ∷ [])) .0) (bytesFrom 0 256) ≡
-    3 ∷ replicate 14 0 ++ (3 ∷ 0 ∷ 0 ∷ 0 ∷ replicate 13 3 ++ (7 ∷ 5 ∷ 5 ∷ 7 ∷ 5 ∷ 0 ∷ replicate 218 3))
+    3 ∷ replicate 14 0 ++ (3 ∷ replicate 7 0 ++ (replicate 9 3 ++ (7 ∷ 5 ∷ 5 ∷ 7 ∷ 5 ∷ 0 ∷ replicate 218 3)))
 unfolding computing bytesFrom orZero toldAs
 by-byte = refl
 

@@ -13,10 +13,12 @@ use Rattle.spec.specs.Reading.{linesIn, hasLine, beginsWith, numbersAt, 
 use Rattle.spec.proofs.Computing.{computing}
 
 unfoldable pub passing : List ℕ
-passing = lines "verdict=passed/row=-/thread=-/other=-/kind=-/at=-/rows=8/steps=7/steps=7/barriers=1/conflicts=3/cell=2/cell=40/cell=0/end=report"
+passing =
+    lines "verdict=passed/row=-/group=-/othergroup=-/thread=-/other=-/kind=-/at=-/rows=8/steps=7/steps=7/barriers=1/conflicts=3/cell=2/cell=40/cell=0"
+    ++ lines "gcell=7/gcell=50/end=report"
 
 unfoldable pub racing : List ℕ
-racing = lines "verdict=race/row=6/thread=1/other=0/kind=rw/at=1/rows=6/steps=7/steps=6/barriers=0/conflicts=0/cell=2/end=report"
+racing = lines "verdict=race/row=6/group=0/othergroup=0/thread=1/other=0/kind=rw/at=1/rows=6/steps=7/steps=6/barriers=0/conflicts=0/cell=2/end=report"
 
 -- A line is what a newline ends, an empty one too; what stands behind the last newline is none.
 pub lines-read : linesIn (lines "a=1//b" ++ text "c") ≡ text "a=1" ∷ [] ∷ text "b" ∷ []
@@ -32,14 +34,14 @@ unfolding computing passing racing
 first-lines = refl
 
 -- The last line, of the report whole and without its last byte; a line that only ends so, and one that stands before another.
-pub last-lines : map (hasLine "end=report") (passing ∷ take 129 passing ∷ take 128 passing ∷ lines "nd=report" ∷ lines "end=report/x" ∷ [])
+pub last-lines : map (hasLine "end=report") (passing ∷ take 167 passing ∷ take 166 passing ∷ lines "nd=report" ∷ lines "end=report/x" ∷ [])
     ≡ true ∷ true ∷ false ∷ false ∷ true ∷ []
 unfolding computing passing
 last-lines = refl
 
 -- What has passed: a run with that verdict, no other one and no refusal.
 unfoldable pub ending : Verdict → Subject
-ending v = subject.Ran (record { verdict = v; row = 1; rows = 1; barriers = 1; conflicts = 1 })
+ending v = subject.Ran (record { verdict = v; row = 1; group = 1; rows = 1; barriers = 1; conflicts = 1 })
 
 pub passing-subjects : map hasPassed
     (ending Passed ∷ ending (Race 1 0 WriteWrite 0) ∷ ending (GroupRace 1 0 WriteWrite 0) ∷ ending (Outside 1 1) ∷ ending (Diverged 1 1) ∷ ending Spent
@@ -49,7 +51,7 @@ unfolding computing ending
 passing-subjects = refl
 
 -- What a loader installs: a whole report of a launch that has passed.
-pub installed : map installs (passing ∷ racing ∷ take 128 passing ∷ lines "verdict=passed/cell=1" ∷ lines "end=report" ∷ []) ≡ true ∷ false ∷ false ∷ false ∷ false ∷ []
+pub installed : map installs (passing ∷ racing ∷ take 166 passing ∷ lines "verdict=passed/cell=1" ∷ lines "end=report" ∷ []) ≡ true ∷ false ∷ false ∷ false ∷ false ∷ []
 unfolding computing passing racing
 installed = refl
 
@@ -63,3 +65,14 @@ pub keys-read : numbersAt "cell" passing ++ (numbersAt "rows" passing ++ (number
     ≡ some 2 ∷ some 40 ∷ some 0 ∷ some 8 ∷ none ∷ some 1 ∷ some 3 ∷ []
 unfolding computing passing
 keys-read = refl
+
+-- A key is the whole of what stands before the `=`: own cells are read apart from global ones, groups apart from other groups, `row` apart from `rows`.
+pub whole-keys-read :
+    map (λ k. numbersAt k passing) ("gcell" ∷ "ell" ∷ "group" ∷ "othergroup" ∷ "other" ∷ [])
+    ++ map (λ k. numbersAt k racing) ("gcell" ∷ "cell" ∷ "group" ∷ "othergroup" ∷ "other" ∷ "row" ∷ [])
+    ++ map (λ k. numbersAt k (lines "group=1/gcell=5/othergroup=0/cell=6/gcell=7")) ("gcell" ∷ "cell" ∷ "group" ∷ "othergroup" ∷ [])
+    ≡ ((some 7 ∷ some 50 ∷ []) ∷ [] ∷ (none ∷ []) ∷ (none ∷ []) ∷ (none ∷ []) ∷ [])
+    ++ ([] ∷ (some 2 ∷ []) ∷ (some 0 ∷ []) ∷ (some 0 ∷ []) ∷ (some 0 ∷ []) ∷ (some 6 ∷ []) ∷ [])
+    ++ ((some 5 ∷ some 7 ∷ []) ∷ (some 6 ∷ []) ∷ (some 1 ∷ []) ∷ (some 0 ∷ []) ∷ [])
+unfolding computing passing racing
+whole-keys-read = refl

@@ -12,6 +12,7 @@ pub use Rattle.spec.specs.declared.Refusal.{Refusal}
 pub use Rattle.spec.specs.declared.Refusal.the-variants.{TableLength, TooManyRows, UnknownOp, BadOperand, Misplaced, TooDeep, LeftOpen}
 pub use Rattle.spec.specs.declared.Refusal.the-variants.{ThreadsOutOfRange, CellsOutOfRange, LimitOutOfRange, LineNotDue, FileTooLong}
 pub use Rattle.spec.specs.declared.Refusal.the-variants.{CellsLength, LogLength, ReportTooLong, ReportLines, OutputLength, RecordsLength}
+pub use Rattle.spec.specs.declared.Refusal.the-variants.{GroupsOutOfRange, TooManyCells}
 pub use Rattle.spec.specs.declared.Answer.{Answer}
 pub use Rattle.spec.specs.declared.Written.{Written}
 use Rattle.spec.specs.declared.Answer.the-variants as answer
@@ -40,6 +41,8 @@ refusalNumber (ReportTooLong p) = 22
 refusalNumber ReportLines = 23
 refusalNumber OutputLength = 24
 refusalNumber RecordsLength = 30
+refusalNumber (GroupsOutOfRange p) = 32
+refusalNumber (TooManyCells p) = 33
 
 -- "Turned back": its place. A line counts from 1, a row from 0; 0 stands where there is no place.
 unfoldable pub refusalPlace : Refusal → ℕ
@@ -61,6 +64,8 @@ refusalPlace (ReportTooLong p) = p
 refusalPlace ReportLines = 0
 refusalPlace OutputLength = 0
 refusalPlace RecordsLength = 0
+refusalPlace (GroupsOutOfRange p) = p
+refusalPlace (TooManyCells p) = p
 
 -- A refusal as document 01 names it, by its number and place; and what an answer tells of one.
 unfoldable pub named : Refusal → ℕ × ℕ

@@ -1,44 +1,51 @@
 -- Demand 3, of what the caller of each public entry holds in hand: a bare launch's answer, and the bytes of a report. Assumes nothing.
 use mathlib.Core.Path.{_≡_}
 use mathlib.Core.Logic.{_↔_}
-use mathlib.Core.List.{List, [], _∷_, map}
+use mathlib.Core.List.{List, [], _∷_, _++_, map}
 use mathlib.Core.Bool.{true, false}
 use mathlib.Core.Option.{some}
 use Prim.Native.Nat.{ℕ, _<_}
 use lib.ListN.{take}
-use Rattle.spec.specs.Answers.{Answer, Written}
+use Rattle.spec.specs.Answers.{Outcome, Answer, Written}
 use Rattle.spec.specs.declared.Answer.the-variants as answer
 use Rattle.spec.specs.declared.Written.the-variants as written
-use Rattle.spec.specs.Table.{rowsOf}
-use Rattle.spec.specs.Shape.{oneGroup}
+use Rattle.spec.specs.Shape.{Sizes, allThreads}
 use Rattle.spec.specs.LaunchRun.{countedBarriers}
 use Rattle.spec.specs.AllRuns.{EveryRunEndsWell, countedInAll, PassedSays, Demand3}
-use Rattle.spec.specs.LaunchFile.{Launch, accepted, fileLaunch}
+use Rattle.spec.specs.Launch.{Launch}
+use Rattle.spec.specs.LaunchFile.{accepted, fileLaunch}
 use Rattle.spec.specs.Reading.{beginsWith, numbersAt, Readable}
-use Rattle.spec.specs.Entries.{sizesOf, subjectOf}
+use Rattle.spec.specs.Entries.{bareLaunch, subjectOf}
 
--- Of a bare launch: of the outcome that it answers, and of the cells and the step counts as the call leaves them. A refusal speaks of no run.
-abbrev pub BareDemand3 : (table : List ℕ) → (threads limit : ℕ) → (lentCells : List ℕ) → Answer → (left counts : List ℕ) → Type 0
-BareDemand3 table threads limit lentCells (answer.Refused why) left counts = Unit {0}
-BareDemand3 table threads limit lentCells (answer.Ran o) left counts = Demand3 (rowsOf table) (oneGroup threads lentCells) lentCells limit o (take threads counts) left
+-- Of a launch, and what was answered and left of it.
+abbrev pub LaunchDemand3 : Launch → Outcome → (steps final : List ℕ) → Type 0
+LaunchDemand3 launch o steps final = Demand3 (launch .table) (launch .sizes) (launch .cells) (launch .limit) o steps final
+
+-- Of a bare launch: of the outcome that it answers, and of both kinds of cells and the step counts as the call leaves them. A refusal speaks of no run.
+abbrev pub BareDemand3 : (table : List ℕ) → Sizes → (limit : ℕ) → (lentCells lentGlobal : List ℕ) → Answer → (left leftGlobal counts : List ℕ) → Type 0
+BareDemand3 table Z limit lentCells lentGlobal (answer.Refused why) left leftGlobal counts = Unit {0}
+BareDemand3 table Z limit lentCells lentGlobal (answer.Ran o) left leftGlobal counts =
+    LaunchDemand3 (bareLaunch table Z limit lentCells lentGlobal) o (take (allThreads Z) counts) (left ++ leftGlobal)
 
 -- Every run of a launch ends well; each group's own cells at its counted barriers.
 abbrev pub RunsEndWell : Launch → Type 0
-RunsEndWell launch = EveryRunEndsWell (launch .table) (sizesOf launch) (launch .cells)
+RunsEndWell launch = EveryRunEndsWell (launch .table) (launch .sizes) (launch .cells)
 
 abbrev pub countedIn : Launch → List (List (List ℕ))
-countedIn launch = countedBarriers (launch .table) (sizesOf launch) (launch .cells) (launch .limit)
+countedIn launch = countedBarriers (launch .table) (launch .sizes) (launch .cells) (launch .limit)
 
 -- What a report that begins with `verdict=passed` says of its launch: every run ends well, and what its own lines say is what every run comes to.
 pub record PassedReport (launch : Launch) (report : List ℕ) : Type 0 where
   pub steps : List ℕ
   pub barriers : ℕ
-  pub final : List ℕ
+  pub own : List ℕ
+  pub global : List ℕ
   pub stepsLines : numbersAt "steps" report ≡ map some steps
   pub barriersLine : numbersAt "barriers" report ≡ some barriers ∷ []
-  pub cellLines : numbersAt "cell" report ≡ map some final
+  pub cellLines : numbersAt "cell" report ≡ map some own
+  pub gcellLines : numbersAt "gcell" report ≡ map some global
   pub runs : RunsEndWell launch
-  pub says : PassedSays (launch .table) (sizesOf launch) (launch .cells) steps barriers final (countedIn launch)
+  pub says : PassedSays (launch .table) (launch .sizes) (launch .cells) steps barriers (own ++ global) (countedIn launch)
 
 -- Of the bytes of a file's report.
 pub record ReportDemand3 (file report : List ℕ) : Type 0 where

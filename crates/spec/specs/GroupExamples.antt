@@ -1,12 +1,11 @@
 -- Worked launches of several groups and with global cells, item 7 of the change requests, each with all that it ends with. Worked out by hand from the papers:
--- group 0 row by row, then group 1 from row 0 with all it starts anew, and so on; files can not say these yet. Assumes nothing.
+-- group 0 row by row, then group 1 from row 0 with all it starts anew, and so on. Assumes nothing.
 use mathlib.Core.List.{List, [], _∷_, _++_}
 use Prim.Native.Nat.{ℕ}
 use lib.ListN.{replicate}
 use Rattle.spec.specs.Answers.{Verdict, Passed, Race, GroupRace, Outside, Diverged, Spent, ReadWrite, WriteRead, WriteWrite}
-use Rattle.spec.specs.Op.{LAUNCHTID, CALC, GLOBAL, MEM, LOAD, STORE, ATOMICADD}
 use Rattle.spec.specs.Table.{Table, Row, rowOf}
-use Rattle.spec.specs.Shape.{Sizes}
+use Rattle.spec.specs.Shape.{Sizes, sizes}
 
 -- What a launch ends with: verdict, group and row where it ended; counts; steps by launch number; cells; the log by kind (readers, writers, adders, first
 -- values, marks) and the group masks (readers, writers, adders); the records of its intervals, three words each. Cells stand group by group, then the
@@ -30,22 +29,19 @@ pub record GroupLaunch : Type 0 where
   pub limit : ℕ
   pub ends : Ending
 
-unfoldable pub sized : (groups threads cells global : ℕ) → Sizes
-sized groups threads cells global = record { threads = threads; cells = cells; groups = groups; global = global }
-
 -- Rows that access the global cells: Rd = cell Ra; cell Rd = Ra; cell Rd grows by Ra.
 unfoldable pub globalLoad : (d a : ℕ) → Row
-globalLoad d a = record { op = MEM GLOBAL LOAD; d = d; a = a; b = 0 }
+globalLoad d a = rowOf 20 d a 0
 
 unfoldable pub globalStore : (d a : ℕ) → Row
-globalStore d a = record { op = MEM GLOBAL STORE; d = d; a = a; b = 0 }
+globalStore d a = rowOf 21 d a 0
 
 unfoldable pub globalAdd : (d a : ℕ) → Row
-globalAdd d a = record { op = MEM GLOBAL ATOMICADD; d = d; a = a; b = 0 }
+globalAdd d a = rowOf 22 d a 0
 
 -- Rd = the launch number.
 unfoldable pub launchTid : (d : ℕ) → Row
-launchTid d = record { op = CALC LAUNCHTID; d = d; a = 0; b = 0 }
+launchTid d = rowOf 19 d 0 0
 
 -- SET R1 = 2, and global cell 0 grows by it.
 unfoldable pub growing : Table
@@ -61,7 +57,7 @@ groupExamples =
     -- start nor its BARRIER touches the log of group 0's cells. Each group has a record up to its BARRIER and one behind it
     record {
       table = rowOf 2 0 0 0 ∷ rowOf 1 1 5 0 ∷ rowOf 4 1 1 0 ∷ rowOf 37 0 0 0 ∷ rowOf 17 0 1 0 ∷ [];
-      sizes = sized 2 2 2 0;
+      sizes = sizes 2 2 2 0;
       cells = 1 ∷ 2 ∷ 3 ∷ 4 ∷ [];
       limit = 100;
       ends = record {
@@ -80,7 +76,7 @@ groupExamples =
     -- own cell 0 says whether the group stores: group 0 does, passes its BARRIER and loads; group 1 passes its BARRIER, and its load meets group 0's store
     ∷ record {
       table = rowOf 16 1 0 0 ∷ rowOf 32 0 1 0 ∷ globalStore 0 1 ∷ rowOf 34 0 0 0 ∷ rowOf 37 0 0 0 ∷ globalLoad 2 0 ∷ [];
-      sizes = sized 2 1 1 1;
+      sizes = sizes 1 1 2 1;
       cells = 1 ∷ 0 ∷ 9 ∷ [];
       limit = 100;
       ends = record {
@@ -99,7 +95,7 @@ groupExamples =
     -- both groups store 5 to one global cell, with no BARRIER: group 1's meets group 0's. Its start has cleared the log of the cell, not the group mask
     ∷ record {
       table = rowOf 1 1 5 0 ∷ globalStore 0 1 ∷ [];
-      sizes = sized 2 1 1 1;
+      sizes = sizes 1 1 2 1;
       cells = 7 ∷ 8 ∷ 9 ∷ [];
       limit = 100;
       ends = record {
@@ -118,7 +114,7 @@ groupExamples =
     -- both threads of both groups load global cell 0 and add 1 to global cell 1, which held 4. The log has group 1's accesses, the group masks both groups'
     ∷ record {
       table = rowOf 1 1 1 0 ∷ globalLoad 2 0 ∷ globalAdd 1 1 ∷ [];
-      sizes = sized 2 2 1 2;
+      sizes = sizes 2 1 2 2;
       cells = 7 ∷ 8 ∷ 3 ∷ 4 ∷ [];
       limit = 100;
       ends = record {
@@ -137,7 +133,7 @@ groupExamples =
     -- all load the global cell; where own cell 0 has 1, thread 1 then stores to it. In group 1 that meets thread 0 as well as group 0: thread 0 is named
     ∷ record {
       table = globalLoad 3 0 ∷ rowOf 16 1 0 0 ∷ rowOf 2 2 0 0 ∷ rowOf 7 1 1 2 ∷ rowOf 32 0 1 0 ∷ globalStore 0 1 ∷ rowOf 34 0 0 0 ∷ [];
-      sizes = sized 2 2 1 1;
+      sizes = sizes 2 1 2 1;
       cells = 0 ∷ 1 ∷ 9 ∷ [];
       limit = 100;
       ends = record {
@@ -156,7 +152,7 @@ groupExamples =
     -- groups 0 and 1 load the global cell, group 2 stores to it, by own cell 0: it meets both, and group 0 is named
     ∷ record {
       table = rowOf 16 1 0 0 ∷ rowOf 32 0 1 0 ∷ globalStore 0 1 ∷ rowOf 33 0 0 0 ∷ globalLoad 2 0 ∷ rowOf 34 0 0 0 ∷ [];
-      sizes = sized 3 1 1 1;
+      sizes = sizes 1 1 3 1;
       cells = 0 ∷ 0 ∷ 1 ∷ 9 ∷ [];
       limit = 100;
       ends = record {
@@ -175,7 +171,7 @@ groupExamples =
     -- each group stores to the global cell that its own cell 0 numbers: group 0 to cell 0, groups 1 and 2 to cell 1. Group 0 is lower, but in no conflict
     ∷ record {
       table = rowOf 16 1 0 0 ∷ globalStore 1 1 ∷ [];
-      sizes = sized 3 1 1 2;
+      sizes = sizes 1 1 3 2;
       cells = 0 ∷ 1 ∷ 1 ∷ 8 ∷ 9 ∷ [];
       limit = 100;
       ends = record {
@@ -194,7 +190,7 @@ groupExamples =
     -- group 0 loads the global cell, adds what it loaded and stores it, 9, 18 and 9 again; group 1 stores: of the three kinds w is shown
     ∷ record {
       table = rowOf 16 1 0 0 ∷ rowOf 32 0 1 0 ∷ globalStore 0 1 ∷ rowOf 33 0 0 0 ∷ globalLoad 2 0 ∷ globalAdd 0 2 ∷ globalStore 0 2 ∷ rowOf 34 0 0 0 ∷ [];
-      sizes = sized 2 1 1 1;
+      sizes = sizes 1 1 2 1;
       cells = 0 ∷ 1 ∷ 9 ∷ [];
       limit = 100;
       ends = record {
@@ -213,7 +209,7 @@ groupExamples =
     -- under limit 4 both groups run to their end
     ∷ record {
       table = growing;
-      sizes = sized 2 1 1 1;
+      sizes = sizes 1 1 2 1;
       cells = 7 ∷ 8 ∷ 9 ∷ [];
       limit = 4;
       ends = record {
@@ -232,7 +228,7 @@ groupExamples =
     -- under limit 3 group 1 has one row left to it, as the limit is one for all
     ∷ record {
       table = growing;
-      sizes = sized 2 1 1 1;
+      sizes = sizes 1 1 2 1;
       cells = 7 ∷ 8 ∷ 9 ∷ [];
       limit = 3;
       ends = record {
@@ -251,7 +247,7 @@ groupExamples =
     -- under limit 2 group 0 ends with all rows used; group 1 starts, which clears the log and opens an interval, and is spent at its row 0
     ∷ record {
       table = growing;
-      sizes = sized 2 1 1 1;
+      sizes = sizes 1 1 2 1;
       cells = 7 ∷ 8 ∷ 9 ∷ [];
       limit = 2;
       ends = record {
@@ -270,7 +266,7 @@ groupExamples =
     -- under limit 1 group 0 is spent, and group 1 does not start
     ∷ record {
       table = growing;
-      sizes = sized 2 1 1 1;
+      sizes = sizes 1 1 2 1;
       cells = 7 ∷ 8 ∷ 9 ∷ [];
       limit = 1;
       ends = record {
@@ -289,7 +285,7 @@ groupExamples =
     -- two threads load cells that are 16 apart, global ones at no cost and own ones at cost 1
     ∷ record {
       table = rowOf 2 0 0 0 ∷ rowOf 1 1 16 0 ∷ rowOf 6 2 0 1 ∷ globalLoad 3 2 ∷ rowOf 16 4 2 0 ∷ [];
-      sizes = sized 1 2 17 17;
+      sizes = sizes 2 17 1 17;
       cells = replicate 34 7;
       limit = 100;
       ends = record {
@@ -308,7 +304,7 @@ groupExamples =
     -- one own cell and two global ones: global cell 1 is there; own cell 1 is outside, though group 1 has a cell there. Groups 1 and 2 do not start
     ∷ record {
       table = rowOf 1 1 1 0 ∷ globalLoad 2 1 ∷ rowOf 16 3 1 0 ∷ [];
-      sizes = sized 3 1 1 2;
+      sizes = sizes 1 1 3 2;
       cells = 6 ∷ 7 ∷ 8 ∷ 4 ∷ 5 ∷ [];
       limit = 100;
       ends = record {
@@ -327,7 +323,7 @@ groupExamples =
     -- two own cells and one global one: own cell 1 is there; global cell 1 is outside. Group 1 of two threads does not start
     ∷ record {
       table = rowOf 1 1 1 0 ∷ rowOf 17 1 1 0 ∷ globalAdd 1 1 ∷ [];
-      sizes = sized 2 2 2 1;
+      sizes = sizes 2 2 2 1;
       cells = 5 ∷ 6 ∷ 7 ∷ 8 ∷ 9 ∷ [];
       limit = 100;
       ends = record {
@@ -346,7 +342,7 @@ groupExamples =
     -- own cell 0 numbers the global cell: group 1's is outside
     ∷ record {
       table = rowOf 16 1 0 0 ∷ globalLoad 2 1 ∷ [];
-      sizes = sized 2 1 1 1;
+      sizes = sizes 1 1 2 1;
       cells = 0 ∷ 1 ∷ 9 ∷ [];
       limit = 100;
       ends = record {
@@ -365,7 +361,7 @@ groupExamples =
     -- two threads of one group store 5 to a global cell, and 6 behind a BARRIER, which has cleared the first value
     ∷ record {
       table = rowOf 1 1 5 0 ∷ globalStore 0 1 ∷ rowOf 37 0 0 0 ∷ rowOf 1 1 6 0 ∷ globalStore 0 1 ∷ [];
-      sizes = sized 1 2 1 1;
+      sizes = sizes 2 1 1 1;
       cells = 7 ∷ 9 ∷ [];
       limit = 100;
       ends = record {
@@ -384,7 +380,7 @@ groupExamples =
     -- their own numbers race. It is cell 0 that they name, wherever it stands
     ∷ record {
       table = rowOf 2 1 0 0 ∷ globalStore 0 1 ∷ [];
-      sizes = sized 2 2 1 1;
+      sizes = sizes 2 1 2 1;
       cells = 7 ∷ 8 ∷ 9 ∷ [];
       limit = 100;
       ends = record {
@@ -403,7 +399,7 @@ groupExamples =
     -- where own cell 0 has 1, the threads store their numbers to own cell 1: a race in group 1, which names the cell as the row does
     ∷ record {
       table = rowOf 16 1 0 0 ∷ rowOf 2 2 0 0 ∷ rowOf 1 3 1 0 ∷ rowOf 32 0 1 0 ∷ rowOf 17 3 2 0 ∷ rowOf 34 0 0 0 ∷ [];
-      sizes = sized 2 2 2 0;
+      sizes = sizes 2 2 2 0;
       cells = 0 ∷ 7 ∷ 1 ∷ 8 ∷ [];
       limit = 100;
       ends = record {
@@ -422,7 +418,7 @@ groupExamples =
     -- where own cell 0 has 1, thread 1 alone comes to a BARRIER: in group 0 nobody, in group 1 the run diverges
     ∷ record {
       table = rowOf 16 1 2 0 ∷ rowOf 2 0 0 0 ∷ rowOf 7 1 1 0 ∷ rowOf 32 0 1 0 ∷ rowOf 37 0 0 0 ∷ rowOf 34 0 0 0 ∷ [];
-      sizes = sized 2 2 1 0;
+      sizes = sizes 2 1 2 0;
       cells = 0 ∷ 1 ∷ [];
       limit = 100;
       ends = record {
@@ -441,7 +437,7 @@ groupExamples =
     -- TID and COUNT are the group's, and each group starts with registers 0: R2 is stored before it is set. Thread t stores to own cells t and t + 2
     ∷ record {
       table = rowOf 2 0 0 0 ∷ rowOf 3 1 0 0 ∷ rowOf 17 0 2 0 ∷ rowOf 4 3 0 1 ∷ rowOf 17 3 1 0 ∷ rowOf 1 2 5 0 ∷ [];
-      sizes = sized 2 2 4 0;
+      sizes = sizes 2 4 2 0;
       cells = replicate 8 9;
       limit = 100;
       ends = record {
@@ -461,7 +457,7 @@ groupExamples =
     -- start clears the log of those that group 0 stored to
     ∷ record {
       table = numbering;
-      sizes = sized 2 2 3 4;
+      sizes = sizes 2 3 2 4;
       cells = replicate 10 9;
       limit = 100;
       ends = record {
@@ -486,7 +482,7 @@ groupExamples =
     -- thread t loops as often as its number and own cell 0 say together: 0 and 1 times in group 0, 2 and 3 times in group 1. Steps go by launch number
     ∷ record {
       table = rowOf 16 1 2 0 ∷ rowOf 2 0 0 0 ∷ rowOf 4 0 0 1 ∷ rowOf 1 1 1 0 ∷ rowOf 35 0 0 0 ∷ rowOf 5 0 0 1 ∷ rowOf 36 0 0 0 ∷ [];
-      sizes = sized 2 2 1 0;
+      sizes = sizes 2 1 2 0;
       cells = 0 ∷ 2 ∷ [];
       limit = 100;
       ends = record {
@@ -505,7 +501,7 @@ groupExamples =
     -- an empty table under limit 0: both groups have passed, each with its interval
     ∷ record {
       table = [];
-      sizes = sized 2 1 1 1;
+      sizes = sizes 1 1 2 1;
       cells = 7 ∷ 8 ∷ 9 ∷ [];
       limit = 0;
       ends = record {

@@ -1,11 +1,12 @@
 -- The group masks: for each cell the groups that have loaded, stored and added there since the launch began. Document 02, item 7. Assumes nothing.
-use mathlib.Core.List.{List, []}
+use mathlib.Core.List.{List, [], _∷_, map}
 use mathlib.Core.Bool.{false, cond}
 use Prim.Native.Nat.{ℕ}
 use lib.ListN.{getD, set, replicate}
 use Rattle.spec.specs.Answers.{AccessKind}
 use Rattle.spec.specs.Access.{Kind, load, store, atomicAdd, Mode, reads, writes, adds, mode, agree}
-use Rattle.spec.specs.Mask.{Mask, has, union}
+use Rattle.spec.specs.Lists.{joined}
+use Rattle.spec.specs.Mask.{Mask, has, union, maskWord}
 use Rattle.spec.specs.Log.{nobody, withThread, shownKind}
 
 -- A mask has a truth value for each group here, group 0 first. No mask is ever cleared.
@@ -41,3 +42,10 @@ groupConflictMask H i g k = set (union (conflictingGroups H i writes k) (union (
 -- The kind of a race with group h.
 unfoldable pub groupRaceKind : GroupLog → (i h : ℕ) → Kind → AccessKind
 groupRaceKind H i h k = shownKind (has (conflictingGroups H i writes k) h) (has (conflictingGroups H i adds k) h) (mode k)
+
+-- Their words, kind by kind: all readers, all writers, all adders.
+unfoldable pub groupKinds : GroupLog → List (List ℕ)
+groupKinds H = map maskWord (H .readers) ∷ map maskWord (H .writers) ∷ map maskWord (H .adders) ∷ []
+
+unfoldable pub groupWords : GroupLog → List ℕ
+groupWords H = joined (groupKinds H)

@@ -1,24 +1,19 @@
 -- The launch file: which line is due at each place, what the lines say, and the first refusal. "The launch file and the report", "Turned back". Assumes nothing.
-use mathlib.Core.List.{List, [], _∷_, map}
+use mathlib.Core.List.{List, [], _∷_, _++_, map}
 use mathlib.Core.Bool.{Bool, true, false, cond, _&&_}
 use mathlib.Core.Option.{Option, none, some}
 use Prim.Native.Nat.{ℕ, suc}
 use Prim.Native.String.{String}
 use lib.Dec.{leb}
 use lib.ListN.{length, getD, replicate}
-use Rattle.spec.specs.Limits.{maxThreads, maxCells, maxRows, maxLimit, maxFile, words, bytes}
-use Rattle.spec.specs.Answers.{Refusal, FileTooLong, LineNotDue, ThreadsOutOfRange, CellsOutOfRange, LimitOutOfRange, TooManyRows}
+use Rattle.spec.specs.Limits.{maxThreads, maxGroups, maxCells, maxRows, maxLimit, maxFile, words, bytes}
+use Rattle.spec.specs.Answers.{Refusal, FileTooLong, LineNotDue, ThreadsOutOfRange, CellsOutOfRange, GroupsOutOfRange, TooManyCells, LimitOutOfRange, TooManyRows}
 use Rattle.spec.specs.Lists.{equalList}
 use Rattle.spec.specs.Text.{text, newline, comma, equals, numberBelow, splitAt}
 use Rattle.spec.specs.Table.{Table, Row, rowOf}
 use Rattle.spec.specs.TableCheck.{tableRefusal}
-
--- What a launch is: its threads, its limit, its table and the words in its cells.
-pub record Launch : Type 0 where
-  pub threads : ℕ
-  pub limit : ℕ
-  pub table : Table
-  pub cells : List ℕ
+use Rattle.spec.specs.Shape.{Sizes, sizes, allOwn, allCells}
+use Rattle.spec.specs.Launch.{Launch}
 
 -- A refusal, or what is accepted.
 pub data Checked (A : Type 0) : Type 0 where
@@ -115,27 +110,30 @@ pub record NumberLine : Type 0 where
   pub greatest : ℕ
   pub refusal : Refusal
 
--- The lines with one number, in their order, from line 2 on.
-unfoldable pub numberLines : List NumberLine
-numberLines =
+-- The lines with one number, in their order: the sizes, from line 2 on; then the limit and the number of rows.
+unfoldable pub sizeLines : List NumberLine
+sizeLines =
     record { key = "threads"; least = 1; greatest = maxThreads; refusal = ThreadsOutOfRange 2 }
     ∷ record { key = "cells"; least = 1; greatest = maxCells; refusal = CellsOutOfRange 3 }
-    ∷ record { key = "limit"; least = 0; greatest = maxLimit; refusal = LimitOutOfRange 4 }
-    ∷ record { key = "rows"; least = 0; greatest = maxRows; refusal = TooManyRows 5 }
+    ∷ record { key = "groups"; least = 1; greatest = maxGroups; refusal = GroupsOutOfRange 4 }
+    ∷ record { key = "global"; least = 0; greatest = maxCells; refusal = TooManyCells 5 }
+    ∷ []
+
+unfoldable pub lengthLines : List NumberLine
+lengthLines =
+    record { key = "limit"; least = 0; greatest = maxLimit; refusal = LimitOutOfRange 6 }
+    ∷ record { key = "rows"; least = 0; greatest = maxRows; refusal = TooManyRows 7 }
     ∷ []
 
 -- Each number's place among those that the lines give.
-abbrev pub threadsIn : List ℕ → ℕ
-threadsIn ns = getD ns 0 0
-
-abbrev pub cellsIn : List ℕ → ℕ
-cellsIn ns = getD ns 1 0
+abbrev pub sizesIn : List ℕ → Sizes
+sizesIn ns = sizes (getD ns 0 0) (getD ns 1 0) (getD ns 2 0) (getD ns 3 0)
 
 abbrev pub limitIn : List ℕ → ℕ
-limitIn ns = getD ns 2 0
+limitIn ns = getD ns 0 0
 
 abbrev pub rowsIn : List ℕ → ℕ
-rowsIn ns = getD ns 3 0
+rowsIn ns = getD ns 1 0
 
 -- The number of one such line: a number that is out of its limits is refused before the next line is looked at.
 unfoldable pub dueNumber : NumberLine → Reader ℕ
@@ -148,21 +146,24 @@ dueNumber l = do
 unfoldable pub numbers : List NumberLine → Reader (List ℕ)
 numbers ls = inOrder (map dueNumber ls)
 
--- What follows the numbers: as many rows and cells as they say, the end, and nothing behind it.
-unfoldable pub contentLines : List ℕ → Reader Launch
-contentLines ns = do
-  table ← times (rowsIn ns) (due "row" rowValue)
-  cells ← times (cellsIn ns) (due "cell" number)
+-- What follows the numbers: as many rows, own cells of all groups and global cells as they say, the end, and nothing behind it.
+unfoldable pub contentLines : Sizes → (limit rows : ℕ) → Reader Launch
+contentLines Z limit rows = do
+  table ← times rows (due "row" rowValue)
+  own ← times (allOwn Z) (due "cell" number)
+  global ← times (Z .global) (due "gcell" number)
   due "end" (exactly "kernel")
   fileEnds
-  gives (record { threads = threadsIn ns; limit = limitIn ns; table = table; cells = cells })
+  gives (record { sizes = Z; limit = limit; table = table; cells = own ++ global })
 
--- The lines of a launch file, in their order.
+-- The lines of a launch file, in their order. More cells in all than there may be are refused with 33 at the line `global=`, before the next one is looked at.
 unfoldable pub launchLines : Reader Launch
 launchLines = do
   due "kernel" (exactly "1")
-  ns ← numbers numberLines
-  contentLines ns
+  ns ← numbers sizeLines
+  require (leb (allCells (sizesIn ns)) maxCells) (TooManyCells 5)
+  ms ← numbers lengthLines
+  contentLines (sizesIn ns) (limitIn ms) (rowsIn ms)
 
 -- A launch, unless there is a refusal.
 unfoldable pub unlessRefused : Option Refusal → Launch → Checked Launch

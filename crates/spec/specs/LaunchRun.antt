@@ -59,6 +59,10 @@ lastRun T Z cells limit = lastOf (record { shape = shapeOf Z 0; start = initialS
 unfoldable pub lockstep : Table → Sizes → (cells : List ℕ) → (limit : ℕ) → LockResult
 lockstep T Z cells limit = groupResult T limit (lastRun T Z cells limit)
 
+-- The group that it ends in.
+unfoldable pub lastGroup : Table → Sizes → (cells : List ℕ) → (limit : ℕ) → ℕ
+lastGroup T Z cells limit = lastRun T Z cells limit .shape .group
+
 -- The steps of each thread, by its launch number (`Shape.launchNumber`): group after group, each by number in group. Threads of groups that have not started have 0.
 unfoldable pub stepsByLaunch : Table → Sizes → (cells : List ℕ) → (limit : ℕ) → List ℕ
 stepsByLaunch T Z cells limit =

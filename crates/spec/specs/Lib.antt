@@ -21,6 +21,7 @@ pub mod Threads
 pub mod LaunchThreads
 pub mod AllRuns
 pub mod Text
+pub mod Launch
 pub mod LaunchFile
 pub mod Report
 pub mod Reading
@@ -33,4 +34,5 @@ pub mod StepExamples
 pub mod ConflictExamples
 pub mod StoreExamples
 pub mod GroupExamples
+pub mod GroupFiles
 pub mod Demands

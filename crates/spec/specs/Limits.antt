@@ -4,6 +4,13 @@ use Prim.Native.Nat.{ℕ, _^_}
 abbrev pub maxThreads : ℕ
 maxThreads = 32
 
+-- Of a launch: groups, threads of all groups, cells of all groups and global ones together. Item 7.
+abbrev pub maxGroups : ℕ
+maxGroups = 8
+
+abbrev pub maxLaunchThreads : ℕ
+maxLaunchThreads = 256
+
 abbrev pub maxCells : ℕ
 maxCells = 1024
 
@@ -30,9 +37,15 @@ words = 2 ^ 32
 abbrev pub bytes : ℕ
 bytes = 256
 
--- Words of the log for each cell.
+-- Words of the log for each cell: those that a group's threads enter; the group masks; all of them. Item 7.
 abbrev pub logPerCell : ℕ
 logPerCell = 5
+
+abbrev pub groupsPerCell : ℕ
+groupsPerCell = 3
+
+abbrev pub launchLogPerCell : ℕ
+launchLogPerCell = 8
 
 -- Banks that the cells are in. Item 5.
 abbrev pub banks : ℕ
@@ -45,12 +58,12 @@ maxRecords = 1025
 abbrev pub recordsLent : ℕ
 recordsLent = 3075
 
--- What the whole-file entry has to be lent besides: words for the cells, words for the log, bytes for the report.
+-- What the whole-file entry has to be lent besides: words for the own cells and as many for the global ones, words for the log, bytes for the report.
 abbrev pub fileCells : ℕ
 fileCells = 1024
 
 abbrev pub fileLog : ℕ
-fileLog = 5120
+fileLog = 8192
 
 abbrev pub fileOutput : ℕ
-fileOutput = 17408
+fileOutput = 24576

@@ -259,10 +259,11 @@ runFrom T L (suc left) s =
       | false ↦ resultOf (runRow T L (rowAt T (s .row)) s (rowAt T (s .row) .op)) (runFrom T L left)
     ]
 
--- What a report says of it beside the steps and the cells, `conflicts` being what its rows cost. The row is where it stopped; for spent, the row due.
-unfoldable pub outcomeOf : LockResult → (conflicts : ℕ) → Outcome
-outcomeOf o conflicts =
-    record { verdict = o .verdict; row = o .state .row; rows = o .state .rows; barriers = o .state .barriers; conflicts = conflicts }
+-- What a report says of it beside the steps and the cells: it ended in this group, and its rows cost `conflicts`. The row is where it stopped; for spent,
+-- the row due.
+unfoldable pub outcomeOf : LockResult → (group conflicts : ℕ) → Outcome
+outcomeOf o group conflicts =
+    record { verdict = o .verdict; row = o .state .row; group = group; rows = o .state .rows; barriers = o .state .barriers; conflicts = conflicts }
 
 -- The counted barriers of a group, BARRIER rows at which barriers grows: the cells just before each, in their order.
 unfoldable pub countedAt : (before after : LockState) → List (List ℕ)

@@ -8,7 +8,7 @@ use lib.ListN.{getD, replicate}
 use Rattle.spec.specs.Limits.{registers}
 use Rattle.spec.specs.Word.{add, sub, mul, shr, sar, equal, less, signedLess}
 
--- Ops that compute a register. TID is a thread's number in its group, LAUNCHTID (item 7) its number in the launch; no byte is LAUNCHTID yet.
+-- Ops that compute a register. TID is a thread's number in its group, LAUNCHTID (item 7) its number in the launch.
 pub data Calc : Type 0 where
   SET TID COUNT LAUNCHTID ADD SUB MUL AND OR XOR SHR SAR EQ LT SLT : Calc
 
@@ -31,7 +31,8 @@ unfoldable pub opTable : List Op
 opTable =
     UNKNOWN ∷ CALC SET ∷ CALC TID ∷ CALC COUNT ∷ CALC ADD ∷ CALC SUB ∷ CALC MUL ∷ CALC AND
     ∷ CALC OR ∷ CALC XOR ∷ CALC SHR ∷ CALC SAR ∷ CALC EQ ∷ CALC LT ∷ CALC SLT ∷ UNKNOWN
-    ∷ MEM OWN LOAD ∷ MEM OWN STORE ∷ MEM OWN ATOMICADD ∷ replicate 13 UNKNOWN
+    ∷ MEM OWN LOAD ∷ MEM OWN STORE ∷ MEM OWN ATOMICADD ∷ CALC LAUNCHTID
+    ∷ MEM GLOBAL LOAD ∷ MEM GLOBAL STORE ∷ MEM GLOBAL ATOMICADD ∷ replicate 9 UNKNOWN
     ++ (IF ∷ ELSE ∷ ENDIF ∷ WHILE ∷ ENDWHILE ∷ BARRIER ∷ replicate 218 UNKNOWN)
 
 unfoldable pub opOf : ℕ → Op

@@ -54,24 +54,31 @@ unfoldable pub bytesOf : List Line → List ℕ
 bytesOf [] = []
 bytesOf (l ∷ ls) = lineBytes l ++ bytesOf ls
 
--- What each verdict says of where the run stopped, in the order row, thread, other, kind, at. A hyphen stands for a line without meaning: row when
--- passed; thread unless race, outside or diverged; other unless race or diverged; kind unless race; at unless race or outside.
-unfoldable pub details : (row thread other kind at : Value) → Details
-details row thread other kind at = record { row = row; thread = thread; other = other; kind = kind; at = at }
+-- What each verdict says of where the run stopped. A hyphen stands for a line without meaning: row and group when passed; othergroup unless race; thread
+-- unless race, outside or diverged; other unless diverged or a race in the own group; kind unless race; at unless race or outside.
+unfoldable pub details : (row group otherGroup thread other kind at : Value) → Details
+details row group otherGroup thread other kind at =
+    record { row = row; group = group; othergroup = otherGroup; thread = thread; other = other; kind = kind; at = at }
 
-unfoldable pub detailsOf : Verdict → (row : ℕ) → Details
-detailsOf Passed row = details value.Hyphen value.Hyphen value.Hyphen value.Hyphen value.Hyphen
-detailsOf (Race thread other kind at) row = details (value.Number row) (value.Number thread) (value.Number other) (value.Kind kind) (value.Number at)
-detailsOf (GroupRace thread group kind at) row = details (value.Number row) (value.Number thread) value.Hyphen (value.Kind kind) (value.Number at)
-detailsOf (Outside thread at) row = details (value.Number row) (value.Number thread) value.Hyphen value.Hyphen (value.Number at)
-detailsOf (Diverged thread other) row = details (value.Number row) (value.Number thread) (value.Number other) value.Hyphen value.Hyphen
-detailsOf Spent row = details (value.Number row) value.Hyphen value.Hyphen value.Hyphen value.Hyphen
+unfoldable pub detailsOf : Verdict → (row group : ℕ) → Details
+detailsOf Passed row group = details value.Hyphen value.Hyphen value.Hyphen value.Hyphen value.Hyphen value.Hyphen value.Hyphen
+detailsOf (Race thread other kind at) row group =
+    details (value.Number row) (value.Number group) (value.Number group) (value.Number thread) (value.Number other) (value.Kind kind) (value.Number at)
+detailsOf (GroupRace thread otherGroup kind at) row group =
+    details (value.Number row) (value.Number group) (value.Number otherGroup) (value.Number thread) value.Hyphen (value.Kind kind) (value.Number at)
+detailsOf (Outside thread at) row group =
+    details (value.Number row) (value.Number group) value.Hyphen (value.Number thread) value.Hyphen value.Hyphen (value.Number at)
+detailsOf (Diverged thread other) row group =
+    details (value.Number row) (value.Number group) value.Hyphen (value.Number thread) (value.Number other) value.Hyphen value.Hyphen
+detailsOf Spent row group = details (value.Number row) (value.Number group) value.Hyphen value.Hyphen value.Hyphen value.Hyphen value.Hyphen
 
 -- The lines of a run's report before its steps, the head; and those behind them.
 unfoldable pub headWith : Outcome → Details → List Line
 headWith o d =
     "verdict" is value.Verdict (o .verdict)
     ∷ "row" is d .row
+    ∷ "group" is d .group
+    ∷ "othergroup" is d .othergroup
     ∷ "thread" is d .thread
     ∷ "other" is d .other
     ∷ "kind" is d .kind
@@ -80,7 +87,7 @@ headWith o d =
     ∷ []
 
 unfoldable pub headLines : Outcome → List Line
-headLines o = headWith o (detailsOf (o .verdict) (o .row))
+headLines o = headWith o (detailsOf (o .verdict) (o .row) (o .group))
 
 unfoldable pub intervalLines : Outcome → List Line
 intervalLines o = "barriers" is value.Number (o .barriers) ∷ "conflicts" is value.Number (o .conflicts) ∷ []
@@ -89,16 +96,18 @@ intervalLines o = "barriers" is value.Number (o .barriers) ∷ "conflicts" is va
 unfoldable pub eachLine : (key : List ℕ) → (numbers : List ℕ) → List Line
 eachLine key numbers = map (λ n. record { key = key; value = value.Number n }) numbers
 
--- The report of a run: the head, one `steps=` line per thread, the barriers and the conflicts, one `cell=` line per cell, and the last line.
+-- The report of a run: the head, one `steps=` line per thread of the launch, the barriers and the conflicts, one `cell=` line per own cell of the groups,
+-- one `gcell=` line per global cell, and the last line.
 unfoldable pub endLine : Line
 endLine = "end" is value.Report
 
-unfoldable pub runLines : Outcome → (steps cells : List ℕ) → List Line
-runLines o steps cells =
-    headLines o ++ (eachLine (text "steps") steps ++ (intervalLines o ++ (eachLine (text "cell") cells ++ (endLine ∷ []))))
+unfoldable pub runLines : Outcome → (steps cells global : List ℕ) → List Line
+runLines o steps cells global =
+    headLines o
+    ++ (eachLine (text "steps") steps ++ (intervalLines o ++ (eachLine (text "cell") cells ++ (eachLine (text "gcell") global ++ (endLine ∷ [])))))
 
-unfoldable pub runReport : Outcome → (steps cells : List ℕ) → List ℕ
-runReport o steps cells = bytesOf (runLines o steps cells)
+unfoldable pub runReport : Outcome → (steps cells global : List ℕ) → List ℕ
+runReport o steps cells global = bytesOf (runLines o steps cells global)
 
 -- The report of a refusal, from its number and place.
 unfoldable pub refusalLines : (number place : ℕ) → List Line
@@ -108,6 +117,6 @@ unfoldable pub refusalReport : (number place : ℕ) → List ℕ
 refusalReport number place = bytesOf (refusalLines number place)
 
 -- The report of either; a refusal's has no steps and no cells.
-unfoldable pub reportOf : Subject → (steps cells : List ℕ) → List ℕ
-reportOf (subject.Ran o) steps cells = runReport o steps cells
-reportOf (subject.Refused number place) steps cells = refusalReport number place
+unfoldable pub reportOf : Subject → (steps cells global : List ℕ) → List ℕ
+reportOf (subject.Ran o) steps cells global = runReport o steps cells global
+reportOf (subject.Refused number place) steps cells global = refusalReport number place

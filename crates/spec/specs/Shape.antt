@@ -14,9 +14,22 @@ pub record Sizes : Type 0 where
   pub groups : ℕ
   pub global : ℕ
 
+abbrev pub sizes : (threads cells groups global : ℕ) → Sizes
+sizes threads cells groups global = record { threads = threads; cells = cells; groups = groups; global = global }
+
 -- A launch of one group whose cells are all its own.
 abbrev pub oneGroup : (threads : ℕ) → (cells : List ℕ) → Sizes
-oneGroup threads cells = record { threads = threads; cells = length cells; groups = 1; global = 0 }
+oneGroup threads cells = sizes threads (length cells) 1 0
+
+-- How many cells the groups have of their own, and how many cells there are; how many threads.
+abbrev pub allOwn : Sizes → ℕ
+allOwn Z = Z .groups * Z .cells
+
+abbrev pub allCells : Sizes → ℕ
+allCells Z = allOwn Z + Z .global
+
+abbrev pub allThreads : Sizes → ℕ
+allThreads Z = Z .groups * Z .threads
 
 -- The sizes, and the number of the group that runs.
 pub record Shape : Type 0 where

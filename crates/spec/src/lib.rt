@@ -25,10 +25,11 @@ pub enum Verdict {
     Spent,
 }
 
-// What a report says beside the steps of each thread and the cells: the verdict, the row where the run stopped, and the counts.
+// What a report says beside the steps of each thread and the cells: the verdict, the row and the group where the run stopped, and the counts.
 pub struct Outcome {
     pub verdict: Verdict,
     pub row: u32,
+    pub group: u32,
     pub rows: u32,
     pub barriers: u32,
     pub conflicts: u32,
@@ -55,6 +56,8 @@ pub enum Refusal {
     ReportLines,
     OutputLength,
     RecordsLength,
+    GroupsOutOfRange(u32),
+    TooManyCells(u32),
 }
 
 // The bare launch answers a refusal or the outcome of the run.
@@ -87,6 +90,8 @@ pub enum Value {
 // What a report says of where a run stopped.
 pub struct Details {
     pub row: Value,
+    pub group: Value,
+    pub othergroup: Value,
     pub thread: Value,
     pub other: Value,
     pub kind: Value,

@@ -1,24 +1,60 @@
-// One row of the run: the op is told apart, and the row's own function does it.
+// The rows of a group over its own cells, by the kinds of their ops: computing rows, accesses, constructs and BARRIER.
 ghost use mathlib.Core.Path.{_≡_};
 ghost use Prim.Native.Nat.{_+_, _*_, _^_, _<_, _≤_};
 ghost use lib.ListN.{length, getD};
 ghost use Rattle.spec.specs.Limits.{logPerCell};
 ghost use Rattle.layout.specs.declared.Next.the-variants as next;
 ghost use Rattle.layout.specs.Constructs.{barrierNext, barrierLog};
-ghost use Rattle.layout.specs.Memory.{AccessAsks, InMemory, KeptBut, cellIn};
-ghost use Rattle.layout.specs.Represents.{Room, reached, accessed};
-ghost use Rattle.layout.specs.Running.{AccessDone, Ready, Steps};
-ghost use Rattle.layout.specs.Groups.{SharedAfter, SharedLeft};
-ghost use Rattle.layout.specs.Counting.{Roomy, StepsOn, NextCounted};
+ghost use Rattle.layout.specs.Memory.{ComputeAsks, Computed, AccessAsks, InMemory, KeptBut, cellIn};
+ghost use Rattle.layout.specs.Represents.{Room, DepthAsks, movedOn, reached, accessed};
+ghost use Rattle.layout.specs.Running.{AccessDone};
+ghost use Rattle.layout.specs.Groups.{SharedAfter};
+ghost use Rattle.layout.specs.Counting.{Roomy, StepsOn};
 ghost use Rattle.banks.specs.Counting.{Older};
 ghost use Rattle.banks.specs.Remembering.{Memo};
 ghost use Rattle.intervals.specs.Records.{RecordAsks, recordsAfter};
-ghost use Rattle.step.specs.Recording.{RowRecorded, cellDue, paid};
+ghost use Rattle.step.specs.Recording.{RowRecorded, paid};
+ghost use Rattle.step.specs.Arms.{OperandsAt, ConstructCounted};
 
-pub fn index(x: u8) -> usize
+fn index(x: u8) -> usize
     ensures { λ r. ⌜ (r ≡ x) × (r < 256) ⌝ }
 {
     x as usize
+}
+
+// The bytes of a row behind its op.
+pub struct Operands {
+    pub d: usize,
+    pub a: usize,
+    pub b: usize,
+}
+
+pub fn row_operands(table: &[u8], row: usize) -> Operands
+    requires { ⌜ (row < 256) × (row * 4 + 3 < length (now table)) ⌝ }
+    ensures { λ r. ⌜ OperandsAt (now (table .entry)) row r ⌝ }
+{
+    Operands {
+        d: index(table[row * 4 + 1]),
+        a: index(table[row * 4 + 2]),
+        b: index(table[row * 4 + 3]),
+    }
+}
+
+// A computing row.
+pub fn compute_row(
+    regs: &mut [u32; 512],
+    n: u32,
+    op: u8,
+    d: usize,
+    a: usize,
+    b: usize,
+    s: layout::State,
+) -> layout::Next
+    requires { ⌜ Room s × (n ≤ 32) × (a < 256) × (b < 256) × ComputeAsks op d a b × (length (now regs) ≡ 512) ⌝ }
+    ensures { λ r. ⌜ (r ≡ next.Go (movedOn s)) × Computed op n (s .mask) d a b (now (regs .entry)) (now (regs .exit)) ⌝ }
+{
+    compute::compute_row(regs, n, s.mask, op, d, a, b);
+    layout::Next::Go(constructs::moved(s))
 }
 
 // The state with accesses logged of no cell above h.
@@ -60,7 +96,7 @@ fn after_access(
 }
 
 // The accesses of a row, and what they cost: that is found first, since a LOAD may put something else where the number of its cell was.
-fn access_row(
+pub fn access_row(
     regs: &mut [u32; 512],
     cells: &mut [u32],
     log: &mut [u32],
@@ -100,6 +136,28 @@ fn access_row(
     )
 }
 
+// The row of a construct: where it changes the mask, what was stepped under the old one is added to the step counts.
+pub fn construct_row(
+    regs: &[u32; 512],
+    saved: &mut [u32; 8],
+    openers: &mut [usize; 8],
+    counts: &mut [u32; 32],
+    ends: &[u8; 256],
+    op: u8,
+    a: usize,
+    s: layout::State,
+) -> layout::Next
+    requires { ⌜ Room s × (32 ≤ op) × (op ≤ 36) × ((op ≡ 32 → a < 16) × (op ≡ 35 → a < 16)) × DepthAsks op s (now openers)
+        × Roomy (s .mask) (s .since + 1) (now counts) ⌝ }
+    ensures { λ r. ⌜ ConstructCounted op a (getD (now (ends .entry)) (s .row) 0) s (now (regs .entry)) (now (saved .entry)) (now (openers .entry)) (now (counts .entry)) r
+        (now (saved .exit)) (now (openers .exit)) (now (counts .exit)) ⌝ }
+{
+    let row = s.row;
+    let end = index(ends[row]);
+    let z = constructs::construct_row(regs, saved, openers, op, a, end, s);
+    layout::Next::Go(stepcounts::settle(counts, op, s.mask, z))
+}
+
 // After a barrier that lets the run go on: where all have passed it, the next interval starts at the row behind it, and the log of the global cells is
 // cleared too; the group masks stay.
 fn next_interval(
@@ -121,7 +179,8 @@ fn next_interval(
     }
 }
 
-fn barrier_row(
+// BARRIER.
+pub fn barrier_row(
     log: &mut [u32],
     shared: &mut [u32],
     records: &mut [u32],
@@ -145,68 +204,4 @@ fn barrier_row(
         }
         layout::Next::Stop(v, z) => layout::Next::Stop(v, z),
     }
-}
-
-// One row of this group. The op is told apart once, outside the loops over the threads.
-pub fn step(
-    table: &[u8],
-    ends: &[u8; 256],
-    n: u32,
-    regs: &mut [u32; 512],
-    cells: &mut [u32],
-    log: &mut [u32],
-    shared: &mut [u32],
-    global: usize,
-    saved: &mut [u32; 8],
-    openers: &mut [usize; 8],
-    counts: &mut [u32; 32],
-    stamps: &mut [u32; 1024],
-    memo: &mut [u32; 544],
-    records: &mut [u32],
-    group: u32,
-    s: layout::State,
-) -> layout::Next
-    requires { ⌜ Ready (now table) (now ends) n s (now regs) (now cells) (now log) (now saved) (now openers)
-        × Roomy (s .mask) (s .since + 1) (now counts) × Older (s .rows + 1) (now stamps) × Memo (now memo)
-        × (group < 8) × RecordAsks (s .barriers + group) (s .rows) (now records)
-        × (length (now shared) ≡ logPerCell * global) ⌝ }
-    ensures { λ r. ⌜ Steps (now (table .entry)) n s
-        (now (regs .entry)) (now (cells .entry)) (now (log .entry)) (now (saved .entry)) (now (openers .entry)) r
-        (now (regs .exit)) (now (cells .exit)) (now (log .exit)) (now (saved .exit)) (now (openers .exit))
-        × NextCounted (getD (now (table .entry)) (s .row * 4) 0) s r (now (counts .entry)) (now (counts .exit))
-        × RowRecorded (getD (now (table .entry)) (s .row * 4) 0) n group (cellDue (now (table .entry)) s (now (regs .entry))) s r
-        (now (records .entry)) (now (records .exit)) (now (stamps .exit)) (now (memo .exit))
-        × SharedLeft (getD (now (table .entry)) (s .row * 4) 0) s r (now (shared .entry)) (now (shared .exit)) ⌝ }
-{
-    let row = s.row;
-    let op = table[row * 4];
-    let d = index(table[row * 4 + 1]);
-    let a = index(table[row * 4 + 2]);
-    let b = index(table[row * 4 + 3]);
-    if op < 16 {
-        compute::compute_row(regs, n, s.mask, op, d, a, b);
-        return layout::Next::Go(constructs::moved(s));
-    }
-    if op < 32 {
-        return access_row(
-            regs,
-            cells,
-            log,
-            stamps,
-            memo,
-            records,
-            n,
-            op,
-            d,
-            a,
-            group,
-            s,
-        );
-    }
-    if op < 37 {
-        let end = index(ends[row]);
-        let z = constructs::construct_row(regs, saved, openers, op, a, end, s);
-        return layout::Next::Go(stepcounts::settle(counts, op, s.mask, z));
-    }
-    barrier_row(log, shared, records, cells.len(), global, n, group, s)
 }

@@ -1,4 +1,5 @@
-//! The kernels that are measured. All of them loop for ever, so that the limit says how many rows are run.
+//! The kernels that are measured. Those of one group loop for ever, so that the limit says how many rows are run; those of several make a
+//! number of rounds, so that each group comes to its end.
 
 use checker::op;
 
@@ -229,4 +230,47 @@ pub(crate) fn barrier_behind_all() -> Vec<Row> {
 pub(crate) fn largest() -> Vec<Row> {
     let body: Vec<Row> = COMPUTE.into_iter().cycle().take(256 - 5).collect();
     endless(&body)
+}
+
+/// Rows of a group that makes its rounds, about as many as eight groups have under the limit.
+const GROUP_ROWS: usize = 120_000;
+
+/// A loop around `body` that ends: three rows are the loop's.
+fn rounds(body: &[Row]) -> Vec<Row> {
+    let count = (GROUP_ROWS / (body.len() + 3)) as u16;
+    let [low, high] = count.to_le_bytes();
+    let head = [
+        [op::TID, ME, 0, 0],
+        [op::SET, ONE, 1, 0],
+        [op::SET, LEFT, low, high],
+        [op::WHILE, 0, LEFT, 0],
+    ];
+    let next = [[op::SUB, LEFT, LEFT, ONE], [op::ENDWHILE, 0, 0, 0]];
+    [&head, body, &next].concat()
+}
+
+/// Each thread loads the global cell of its number in its group, which all groups load; a loop's three rows among 35.
+pub(crate) fn global_load() -> Vec<Row> {
+    rounds(&[[op::GLOBAL_LOAD, 3, ME, 0]; 32])
+}
+
+/// Each thread adds 1 to that cell, as all groups do; a loop's three rows among 35.
+pub(crate) fn global_add() -> Vec<Row> {
+    rounds(&[[op::GLOBAL_ADD, ME, ONE, 0]; 32])
+}
+
+/// Rows that compute; a loop's three rows among 35.
+pub(crate) fn arithmetic_rounds() -> Vec<Row> {
+    rounds(&COMPUTE.repeat(4))
+}
+
+/// Loads and stores of own cells; a loop's three rows among 35.
+pub(crate) fn load_store_rounds() -> Vec<Row> {
+    rounds(&ACCESS.repeat(16))
+}
+
+/// A BARRIER once in eight rows, of which three are the loop's.
+pub(crate) fn barrier_rounds() -> Vec<Row> {
+    let body: Vec<Row> = COMPUTE[..4].iter().copied().chain([BARRIER]).collect();
+    rounds(&body)
 }

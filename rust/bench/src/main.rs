@@ -5,7 +5,7 @@ mod measure;
 
 use std::time::Duration;
 
-use measure::Best;
+use measure::{Best, Shape};
 
 const THREADS: [u32; 6] = [1, 2, 4, 8, 16, 32];
 /// The barrier loop: this many rows in each round, two of them the loop's.
@@ -20,6 +20,8 @@ fn main() {
     cells();
     barriers();
     logged();
+    global();
+    groups();
 }
 
 fn loops() {
@@ -154,6 +156,44 @@ fn logged() {
         ),
     ] {
         speed(name, &measure::bare(rows, 32, cells));
+    }
+}
+
+/// Accesses to global cells by all groups.
+fn global() {
+    heading("global cells, 8 groups of 32 threads", "Mrows/s");
+    let shape = Shape {
+        cells: 1,
+        groups: 8,
+        global: 32,
+    };
+    for (name, rows) in [
+        ("load, the same cells", kernels::global_load()),
+        ("add, the same cells", kernels::global_add()),
+    ] {
+        speed(name, &measure::groups(&rows, shape, 1));
+    }
+}
+
+/// A launch of eight groups beside eight launches of one group, with as many rows.
+fn groups() {
+    for (name, rows) in [
+        ("arithmetic", kernels::arithmetic_rounds()),
+        ("load and store", kernels::load_store_rounds()),
+        ("a barrier every 8 rows", kernels::barrier_rounds()),
+    ] {
+        heading(&format!("groups, {name}"), "Mrows/s");
+        for (name, groups, launches) in [
+            ("8 groups in one launch", 8, 1),
+            ("8 launches of one group", 1, 8),
+        ] {
+            let shape = Shape {
+                cells: 32,
+                groups,
+                global: 0,
+            };
+            speed(name, &measure::groups(&rows, shape, launches));
+        }
     }
 }
 

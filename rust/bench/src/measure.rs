@@ -40,7 +40,91 @@ fn time(repeats: u32, run: &mut impl FnMut() -> u32) -> Duration {
     start.elapsed() / repeats
 }
 
-/// A bare launch of a million rows.
+/// The numbers of a launch of 32 threads a group but for its limit.
+#[derive(Clone, Copy)]
+pub(crate) struct Shape {
+    pub cells: u32,
+    pub groups: u32,
+    pub global: u32,
+}
+
+/// The words that one checker is lent for a launch of groups.
+struct Words {
+    cells: Vec<u32>,
+    global: Vec<u32>,
+    log: Vec<u32>,
+    records: Vec<u32>,
+    steps: [u32; sekufoyi::LENT_STEPS],
+}
+
+impl Words {
+    fn new(shape: Shape) -> Self {
+        let (own, global) = ((shape.groups * shape.cells) as usize, shape.global as usize);
+        Self {
+            cells: vec![0; own],
+            global: vec![0; global],
+            log: vec![0; checker::log_words(own + global)],
+            records: vec![0; sekufoyi::LENT_RECORDS],
+            steps: [0; sekufoyi::LENT_STEPS],
+        }
+    }
+}
+
+/// So many launches of groups of 32 threads, each group to its end. The rows are those of all launches.
+pub(crate) fn groups(rows: &[Row], shape: Shape, launches: u32) -> Best {
+    let table = rows.concat();
+    let Shape {
+        cells: own,
+        groups,
+        global: shared,
+    } = shape;
+    let (mut ours, mut theirs) = (Words::new(shape), Words::new(shape));
+    let measured = best(
+        1,
+        || {
+            let Words {
+                cells,
+                global,
+                log,
+                records,
+                steps,
+            } = &mut ours;
+            let launch = |_| {
+                let table = black_box(&table);
+                let outcome = sekufoyi::bare_launch(
+                    table, 32, own, groups, shared, LIMIT, cells, global, log, records, steps,
+                );
+                let outcome = outcome.expect("a sound launch");
+                assert_eq!(outcome.verdict, sekufoyi::Verdict::Passed);
+                outcome.rows
+            };
+            (0..launches).map(launch).sum()
+        },
+        || {
+            let Words {
+                cells,
+                global,
+                log,
+                records,
+                steps,
+            } = &mut theirs;
+            let launch = |_| {
+                let table = black_box(&table);
+                let outcome = checker::bare_launch(
+                    table, 32, own, groups, shared, LIMIT, cells, global, log, records, steps,
+                );
+                outcome.expect("a sound launch").rows
+            };
+            (0..launches).map(launch).sum()
+        },
+    );
+    assert_eq!(ours.global, theirs.global, "the same global cells");
+    assert_eq!(ours.steps, theirs.steps, "the same steps");
+    assert_eq!(ours.records, theirs.records, "the same records");
+    measured
+}
+
+/// A bare launch of a million rows, in one group without global cells.
 pub(crate) fn bare(rows: &[Row], threads: u32, cells: u32) -> Best {
     let table = rows.concat();
     let mut lent_cells = vec![0; cells as usize];
@@ -54,15 +138,37 @@ pub(crate) fn bare(rows: &[Row], threads: u32, cells: u32) -> Best {
         || {
             let (table, lent, log) = (black_box(&table), &mut our_cells, &mut our_log);
             let (list, steps) = (&mut our_records, &mut our_steps);
-            let outcome =
-                sekufoyi::bare_launch(table, threads, cells, LIMIT, lent, log, list, steps);
+            let outcome = sekufoyi::bare_launch(
+                table,
+                threads,
+                cells,
+                1,
+                0,
+                LIMIT,
+                lent,
+                &mut [],
+                log,
+                list,
+                steps,
+            );
             outcome.expect("a sound launch").rows
         },
         || {
             let (table, lent, log) = (black_box(&table), &mut lent_cells, &mut lent_log);
             let (list, steps) = (&mut records, &mut steps);
-            let outcome =
-                checker::bare_launch(table, threads, cells, LIMIT, lent, log, list, steps);
+            let outcome = checker::bare_launch(
+                table,
+                threads,
+                cells,
+                1,
+                0,
+                LIMIT,
+                lent,
+                &mut [],
+                log,
+                list,
+                steps,
+            );
             outcome.expect("a sound launch").rows
         },
     );
@@ -76,6 +182,8 @@ pub(crate) fn bare(rows: &[Row], threads: u32, cells: u32) -> Best {
 pub(crate) fn file(rows: &[Row], limit: u32, repeats: u32) -> Best {
     let file = launch_file(rows, limit);
     let (mut cells, mut log) = (vec![0; checker::LENT_CELLS], vec![0; checker::LENT_LOG]);
+    let mut global = vec![0; checker::LENT_GLOBAL];
+    let mut our_global = global.clone();
     let mut records = vec![0; checker::INTERVAL_WORDS];
     let mut output = vec![0; checker::REPORT_ROOM];
     let (mut our_cells, mut our_log) = (cells.clone(), log.clone());
@@ -84,14 +192,14 @@ pub(crate) fn file(rows: &[Row], limit: u32, repeats: u32) -> Best {
         repeats,
         || {
             let (file, cells, log) = (black_box(&file), &mut our_cells, &mut our_log);
-            let (list, output) = (&mut our_records, &mut our_output);
-            sekufoyi::check_file(file, cells, log, list, output).expect("a sound file");
+            let (global, list, output) = (&mut our_global, &mut our_records, &mut our_output);
+            sekufoyi::check_file(file, cells, global, log, list, output).expect("a sound file");
             limit
         },
         || {
             let (file, cells, log) = (black_box(&file), &mut cells, &mut log);
-            let (list, output) = (&mut records, &mut output);
-            checker::check_file(file, cells, log, list, output).expect("a sound file");
+            let (global, list, output) = (&mut global, &mut records, &mut output);
+            checker::check_file(file, cells, global, log, list, output).expect("a sound file");
             limit
         },
     );
@@ -102,7 +210,8 @@ pub(crate) fn file(rows: &[Row], limit: u32, repeats: u32) -> Best {
 
 fn launch_file(rows: &[Row], limit: u32) -> Vec<u8> {
     let count = rows.len();
-    let mut text = format!("kernel=1\nthreads=32\ncells=1024\nlimit={limit}\nrows={count}\n");
+    let mut text = "kernel=1\nthreads=32\ncells=1024\ngroups=1\nglobal=0\n".to_string();
+    text += &format!("limit={limit}\nrows={count}\n");
     for [op, d, a, b] in rows {
         text += &format!("row={op},{d},{a},{b}\n");
     }

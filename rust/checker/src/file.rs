@@ -1,21 +1,28 @@
 //! "The launch file": its lines, read once from top to bottom.
 
 use crate::limits::{
-    check_cells, check_limit, check_rows, check_threads, number, Refusal, MAX_FILE,
+    check_all_cells, check_cells, check_groups, check_limit, check_rows, check_threads, number,
+    Refusal, MAX_FILE,
 };
 use crate::table::{decode, Program};
 
 /// A launch as a file gives it, all of it in range.
 #[derive(Clone, Debug, PartialEq, Eq)]
 pub struct Launch {
-    /// Threads, 1 to 32.
+    /// Threads of each group, 1 to 32.
     pub threads: u32,
+    /// Groups, 1 to 8.
+    pub groups: u32,
     /// Rows that may be run.
     pub limit: u32,
     /// Four bytes a row.
     pub table: Vec<u8>,
-    /// The cells at the start, 1 to 1,024.
+    /// Own cells of each group, at least 1.
+    pub cells_each: u32,
+    /// All groups' own cells at the start, group 0's first.
     pub cells: Vec<u32>,
+    /// The global cells at the start, with the own ones at most 1,024.
+    pub global: Vec<u32>,
 }
 
 /// Reads a launch file: refusal 12, then line by line, then 3 to 7 by row.
@@ -50,27 +57,32 @@ impl<'a> Lines<'a> {
         self.exact(b"kernel", b"1")?;
         let (threads, line) = self.number(b"threads")?;
         check_threads(threads, line)?;
-        let (count, line) = self.number(b"cells")?;
-        check_cells(count, line)?;
+        let (cells_each, line) = self.number(b"cells")?;
+        check_cells(cells_each, line)?;
+        let (groups, line) = self.number(b"groups")?;
+        check_groups(groups, line)?;
+        let (global, line) = self.number(b"global")?;
+        check_all_cells(groups, cells_each, global, line)?;
         let (limit, line) = self.number(b"limit")?;
         check_limit(limit, line)?;
         let (rows, line) = self.number(b"rows")?;
         check_rows(rows as usize, line)?;
         let mut table = Vec::with_capacity(4 * rows as usize);
         for _ in 0..rows {
-            table.extend(self.row()?);
+            table.extend(self.line(b"row", parse_row)?);
         }
-        let mut cells = Vec::with_capacity(count as usize);
-        for _ in 0..count {
-            cells.push(self.number(b"cell")?.0);
-        }
+        let cells = self.words(b"cell", groups * cells_each)?;
+        let global = self.words(b"gcell", global)?;
         self.exact(b"end", b"kernel")?;
         Refusal::unless(self.rest.is_empty(), number::LINE, self.due)?;
         Ok(Launch {
             threads,
+            groups,
             limit,
             table,
+            cells_each,
             cells,
+            global,
         })
     }
 
@@ -108,8 +120,9 @@ impl<'a> Lines<'a> {
         Ok((number, line))
     }
 
-    fn row(&mut self) -> Result<[u8; 4], Refusal> {
-        self.line(b"row", parse_row)
+    /// The numbers of so many lines.
+    fn words(&mut self, key: &[u8], count: u32) -> Result<Vec<u32>, Refusal> {
+        (0..count).map(|_| Ok(self.number(key)?.0)).collect()
     }
 }
 

@@ -23,7 +23,8 @@ pub(crate) struct Intervals<'a> {
 }
 
 impl<'a> Intervals<'a> {
-    /// Takes a list of at least 3,075 words. The launch starts an interval.
+    /// Takes a list of at least 3,075 words. The launch, with its group 0,
+    /// starts an interval.
     pub(crate) fn new(list: &'a mut [u32]) -> Self {
         Self {
             records: list.as_chunks_mut().0,
@@ -41,10 +42,11 @@ impl<'a> Intervals<'a> {
         self.conflicts += cost;
     }
 
-    /// A release: the interval ends with the row of number `rows`, and the next
-    /// starts at `row`. Where all records are in use, the last goes on.
+    /// A release or a later group's start: the interval ends with the row of
+    /// number `rows`, and the next starts at `row`. Where all records are in use,
+    /// the last goes on.
     #[inline(always)]
-    pub(crate) fn release(&mut self, rows: u32, row: usize) {
+    pub(crate) fn open(&mut self, rows: u32, row: usize) {
         if self.last + 1 < INTERVAL_RECORDS {
             self.record(rows);
             self.last += 1;
@@ -86,8 +88,8 @@ mod tests {
         let mut intervals = Intervals::new(&mut list);
         intervals.add(3);
         intervals.add(31);
-        intervals.release(5, 9);
-        intervals.release(6, 2);
+        intervals.open(5, 9);
+        intervals.open(6, 2);
         intervals.add(1);
         assert_eq!(intervals.finish(16), 35);
         assert_eq!(list[..10], [0, 5, 34, 9, 1, 0, 2, 10, 1, 7]);
@@ -99,7 +101,7 @@ mod tests {
         let mut intervals = Intervals::new(&mut list);
         for number in 1..=2_000 {
             intervals.add(1);
-            intervals.release(2 * number, number as usize);
+            intervals.open(2 * number, number as usize);
         }
         assert_eq!(intervals.finish(5_000), 2_000);
         assert_eq!(list[3_069..3_075], [1_023, 2, 1, 1_024, 2_952, 976]);

@@ -1,68 +1,133 @@
-//! "The lock-step run": predicated execution of one row at a time.
+//! "The lock-step run": predicated execution of one row at a time, group by
+//! group.
 
 use crate::banks;
 use crate::intervals::Intervals;
-use crate::limits::{MAX_NESTING, MAX_THREADS};
-use crate::memory::{Memory, Stop};
+use crate::limits::{MAX_LAUNCH_THREADS, MAX_NESTING};
+use crate::log::{GlobalMemory, Log, OwnMemory};
+use crate::memory::{Met, Stop};
 use crate::registers::{Enabled, Registers};
 use crate::steps::Steps;
-use crate::table::{Instr, Program};
+use crate::table::{Access, Instr, Program, Reg};
 use crate::verdict::{Outcome, Verdict};
 
-/// Runs a checked program for 1 to 32 threads over the lent cells and a log at
-/// least five times as long. Writes the records of intervals to the first words
-/// of `list`, and each thread's steps to those of `steps`. `at_barrier` sees the
-/// cells just before each counted barrier.
-#[allow(clippy::too_many_arguments)] // As the entries have them.
-pub(crate) fn run(
-    program: &Program,
-    threads: u32,
-    limit: u32,
-    cells: &mut [u32],
-    log: &mut [u32],
-    list: &mut [u32],
-    steps: &mut [u32; MAX_THREADS as usize],
-    at_barrier: impl FnMut(&[u32]),
-) -> Outcome {
-    let mut counting = Steps::new(threads, program.code().len());
-    let mut intervals = Intervals::new(list);
-    let (counted, recorded) = (&mut counting, &mut intervals);
-    let mut outcome = if program.adds() {
-        let memory = &mut Memory::<true>::new(cells, log);
-        let outcome = run_rows(
-            program, threads, limit, memory, counted, recorded, at_barrier,
-        );
-        memory.finish();
-        outcome
+/// A checked program, for 1 to 8 groups of 1 to 32 threads.
+#[derive(Clone, Copy)]
+pub(crate) struct Kernel<'a> {
+    pub program: &'a Program,
+    pub threads: u32,
+    pub groups: u32,
+    pub limit: u32,
+}
+
+/// What a run is lent.
+pub(crate) struct Lent<'a> {
+    /// Each group's own cells, as many for each.
+    pub cells: &'a mut [u32],
+    pub global: &'a mut [u32],
+    /// At least eight words for each of all these cells.
+    pub log: &'a mut [u32],
+    /// The list of intervals. Words behind the last record are kept.
+    pub list: &'a mut [u32],
+    /// By launch number; 0 behind the last one.
+    pub steps: &'a mut [u32; MAX_LAUNCH_THREADS],
+}
+
+/// Runs each group to its end, one after the other. `at_barrier` sees a group
+/// and its own cells just before each of its counted barriers.
+pub(crate) fn run(kernel: Kernel, lent: Lent, at_barrier: impl FnMut(u32, &[u32])) -> Outcome {
+    if kernel.program.adds() {
+        run_groups::<true>(kernel, lent, at_barrier)
     } else {
-        let memory = &mut Memory::<false>::new(cells, log);
-        let outcome = run_rows(
-            program, threads, limit, memory, counted, recorded, at_barrier,
-        );
-        memory.finish();
-        outcome
+        run_groups::<false>(kernel, lent, at_barrier)
+    }
+}
+
+fn run_groups<const ADDS: bool>(
+    kernel: Kernel,
+    lent: Lent,
+    mut at_barrier: impl FnMut(u32, &[u32]),
+) -> Outcome {
+    let (threads, groups) = (kernel.threads, kernel.groups);
+    let cells_each = lent.cells.len() / groups as usize;
+    let mut log = Log::new(lent.log, lent.cells.len(), lent.global.len());
+    let mut intervals = Intervals::new(lent.list);
+    lent.steps.fill(0);
+    let mut launch_numbers = lent.steps.chunks_exact_mut(threads as usize);
+    let mut outcome = Outcome {
+        verdict: Verdict::Passed,
+        group: 0,
+        rows: 0,
+        barriers: 0,
+        conflicts: 0, // known when the last interval ends
     };
-    counting.write(&mut steps[..threads as usize]);
+    for (number, cells) in (0..groups).zip(lent.cells.chunks_exact_mut(cells_each)) {
+        if number > 0 {
+            intervals.open(outcome.rows, 0);
+        }
+        outcome.group = number;
+        let (mut own, mut global) = log.memories::<ADDS>(number, cells, lent.global);
+        global.clear_log();
+        let mut steps = Steps::new(threads, kernel.program.code().len(), outcome.rows);
+        run_rows(
+            kernel,
+            &mut own,
+            &mut global,
+            &mut outcome,
+            &mut steps,
+            &mut intervals,
+            &mut at_barrier,
+        );
+        steps.write(launch_numbers.next().unwrap_or_default());
+        if outcome.verdict != Verdict::Passed {
+            break;
+        }
+    }
+    log.finish();
     outcome.conflicts = intervals.finish(outcome.rows);
     outcome
 }
 
+/// All of the global log but the group masks.
+#[inline(never)] // Mostly there are no global cells.
+fn clear_log_of(global: &mut GlobalMemory) {
+    global.clear_log();
+}
+
+/// A row's accesses to global cells.
+#[inline(never)] // The run's loop needs the machine's registers for itself.
+fn access_global(
+    global: &mut GlobalMemory,
+    access: Access,
+    registers: &mut Registers,
+    enabled: &Enabled,
+    (d, a): (Reg, Reg),
+) -> Result<(), Stop> {
+    match access {
+        Access::Load => global.load(registers, enabled, d, a),
+        Access::Store => global.store(registers, enabled, d, a),
+        Access::Add => global.atomic_add(registers, enabled, d, a),
+    }
+}
+
+/// Runs the outcome's group from row 0, with its own cells and the global ones.
+/// Rows and barriers are counted on from the groups before it.
 #[inline(never)] // Its loop needs the machine's registers for itself.
 fn run_rows<const ADDS: bool>(
-    program: &Program,
-    threads: u32,
-    limit: u32,
-    memory: &mut Memory<ADDS>,
+    kernel: Kernel,
+    own: &mut OwnMemory<ADDS>,
+    global: &mut GlobalMemory,
+    outcome: &mut Outcome,
     steps: &mut Steps,
     intervals: &mut Intervals,
-    mut at_barrier: impl FnMut(&[u32]),
-) -> Outcome {
-    let code = program.code();
+    at_barrier: &mut impl FnMut(u32, &[u32]),
+) {
+    let (code, threads, limit) = (kernel.program.code(), kernel.threads, kernel.limit);
     let mut registers = Registers::new(threads);
     let mut enabled = Enabled::all(threads);
     let mut saved = [0; MAX_NESTING];
     let mut from_end = false;
-    let (mut row, mut rows, mut barriers) = (0, 0, 0);
+    let (mut row, mut rows, mut barriers) = (0, outcome.rows, outcome.barriers);
 
     let verdict = loop {
         // The table's end is looked at before the limit.
@@ -75,6 +140,10 @@ fn run_rows<const ADDS: bool>(
         match instr {
             Instr::Set { d, value } => registers.fill(&enabled, d, |_| u32::from(value)),
             Instr::Tid { d } => registers.fill(&enabled, d, |thread| thread),
+            Instr::LaunchNumber { d } => {
+                let first = outcome.group * threads;
+                registers.fill(&enabled, d, |thread| first + thread);
+            }
             Instr::Count { d } => registers.fill(&enabled, d, |_| threads),
             Instr::Add(r) => registers.binary(&enabled, r, u32::wrapping_add),
             Instr::Sub(r) => registers.binary(&enabled, r, u32::wrapping_sub),
@@ -91,22 +160,28 @@ fn run_rows<const ADDS: bool>(
             Instr::Load { d, a } => {
                 // Taken first: the word loaded may go where the number was.
                 let cost = banks::cost(registers.lanes(a), enabled.mask());
-                if let Err(stop) = memory.load(&mut registers, &enabled, d, a) {
-                    break stopped(row, stop);
+                if let Err(stop) = own.load(&mut registers, &enabled, d, a) {
+                    break stopped(row, outcome.group, stop);
                 }
                 intervals.add(cost);
             }
             Instr::Store { d, a } => {
-                if let Err(stop) = memory.store(&registers, &enabled, d, a) {
-                    break stopped(row, stop);
+                if let Err(stop) = own.store(&registers, &enabled, d, a) {
+                    break stopped(row, outcome.group, stop);
                 }
                 intervals.add(banks::cost(registers.lanes(d), enabled.mask()));
             }
             Instr::AtomicAdd { d, a } => {
-                if let Err(stop) = memory.atomic_add(&registers, &enabled, d, a) {
-                    break stopped(row, stop);
+                if let Err(stop) = own.atomic_add(&registers, &enabled, d, a) {
+                    break stopped(row, outcome.group, stop);
                 }
                 intervals.add(banks::cost(registers.lanes(d), enabled.mask()));
+            }
+            // Global cells are in no bank.
+            Instr::Global { access, d, a } => {
+                if let Err(stop) = access_global(global, access, &mut registers, &enabled, (d, a)) {
+                    break stopped(row, outcome.group, stop);
+                }
             }
             Instr::If { a, level } => {
                 saved[slot(level)] = enabled.mask();
@@ -141,10 +216,13 @@ fn run_rows<const ADDS: bool>(
             }
             Instr::Barrier => {
                 if enabled.is_all() {
-                    at_barrier(memory.cells());
-                    memory.clear_log();
+                    at_barrier(outcome.group, own.cells());
+                    own.clear_log();
+                    if !global.cells().is_empty() {
+                        clear_log_of(global);
+                    }
                     barriers += 1;
-                    intervals.release(rows + 1, row + 1);
+                    intervals.open(rows + 1, row + 1);
                 } else if enabled.mask() != 0 {
                     break diverged(row, &enabled);
                 }
@@ -155,14 +233,8 @@ fn run_rows<const ADDS: bool>(
         row = row.wrapping_add(1);
     };
     steps.share_out(rows, enabled.mask(), row);
-    let outcome = Outcome {
-        verdict,
-        rows,
-        barriers,
-        conflicts: 0, // known when the last interval ends
-    };
-    step_stopped_row(&outcome, &enabled, steps);
-    outcome
+    (outcome.verdict, outcome.rows, outcome.barriers) = (verdict, rows, barriers);
+    step_stopped_row(outcome, &enabled, steps);
 }
 
 /// The steps of the threads that acted in a row before it stopped.
@@ -221,18 +293,23 @@ fn slt(x: u32, y: u32) -> u32 {
 
 #[cold]
 #[inline(never)]
-fn stopped(row: usize, stop: Stop) -> Verdict {
+fn stopped(row: usize, group: u32, stop: Stop) -> Verdict {
     let row = row as u32;
     let Stop { thread, at, .. } = stop;
-    match stop.conflict {
-        None => Verdict::Outside { row, thread, at },
-        Some((other, kind)) => Verdict::Race {
-            row,
-            thread,
-            other,
-            kind,
-            at,
-        },
+    let Some((met, kind)) = stop.conflict else {
+        return Verdict::Outside { row, thread, at };
+    };
+    let (other_group, other) = match met {
+        Met::Thread(other) => (group, Some(other)),
+        Met::Group(other_group) => (other_group, None),
+    };
+    Verdict::Race {
+        row,
+        other_group,
+        thread,
+        other,
+        kind,
+        at,
     }
 }
 

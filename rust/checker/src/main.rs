@@ -4,7 +4,8 @@ use std::io::{Read, Write};
 use std::process::ExitCode;
 
 use checker::{
-    check_file, write_report, Subject, INTERVAL_WORDS, LENT_CELLS, LENT_LOG, MAX_FILE, REPORT_ROOM,
+    check_file, write_report, Subject, INTERVAL_WORDS, LENT_CELLS, LENT_GLOBAL, LENT_LOG, MAX_FILE,
+    REPORT_ROOM,
 };
 
 fn main() -> ExitCode {
@@ -28,10 +29,12 @@ fn read_input() -> std::io::Result<Vec<u8>> {
 }
 
 fn report(file: &[u8]) -> Vec<u8> {
-    let (mut cells, mut log) = (vec![0; LENT_CELLS], vec![0; LENT_LOG]);
-    let (mut intervals, mut out) = (vec![0; INTERVAL_WORDS], vec![0; REPORT_ROOM]);
-    let written = check_file(file, &mut cells, &mut log, &mut intervals, &mut out)
-        .or_else(|refusal| write_report(Subject::Refused(refusal), &[], &[], &mut out));
+    let (mut cells, mut global) = (vec![0; LENT_CELLS], vec![0; LENT_GLOBAL]);
+    let (mut log, mut list) = (vec![0; LENT_LOG], vec![0; INTERVAL_WORDS]);
+    let mut out = vec![0; REPORT_ROOM];
+    let checked = check_file(file, &mut cells, &mut global, &mut log, &mut list, &mut out);
+    let written =
+        checked.or_else(|refusal| write_report(Subject::Refused(refusal), &[], &[], &[], &mut out));
     // Neither can fail with these buffers; an empty report would say so.
     out.truncate(written.unwrap_or(0));
     out

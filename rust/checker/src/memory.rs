@@ -1,46 +1,58 @@
 //! Cells and their access log: who read, who wrote and who added to each cell
 //! since the last counted barrier, what was stored first, and whether all
-//! stores were equal ("The lock-step run", and items 1 and 6).
+//! stores were equal ("The lock-step run", and items 1 and 6). A group's own
+//! cells and the global ones are kept alike; what other groups did to a global
+//! cell is in `groups`.
 
-use crate::limits::log_words;
+use crate::groups::Groups;
 use crate::registers::{Bits, Enabled, Registers};
 use crate::table::Reg;
 use crate::verdict::AccessKind;
+
+/// Whom a racing access conflicts with.
+#[derive(Clone, Copy)]
+pub(crate) enum Met {
+    /// A thread of the own group, by its number there.
+    Thread(u32),
+    /// Another group.
+    Group(u32),
+}
+
+/// An access that conflicts: the lowest it conflicts with, and how.
+pub(crate) type Conflict = (Met, AccessKind);
 
 /// A row's access that stops the run. The threads below `thread` have acted.
 pub(crate) struct Stop {
     pub thread: u32,
     pub at: u32,
-    /// The lowest conflicting thread; none where the access is outside.
-    pub conflict: Option<(u32, AccessKind)>,
+    /// None where the access is outside.
+    pub conflict: Option<Conflict>,
 }
 
-/// The lent cells and log: all reader masks, all writer masks, all adder masks,
-/// all first values, then all marks. A kernel without ATOMIC ADD has `ADDS`
-/// false: its adder masks stay 0, and loads, stores and barriers are spared
-/// them.
+/// Kinds of words in a group's log of some cells.
+pub(crate) const GROUP_KINDS: usize = 5;
+
+/// Some cells and a group's log of them: reader masks, writer masks, adder
+/// masks, first values and marks. A kernel without ATOMIC ADD has `ADDS` false
+/// for its own cells: their adder masks stay 0, and loads, stores and barriers
+/// are spared them.
 ///
 /// First value and mark of a cell without a writer decide nothing. They may be
 /// anything until the run's end, so that a barrier is spared them.
-pub(crate) struct Memory<'a, const ADDS: bool> {
+pub(crate) struct Memory<'a, const ADDS: bool, G> {
     cells: &'a mut [u32],
     readers: &'a mut [u32],
     writers: &'a mut [u32],
     adders: &'a mut [u32],
     firsts: &'a mut [u32],
     marks: &'a mut [u32],
+    groups: G,
 }
 
-impl<'a, const ADDS: bool> Memory<'a, ADDS> {
-    /// Takes a log at least five times as long as the cells, and clears its
-    /// masks.
-    pub(crate) fn new(cells: &'a mut [u32], log: &'a mut [u32]) -> Self {
-        let count = cells.len();
-        let (masks, rest) = log[..log_words(count)].split_at_mut(3 * count);
-        masks.fill(0);
-        let (readers, masks) = masks.split_at_mut(count);
-        let (writers, adders) = masks.split_at_mut(count);
-        let (firsts, marks) = rest.split_at_mut(count);
+impl<'a, const ADDS: bool, G: Groups> Memory<'a, ADDS, G> {
+    /// Takes as many words of each kind as there are cells.
+    pub(crate) fn new(cells: &'a mut [u32], log: [&'a mut [u32]; GROUP_KINDS], groups: G) -> Self {
+        let [readers, writers, adders, firsts, marks] = log;
         Self {
             cells,
             readers,
@@ -48,6 +60,7 @@ impl<'a, const ADDS: bool> Memory<'a, ADDS> {
             adders,
             firsts,
             marks,
+            groups,
         }
     }
 
@@ -55,22 +68,13 @@ impl<'a, const ADDS: bool> Memory<'a, ADDS> {
         self.cells
     }
 
+    /// What other groups did stays.
+    #[inline(always)]
     pub(crate) fn clear_log(&mut self) {
         self.readers.fill(0);
         self.writers.fill(0);
         if ADDS {
             self.adders.fill(0);
-        }
-    }
-
-    /// Clears first values and marks where nobody has stored since the last
-    /// counted barrier. The log is then as the run leaves it.
-    pub(crate) fn finish(&mut self) {
-        let stores = self.firsts.iter_mut().zip(self.marks.iter_mut());
-        for (&writers, (first, mark)) in self.writers.iter().zip(stores) {
-            let kept = if writers == 0 { 0 } else { u32::MAX };
-            *first &= kept;
-            *mark &= kept;
         }
     }
 
@@ -99,6 +103,8 @@ impl<'a, const ADDS: bool> Memory<'a, ADDS> {
             if writers[cell] | added | me != me {
                 return Err(self.load_race(thread, at));
             }
+            let let_through = self.groups.load(cell);
+            let_through.map_err(|conflict| race(thread, at, conflict))?;
             readers[cell] |= me;
             registers.put(d, thread, cells[cell]);
         }
@@ -131,6 +137,10 @@ impl<'a, const ADDS: bool> Memory<'a, ADDS> {
             let value = registers.get(a, thread);
             let added = if ADDS { adders[cell] } else { 0 };
             let (met, stored) = (readers[cell] | added, writers[cell]);
+            let beside_groups = |groups: &mut G| {
+                let let_through = groups.store(cell);
+                let_through.map_err(|conflict| race(thread, at, conflict))
+            };
             // Mostly nobody else was here. Then few words are looked at.
             if met | stored | me != me {
                 let equal = firsts[cell] == value && marks[cell] == 0;
@@ -138,11 +148,15 @@ impl<'a, const ADDS: bool> Memory<'a, ADDS> {
                     let unequal = if equal { 0 } else { stored };
                     return Err(self.store_race(thread, at, unequal));
                 }
+                beside_groups(&mut self.groups)?;
                 writers[cell] = stored | me;
-            } else if stored == 0 {
-                (writers[cell], firsts[cell], marks[cell]) = (me, value, 0);
-            } else if firsts[cell] != value {
-                marks[cell] = 1;
+            } else {
+                beside_groups(&mut self.groups)?;
+                if stored == 0 {
+                    (writers[cell], firsts[cell], marks[cell]) = (me, value, 0);
+                } else if firsts[cell] != value {
+                    marks[cell] = 1;
+                }
             }
             cells[cell] = value;
         }
@@ -175,6 +189,8 @@ impl<'a, const ADDS: bool> Memory<'a, ADDS> {
             if readers[cell] | writers[cell] | me != me {
                 return Err(self.add_race(thread, at));
             }
+            let let_through = self.groups.add(cell);
+            let_through.map_err(|conflict| race(thread, at, conflict))?;
             adders[cell] |= me;
             cells[cell] = cells[cell].wrapping_add(registers.get(a, thread));
         }
@@ -186,7 +202,7 @@ impl<'a, const ADDS: bool> Memory<'a, ADDS> {
         let cell = at as usize;
         let written = (self.writers[cell], AccessKind::Wr);
         let added = (self.adders[cell], AccessKind::Ar);
-        race(thread, at, &[written, added])
+        thread_race(thread, at, &[written, added])
     }
 
     /// `unequal` are the writers, unless all stores are equal.
@@ -196,7 +212,7 @@ impl<'a, const ADDS: bool> Memory<'a, ADDS> {
         let written = (unequal, AccessKind::Ww);
         let added = (self.adders[cell], AccessKind::Aw);
         let read = (self.readers[cell], AccessKind::Rw);
-        race(thread, at, &[written, added, read])
+        thread_race(thread, at, &[written, added, read])
     }
 
     #[cold]
@@ -204,22 +220,36 @@ impl<'a, const ADDS: bool> Memory<'a, ADDS> {
         let cell = at as usize;
         let written = (self.writers[cell], AccessKind::Wa);
         let read = (self.readers[cell], AccessKind::Ra);
-        race(thread, at, &[written, read])
+        thread_race(thread, at, &[written, read])
     }
 }
 
-/// The masks are those of the accesses that conflict, in the order in which
-/// they are shown; the lowest thread of them all is the other.
-fn race(thread: u32, at: u32, masks: &[(u32, AccessKind)]) -> Stop {
-    let others = !(1 << thread);
+/// The lowest of all numbers in the masks but for the acting one's own, and how
+/// it conflicts. The masks are those of the accesses that conflict, in the
+/// order in which they are shown.
+pub(crate) fn lowest_met(own: u32, masks: &[(u32, AccessKind)]) -> Option<(u32, AccessKind)> {
+    let others = !(1 << own);
     let all = masks.iter().fold(0, |all, (mask, _)| all | mask & others);
     let lowest = all & all.wrapping_neg();
     let shown = masks.iter().find(|(mask, _)| mask & lowest != 0);
-    let conflict = shown.map(|&(_, kind)| (lowest.trailing_zeros(), kind));
+    shown.map(|&(_, kind)| (lowest.trailing_zeros(), kind))
+}
+
+fn thread_race(thread: u32, at: u32, masks: &[(u32, AccessKind)]) -> Stop {
+    let conflict = lowest_met(thread, masks).map(|(other, kind)| (Met::Thread(other), kind));
     Stop {
         thread,
         at,
         conflict,
+    }
+}
+
+#[cold]
+fn race(thread: u32, at: u32, conflict: Conflict) -> Stop {
+    Stop {
+        thread,
+        at,
+        conflict: Some(conflict),
     }
 }
 

@@ -13,28 +13,34 @@ pub enum Subject {
 }
 
 /// Writes the report of `subject` to the start of `out` and gives its length.
-/// Steps, one count for each thread, and cells belong to a launch that ran and
-/// are not looked at otherwise.
+/// Steps, one count for each thread by launch number, own cells of all groups
+/// and global cells belong to a launch that ran and are not looked at otherwise.
 pub fn write_report(
     subject: Subject,
     steps: &[u32],
     cells: &[u32],
+    global: &[u32],
     out: &mut [u8],
 ) -> Result<usize, Refusal> {
     if let Subject::Ran(_) = subject {
-        check_report_lines(steps.len(), cells.len())?;
+        // Two slices of words never have so many that their sum would wrap.
+        check_report_lines(steps.len(), cells.len() + global.len())?;
     }
+    let lists = [("steps", steps), ("cell", cells), ("gcell", global)];
     let mut needed = 0;
-    each_line(subject, steps, cells, |key, value| {
+    each_line(subject, lists, |key, value| {
         needed += line_len(key, value);
     });
     let short = Refusal::new(number::REPORT_BUFFER, needed as u32);
     let mut rest = out.get_mut(..needed).ok_or(short)?;
-    each_line(subject, steps, cells, |key, value| {
+    each_line(subject, lists, |key, value| {
         rest = write_line(std::mem::take(&mut rest), key, value);
     });
     Ok(needed)
 }
+
+/// A line's key, and the numbers for which it is repeated.
+type List<'a> = (&'static str, &'a [u32]);
 
 /// A line's value.
 #[derive(Clone, Copy)]
@@ -50,6 +56,8 @@ const HYPHEN: Value = Value::Word("-");
 struct Head {
     verdict: &'static str,
     row: Value,
+    group: Value,
+    other_group: Value,
     thread: Value,
     other: Value,
     kind: Value,
@@ -57,10 +65,12 @@ struct Head {
 }
 
 impl Head {
-    const fn bare(verdict: &'static str) -> Self {
+    const fn passed() -> Self {
         Self {
-            verdict,
+            verdict: "passed",
             row: HYPHEN,
+            group: HYPHEN,
+            other_group: HYPHEN,
             thread: HYPHEN,
             other: HYPHEN,
             kind: HYPHEN,
@@ -68,39 +78,48 @@ impl Head {
         }
     }
 
-    const fn of(verdict: Verdict) -> Self {
-        match verdict {
-            Verdict::Passed => Self::bare("passed"),
+    const fn stopped(verdict: &'static str, row: u32, group: u32) -> Self {
+        Self {
+            verdict,
+            row: Value::Number(row),
+            group: Value::Number(group),
+            ..Self::passed()
+        }
+    }
+
+    const fn of(outcome: &Outcome) -> Self {
+        let group = outcome.group;
+        match outcome.verdict {
+            Verdict::Passed => Self::passed(),
             Verdict::Race {
                 row,
+                other_group,
                 thread,
                 other,
                 kind,
                 at,
             } => Self {
-                verdict: "race",
-                row: Value::Number(row),
+                other_group: Value::Number(other_group),
                 thread: Value::Number(thread),
-                other: Value::Number(other),
+                other: match other {
+                    Some(other) => Value::Number(other),
+                    None => HYPHEN,
+                },
                 kind: Value::Word(kind_word(kind)),
                 at: Value::Number(at),
+                ..Self::stopped("race", row, group)
             },
             Verdict::Outside { row, thread, at } => Self {
-                row: Value::Number(row),
                 thread: Value::Number(thread),
                 at: Value::Number(at),
-                ..Self::bare("outside")
+                ..Self::stopped("outside", row, group)
             },
             Verdict::Diverged { row, thread, other } => Self {
-                row: Value::Number(row),
                 thread: Value::Number(thread),
                 other: Value::Number(other),
-                ..Self::bare("diverged")
+                ..Self::stopped("diverged", row, group)
             },
-            Verdict::Spent { row } => Self {
-                row: Value::Number(row),
-                ..Self::bare("spent")
-            },
+            Verdict::Spent { row } => Self::stopped("spent", row, group),
         }
     }
 }
@@ -120,28 +139,26 @@ const fn kind_word(kind: AccessKind) -> &'static str {
 /// Gives every line of a report in order, for measuring and for writing.
 fn each_line(
     subject: Subject,
-    steps: &[u32],
-    cells: &[u32],
+    [steps, cells, global]: [List; 3],
     mut line: impl FnMut(&'static str, Value),
 ) {
     match subject {
         Subject::Ran(outcome) => {
-            let head = Head::of(outcome.verdict);
+            let head = Head::of(&outcome);
             line("verdict", Value::Word(head.verdict));
             line("row", head.row);
+            line("group", head.group);
+            line("othergroup", head.other_group);
             line("thread", head.thread);
             line("other", head.other);
             line("kind", head.kind);
             line("at", head.at);
             line("rows", Value::Number(outcome.rows));
-            for &count in steps {
-                line("steps", Value::Number(count));
-            }
+            each_number(steps, &mut line);
             line("barriers", Value::Number(outcome.barriers));
             line("conflicts", Value::Number(outcome.conflicts));
-            for &cell in cells {
-                line("cell", Value::Number(cell));
-            }
+            each_number(cells, &mut line);
+            each_number(global, &mut line);
         }
         Subject::Refused(refusal) => {
             line("refused", Value::Number(refusal.number));
@@ -149,6 +166,12 @@ fn each_line(
         }
     }
     line("end", Value::Word("report"));
+}
+
+fn each_number((key, numbers): List, line: &mut impl FnMut(&'static str, Value)) {
+    for &number in numbers {
+        line(key, Value::Number(number));
+    }
 }
 
 /// Key, `=`, value and line end.

@@ -1,4 +1,4 @@
-//! Steps of each thread. Between two changes of the enabled mask all rows are
+//! Steps of each thread of a group. Between two changes of the enabled mask all rows are
 //! stepped by the same threads, so rows are only numbered as they are finished,
 //! and shared out when the mask changes or the run ends.
 //!
@@ -36,15 +36,16 @@ pub(crate) struct Steps {
 }
 
 impl Steps {
-    /// For so many threads and a table of so many rows.
-    pub(crate) fn new(threads: u32, rows: usize) -> Self {
+    /// For so many threads and a table of so many rows. `done` rows were run by
+    /// groups before this one.
+    pub(crate) fn new(threads: u32, rows: usize, done: u32) -> Self {
         Self {
             lanes: [0; LANES],
             used: (threads as usize).div_ceil(WIDTH),
             waiting: [Waiting::default(); PLACES],
             // The table's end has a place too.
             places: PLACES.min(rows + 1),
-            done: 0,
+            done,
         }
     }
 
@@ -103,7 +104,7 @@ impl Steps {
         }
     }
 
-    /// Writes the count of each thread, thread 0 first.
+    /// Writes the count of each thread, the group's thread 0 first.
     pub(crate) fn write(&mut self, counts: &mut [u32]) {
         for place in 0..self.places {
             if self.waiting[place].count != 0 {
@@ -129,7 +130,7 @@ mod tests {
     #[test]
     fn rows_go_to_the_threads_that_were_enabled() {
         for threads in [3, 8, 9, 16, 17, 24, 25, 31, 32] {
-            let mut steps = Steps::new(threads, 9);
+            let mut steps = Steps::new(threads, 9, 0);
             steps.share_out(5, u32::MAX, 0);
             steps.share_out(12, 1 << (threads - 1) | 0b10, 1);
             steps.share_out(112, 0, 2);
@@ -142,7 +143,7 @@ mod tests {
 
     #[test]
     fn rows_that_share_a_place_are_kept_apart() {
-        let mut steps = Steps::new(2, 100);
+        let mut steps = Steps::new(2, 100, 0);
         let (row, other) = (3, 3 + PLACES);
         steps.share_out(1, 0b01, row);
         steps.share_out(11, 0b10, other);
@@ -154,7 +155,7 @@ mod tests {
 
     #[test]
     fn threads_that_leave_one_by_one_are_added_to_alone() {
-        let mut steps = Steps::new(3, 9);
+        let mut steps = Steps::new(3, 9, 0);
         for (rows, mask) in [
             (1, 0b111),
             (11, 0b101),
@@ -169,7 +170,7 @@ mod tests {
 
     #[test]
     fn a_row_left_out_is_nobodys() {
-        let mut steps = Steps::new(2, 9);
+        let mut steps = Steps::new(2, 9, 0);
         steps.leave_out_row();
         steps.share_out(1, 0b11, 0);
         steps.leave_out_row();
@@ -181,7 +182,15 @@ mod tests {
     #[test]
     fn only_as_many_words_are_written_as_asked_for() {
         let mut counts = [7; 4];
-        Steps::new(2, 9).write(&mut counts[..2]);
+        Steps::new(2, 9, 0).write(&mut counts[..2]);
         assert_eq!(counts, [0, 0, 7, 7]);
+    }
+
+    #[test]
+    fn rows_of_groups_before_are_nobodys() {
+        let mut steps = Steps::new(2, 9, 100);
+        steps.share_out(103, 0b01, 0);
+        steps.share_out(110, 0b11, 1);
+        assert_eq!(written(steps, 2), [10, 7]);
     }
 }

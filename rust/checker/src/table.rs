@@ -22,6 +22,10 @@ pub mod op {
     pub const LOAD: u8 = 16;
     pub const STORE: u8 = 17;
     pub const ATOMIC_ADD: u8 = 18;
+    pub const LAUNCH_NUMBER: u8 = 19;
+    pub const GLOBAL_LOAD: u8 = 20;
+    pub const GLOBAL_STORE: u8 = 21;
+    pub const GLOBAL_ADD: u8 = 22;
     pub const IF: u8 = 32;
     pub const ELSE: u8 = 33;
     pub const ENDIF: u8 = 34;
@@ -59,6 +63,10 @@ const fn forms() -> [Form; 256] {
     forms[op::LOAD as usize] = Form::Da;
     forms[op::STORE as usize] = Form::Da;
     forms[op::ATOMIC_ADD as usize] = Form::Da;
+    forms[op::LAUNCH_NUMBER as usize] = Form::D;
+    forms[op::GLOBAL_LOAD as usize] = Form::Da;
+    forms[op::GLOBAL_STORE as usize] = Form::Da;
+    forms[op::GLOBAL_ADD as usize] = Form::Da;
     forms[op::IF as usize] = Form::A;
     forms[op::WHILE as usize] = Form::A;
     forms[op::ELSE as usize] = Form::Nothing;
@@ -102,6 +110,14 @@ pub(crate) struct Dab {
     pub b: Reg,
 }
 
+/// What a row does to cells.
+#[derive(Clone, Copy, Debug, PartialEq, Eq)]
+pub(crate) enum Access {
+    Load,
+    Store,
+    Add,
+}
+
 /// A decoded row. `level` is the number of constructs around its own
 /// construct: the slot of that construct's saved mask.
 #[derive(Clone, Copy, Debug, PartialEq, Eq)]
@@ -136,6 +152,15 @@ pub(crate) enum Instr {
         a: Reg,
     },
     AtomicAdd {
+        d: Reg,
+        a: Reg,
+    },
+    LaunchNumber {
+        d: Reg,
+    },
+    /// An access to a global cell.
+    Global {
+        access: Access,
         d: Reg,
         a: Reg,
     },
@@ -175,7 +200,7 @@ impl Program {
         &self.rows[..self.len]
     }
 
-    /// Whether there is an ATOMIC ADD row.
+    /// Whether there is an ATOMIC ADD row, to own cells.
     pub(crate) fn adds(&self) -> bool {
         let is_add = |instr: &Instr| matches!(instr, Instr::AtomicAdd { .. });
         self.code().iter().any(is_add)
@@ -240,6 +265,7 @@ impl Decoder {
         let value = u16::from_le_bytes([a, b]);
         let (d, a, b) = (Reg(d), Reg(a), Reg(b));
         let dab = Dab { d, a, b };
+        let global = |access| Instr::Global { access, d, a };
         Ok(match code {
             op::SET => Instr::Set { d, value },
             op::TID => Instr::Tid { d },
@@ -258,6 +284,10 @@ impl Decoder {
             op::LOAD => Instr::Load { d, a },
             op::STORE => Instr::Store { d, a },
             op::ATOMIC_ADD => Instr::AtomicAdd { d, a },
+            op::LAUNCH_NUMBER => Instr::LaunchNumber { d },
+            op::GLOBAL_LOAD => global(Access::Load),
+            op::GLOBAL_STORE => global(Access::Store),
+            op::GLOBAL_ADD => global(Access::Add),
             op::IF => self.begin_if(row, a)?,
             op::ELSE => self.read_else(row)?,
             op::ENDIF => self.end_if(row)?,
@@ -335,7 +365,7 @@ mod tests {
     #[test]
     fn forms_cover_exactly_the_known_ops() {
         let known: Vec<usize> = (0..256).filter(|&i| FORMS[i] != Form::Unknown).collect();
-        let expected: Vec<usize> = (1..=14).chain(16..=18).chain(32..=37).collect();
+        let expected: Vec<usize> = (1..=14).chain(16..=22).chain(32..=37).collect();
         assert_eq!(known, expected);
     }
 

@@ -23,25 +23,27 @@ pub enum AccessKind {
     Aw,
 }
 
-/// How the run ended.
+/// How the run ended. Threads go by their numbers in their group.
 #[derive(Clone, Copy, Debug, PartialEq, Eq, Hash)]
 pub enum Verdict {
-    /// The table's end was reached.
+    /// Every group reached the table's end.
     Passed,
-    /// Two threads met at a cell.
+    /// Two threads of a group met at a cell, or two groups at a global one.
     Race {
         /// Where the run stopped.
         row: u32,
+        /// The acting thread's own group, or else the lowest conflicting one.
+        other_group: u32,
         /// The acting thread.
         thread: u32,
-        /// The lowest conflicting thread.
-        other: u32,
+        /// The lowest conflicting thread; none where it is of another group.
+        other: Option<u32>,
         /// How they conflict.
         kind: AccessKind,
         /// The cell.
         at: u32,
     },
-    /// An access outside the cells.
+    /// An access outside the group's own cells, or outside the global ones.
     Outside {
         /// Where the run stopped.
         row: u32,
@@ -50,7 +52,7 @@ pub enum Verdict {
         /// The number used.
         at: u32,
     },
-    /// A barrier that some, but not all, threads reached.
+    /// A barrier that some, but not all, threads of the group reached.
     Diverged {
         /// Where the run stopped.
         row: u32,
@@ -71,9 +73,11 @@ pub enum Verdict {
 pub struct Outcome {
     /// How the run ended.
     pub verdict: Verdict,
-    /// Rows finished.
+    /// The group in which it ended; of a launch that passed the last one.
+    pub group: u32,
+    /// Rows finished, by all groups.
     pub rows: u32,
-    /// Barriers that all threads passed.
+    /// Barriers that all threads of a group passed, in all groups.
     pub barriers: u32,
     /// Costs of all rows for bank conflicts.
     pub conflicts: u32,

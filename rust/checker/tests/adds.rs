@@ -2,7 +2,7 @@
 
 mod common;
 
-use checker::{check_file, AccessKind, Verdict, INTERVAL_WORDS, LENT_CELLS, LENT_LOG, REPORT_ROOM};
+use checker::{AccessKind, Verdict, INTERVAL_WORDS, LENT_CELLS, LENT_LOG, REPORT_ROOM};
 use common::*;
 
 /// Rows for one thread alone; R0 is then the thread's number.
@@ -26,8 +26,9 @@ fn meets(earlier: &[Row], last: Row) -> Verdict {
 fn race(earlier: &[Row], kind: AccessKind) -> Verdict {
     Verdict::Race {
         row: earlier.len() as u32 + 9,
+        other_group: 0,
         thread: 1,
-        other: 0,
+        other: Some(0),
         kind,
         at: 0,
     }
@@ -168,8 +169,9 @@ fn the_lowest_conflicting_thread_is_named() {
             let rows = [before.clone(), only(thread, &[last])].concat();
             let race = Verdict::Race {
                 row: 22,
+                other_group: 0,
                 thread: u32::from(thread),
-                other,
+                other: Some(other),
                 kind,
                 at: 0,
             };
@@ -209,8 +211,9 @@ fn an_own_access_beside_anothers_is_still_a_conflict() {
     let rows = [vec![tid(0), ADD], only(1, &[LOAD])].concat();
     let by = |kind| Verdict::Race {
         row: 6,
+        other_group: 0,
         thread: 1,
-        other: 0,
+        other: Some(0),
         kind,
         at: 0,
     };
@@ -239,8 +242,9 @@ fn a_skipped_barrier_leaves_the_adders() {
     let rows = [only(0, &[ADD]), skipped, only(1, &[LOAD])].concat();
     let race = Verdict::Race {
         row: 13,
+        other_group: 0,
         thread: 1,
-        other: 0,
+        other: Some(0),
         kind: AccessKind::Ar,
         at: 0,
     };
@@ -290,8 +294,9 @@ fn outside_comes_before_a_race() {
     let rows = |number: u16| [only(0, &[LOAD]), only(1, &[set(2, number), [18, 2, 0, 0]])].concat();
     let race = Verdict::Race {
         row: 11,
+        other_group: 0,
         thread: 1,
-        other: 0,
+        other: Some(0),
         kind: AccessKind::Ra,
         at: 0,
     };
@@ -310,8 +315,9 @@ fn a_racing_add_is_neither_made_nor_logged() {
     let rows = [only(1, &[LOAD]), vec![set(2, 5), atomic_add(15, 2)]].concat();
     let race = Verdict::Race {
         row: 7,
+        other_group: 0,
         thread: 0,
-        other: 1,
+        other: Some(1),
         kind: AccessKind::Ra,
         at: 0,
     };
@@ -323,8 +329,9 @@ fn a_racing_add_is_neither_made_nor_logged() {
     let rows = [only(0, &[LOAD]), vec![set(2, 5), atomic_add(15, 2)]].concat();
     let race = Verdict::Race {
         row: 7,
+        other_group: 0,
         thread: 1,
-        other: 0,
+        other: Some(0),
         kind: AccessKind::Ra,
         at: 0,
     };
@@ -365,20 +372,22 @@ fn reported(rows: &[Row]) -> (String, Vec<u32>, Vec<u32>) {
     let (mut cells, mut log) = (vec![5; LENT_CELLS], vec![6; LENT_LOG]);
     let (mut list, mut out) = (vec![JUNK; INTERVAL_WORDS], vec![b'?'; REPORT_ROOM]);
     let text = file(rows);
-    let len = check_file(text.as_bytes(), &mut cells, &mut log, &mut list, &mut out).unwrap();
+    let len =
+        check_without_global(text.as_bytes(), &mut cells, &mut log, &mut list, &mut out).unwrap();
     let report = String::from_utf8(out[..len].to_vec()).unwrap();
-    (report, cells[..2].to_vec(), log[..6].to_vec())
+    (report, cells[..2].to_vec(), log[..9].to_vec())
 }
 
 #[test]
 fn files_print_the_sum_and_pack_the_log() {
     let (report, cells, log) = reported(&[set(1, 3), atomic_add(15, 1)]);
-    let expected = "verdict=passed\nrow=-\nthread=-\nother=-\nkind=-\nat=-\n\
+    let expected =
+        "verdict=passed\nrow=-\ngroup=-\nothergroup=-\nthread=-\nother=-\nkind=-\nat=-\n\
         rows=2\nsteps=2\nsteps=2\nbarriers=0\nconflicts=0\ncell=6\nend=report\n";
     assert_eq!(report, expected);
     // One reader mask, one writer mask, one adder mask, a value and a mark, and
     // the rest is kept.
-    assert_eq!((cells, log), (vec![6, 5], vec![0, 0, 3, 0, 0, 6]));
+    assert_eq!((cells, log), (vec![6, 5], vec![0, 0, 3, 0, 0, 0, 0, 0, 6]));
 }
 
 #[test]
@@ -387,17 +396,21 @@ fn files_print_the_kind() {
     for (row, kind) in [(LOAD, "ar"), (STORE, "aw")] {
         let (report, cells, log) = reported(&[tid(0), ADD, row]);
         let expected = format!(
-            "verdict=race\nrow=2\nthread=0\nother=1\nkind={kind}\nat=0\n\
+            "verdict=race\nrow=2\ngroup=0\nothergroup=0\nthread=0\nother=1\nkind={kind}\nat=0\n\
              rows=2\nsteps=2\nsteps=2\nbarriers=0\nconflicts=0\ncell=1\nend=report\n"
         );
         assert_eq!(report, expected);
-        assert_eq!((cells, log), (vec![1, 5], vec![0, 0, 3, 0, 0, 6]));
+        assert_eq!((cells, log), (vec![1, 5], vec![0, 0, 3, 0, 0, 0, 0, 0, 6]));
     }
     let (report, _, log) = reported(&[LOAD, ADD]);
-    assert!(report.starts_with("verdict=race\nrow=1\nthread=0\nother=1\nkind=ra\nat=0\n"));
-    assert_eq!(log, [3, 0, 0, 0, 0, 6]);
+    assert!(report.starts_with(
+        "verdict=race\nrow=1\ngroup=0\nothergroup=0\nthread=0\nother=1\nkind=ra\nat=0\n"
+    ));
+    assert_eq!(log, [3, 0, 0, 0, 0, 0, 0, 0, 6]);
     let alone = [tid(0), if_(0), STORE, ENDIF, ADD];
     let (report, _, log) = reported(&alone);
-    assert!(report.starts_with("verdict=race\nrow=4\nthread=0\nother=1\nkind=wa\nat=0\n"));
-    assert_eq!(log, [0, 2, 0, 1, 0, 6]);
+    assert!(report.starts_with(
+        "verdict=race\nrow=4\ngroup=0\nothergroup=0\nthread=0\nother=1\nkind=wa\nat=0\n"
+    ));
+    assert_eq!(log, [0, 2, 0, 1, 0, 0, 0, 0, 6]);
 }

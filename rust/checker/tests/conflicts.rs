@@ -4,8 +4,8 @@
 mod common;
 
 use checker::{
-    bare_launch, check_file, number, observed_launch, Outcome, Refusal, Verdict, INTERVAL_RECORDS,
-    INTERVAL_WORDS, LENT_CELLS, LENT_LOG, REPORT_ROOM,
+    number, observed_launch, Outcome, Refusal, Verdict, INTERVAL_RECORDS, INTERVAL_WORDS,
+    LENT_CELLS, LENT_LOG, MAX_LAUNCH_THREADS, REPORT_ROOM,
 };
 use common::*;
 
@@ -27,10 +27,10 @@ type Record = [u32; 3];
 /// The outcome of a launch and the records used.
 /// All words behind the records must be kept.
 fn recorded(rows: &[Row], threads: u32, cells: &[u32], limit: u32) -> (Outcome, Vec<Record>) {
-    let (mut after, mut log) = (cells.to_vec(), vec![7; 5 * cells.len()]);
-    let (mut list, mut steps) = (vec![JUNK; INTERVAL_WORDS + 7], [JUNK; 32]);
+    let (mut after, mut log) = (cells.to_vec(), vec![7; 8 * cells.len()]);
+    let (mut list, mut steps) = (vec![JUNK; INTERVAL_WORDS + 7], [JUNK; MAX_LAUNCH_THREADS]);
     let (table, said) = (rows.concat(), cells.len() as u32);
-    let ran = bare_launch(
+    let ran = one_group(
         &table, threads, said, limit, &mut after, &mut log, &mut list, &mut steps,
     );
     let ran = ran.expect("a launch that isn't refused");
@@ -372,8 +372,9 @@ fn a_stopped_row_costs_nothing_and_is_no_row() {
         ran.verdict,
         Verdict::Race {
             row: 8,
+            other_group: 0,
             thread: 30,
-            other: 0,
+            other: Some(0),
             ..
         }
     ));
@@ -552,18 +553,21 @@ fn observed_launches_have_the_same_records() {
     let rows = [at_distance(16), vec![load(4, 3), BARRIER, load(4, 0)]]
         .concat()
         .concat();
-    let (mut cells, mut log, mut seen) = (vec![0; 64], vec![0; 320], 0);
-    let (mut list, mut steps) = (vec![JUNK; INTERVAL_WORDS], [JUNK; 32]);
+    let (mut cells, mut log, mut seen) = (vec![0; 64], vec![0; 512], 0);
+    let (mut list, mut steps) = (vec![JUNK; INTERVAL_WORDS], [JUNK; MAX_LAUNCH_THREADS]);
     let ran = observed_launch(
         &rows,
         4,
         64,
+        1,
+        0,
         99,
         &mut cells,
+        &mut [],
         &mut log,
         &mut list,
         &mut steps,
-        |_| seen += 1,
+        |_, _| seen += 1,
     );
     assert_eq!((ran.unwrap().conflicts, seen), (3, 1));
     assert_eq!(list[..7], [0, 5, 3, 5, 1, 0, JUNK]);
@@ -572,12 +576,15 @@ fn observed_launches_have_the_same_records() {
         &rows,
         4,
         64,
+        1,
+        0,
         99,
         &mut cells,
+        &mut [],
         &mut log,
         &mut list,
         &mut steps,
-        |_| seen += 1,
+        |_, _| seen += 1,
     );
     assert_eq!((refused.unwrap_err().number, seen), (30, 1));
 }
@@ -596,26 +603,29 @@ fn r30_where_fewer_than_3_075_words_are_lent() {
     for words in [
         0, 1, 2, 3, 6, 1_024, 1_025, 2_050, 3_071, 3_072, 3_073, 3_074,
     ] {
-        let (mut cells, mut log, mut steps) = ([5; 2], [6; 10], [JUNK; 32]);
+        let (mut cells, mut log, mut steps) = ([5; 2], [6; 16], [JUNK; MAX_LAUNCH_THREADS]);
         let mut list = vec![JUNK; words];
-        let found = bare_launch(
+        let found = one_group(
             &BARRIER, 1, 2, 9, &mut cells, &mut log, &mut list, &mut steps,
         );
         assert_eq!(found, Err(LENT), "{words}");
-        assert_eq!((cells, log, steps), ([5; 2], [6; 10], [JUNK; 32]));
+        assert_eq!(
+            (cells, log, steps),
+            ([5; 2], [6; 16], [JUNK; MAX_LAUNCH_THREADS])
+        );
         assert!(list.iter().all(|&word| word == JUNK));
     }
     for words in [3_075, 3_076, 3_077, 3_078, 6_150] {
         let mut list = vec![JUNK; words];
-        let found = bare_launch(
+        let found = one_group(
             &BARRIER,
             1,
             2,
             9,
             &mut [5; 2],
-            &mut [6; 10],
+            &mut [6; 16],
             &mut list,
-            &mut [JUNK; 32],
+            &mut [JUNK; MAX_LAUNCH_THREADS],
         );
         assert!(found.is_ok());
         assert_eq!(list[..7], [0, 1, 0, 1, 0, 0, JUNK]);
@@ -627,25 +637,25 @@ fn r30_where_fewer_than_3_075_words_are_lent() {
 fn r30_comes_behind_the_rows_and_20_and_21() {
     let bare = |table: &[u8], cells: usize, log: usize, words: usize| {
         let (mut cells, mut log) = (vec![5; cells], vec![6; log]);
-        let (mut list, mut steps) = (vec![JUNK; words], [JUNK; 32]);
-        let found = bare_launch(table, 1, 2, 9, &mut cells, &mut log, &mut list, &mut steps);
+        let (mut list, mut steps) = (vec![JUNK; words], [JUNK; MAX_LAUNCH_THREADS]);
+        let found = one_group(table, 1, 2, 9, &mut cells, &mut log, &mut list, &mut steps);
         assert!(list.iter().all(|&word| word == JUNK));
         found.unwrap_err().number
     };
-    assert_eq!(bare(&[99, 0, 0, 0], 2, 10, 0), 3);
-    assert_eq!(bare(&[], 1, 10, 3_074), 20);
-    assert_eq!(bare(&[], 2, 9, 3_074), 21);
-    assert_eq!(bare(&[], 2, 11, 0), 21);
-    assert_eq!(bare(&[], 2, 6, 0), 21);
-    assert_eq!(bare(&[], 2, 10, 3_074), 30);
+    assert_eq!(bare(&[99, 0, 0, 0], 2, 16, 0), 3);
+    assert_eq!(bare(&[], 1, 16, 3_074), 20);
+    assert_eq!(bare(&[], 2, 15, 3_074), 21);
+    assert_eq!(bare(&[], 2, 17, 0), 21);
+    assert_eq!(bare(&[], 2, 10, 0), 21);
+    assert_eq!(bare(&[], 2, 16, 3_074), 30);
 }
 
 #[test]
 fn r30_of_whole_files_comes_behind_21_and_before_24() {
     for (cells, log, words, room, expected) in [
-        (1_023, 5_120, 3_074, REPORT_ROOM, 20),
-        (LENT_CELLS, 5_119, 3_074, 0, 21),
-        (LENT_CELLS, 3_072, 3_074, 0, 21),
+        (1_023, 8_192, 3_074, REPORT_ROOM, 20),
+        (LENT_CELLS, 8_191, 3_074, 0, 21),
+        (LENT_CELLS, 5_120, 3_074, 0, 21),
         (LENT_CELLS, LENT_LOG, 3_074, REPORT_ROOM, 30),
         (LENT_CELLS, LENT_LOG, 3_074, REPORT_ROOM - 1, 30),
         (LENT_CELLS, LENT_LOG, 0, 0, 30),
@@ -656,13 +666,13 @@ fn r30_of_whole_files_comes_behind_21_and_before_24() {
     ] {
         let (mut cells, mut log) = (vec![5; cells], vec![6; log]);
         let (mut list, mut out) = (vec![JUNK; words], vec![b'?'; room]);
-        let found = check_file(P1.as_bytes(), &mut cells, &mut log, &mut list, &mut out);
+        let found = check_without_global(P1.as_bytes(), &mut cells, &mut log, &mut list, &mut out);
         let refusal = found.unwrap_err();
         assert_eq!((refusal.number, refusal.place), (expected, 0));
         assert!(cells.iter().all(|&word| word == 5) && log.iter().all(|&word| word == 6));
         assert!(list.iter().all(|&word| word == JUNK) && out.iter().all(|&byte| byte == b'?'));
         // The input's own faults come first.
-        let input = check_file(b"", &mut cells, &mut log, &mut list, &mut out);
+        let input = check_without_global(b"", &mut cells, &mut log, &mut list, &mut out);
         assert_eq!(input.unwrap_err().number, 11);
     }
 }
@@ -675,7 +685,8 @@ fn whole_files_write_the_records_and_keep_the_rest() {
     for words in [3_075, 3_080] {
         let (mut cells, mut log) = (vec![5; LENT_CELLS], vec![6; LENT_LOG]);
         let (mut list, mut out) = (vec![JUNK; words], vec![b'?'; REPORT_ROOM]);
-        let found = check_file(text.as_bytes(), &mut cells, &mut log, &mut list, &mut out);
+        let found =
+            check_without_global(text.as_bytes(), &mut cells, &mut log, &mut list, &mut out);
         assert!(found.is_ok());
         assert_eq!(list[..6], [0, 5, 0, 5, 3, 0]);
         assert!(list[6..].iter().all(|&word| word == JUNK));
@@ -706,12 +717,18 @@ fn the_widest_report_with_conflicts_fits_the_room() {
             thread: 10,
             other: 31,
         },
+        group: 7,
         rows: 1_000_000,
         barriers: 1_000_000,
         conflicts: u32::MAX,
     };
     let mut out = vec![b'?'; REPORT_ROOM];
     let subject = checker::Subject::Ran(widest);
-    let len = checker::write_report(subject, &[u32::MAX; 32], &[u32::MAX; 1_024], &mut out);
-    assert!(len.unwrap() < REPORT_ROOM);
+    let (steps, words) = ([u32::MAX; 256], [u32::MAX; 1_024]);
+    // A global cell's line is longer than that of an own one.
+    for global in [0, 1, 512, 1_023, 1_024] {
+        let (global, own) = words.split_at(global);
+        let len = checker::write_report(subject, &steps, own, global, &mut out);
+        assert!(len.unwrap() < REPORT_ROOM);
+    }
 }

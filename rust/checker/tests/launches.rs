@@ -2,7 +2,7 @@
 
 mod common;
 
-use checker::{observed_launch, AccessKind, Verdict, INTERVAL_WORDS};
+use checker::{observed_launch, AccessKind, Verdict, INTERVAL_WORDS, MAX_LAUNCH_THREADS};
 use common::*;
 
 fn p1_rows() -> Vec<Row> {
@@ -21,8 +21,9 @@ fn p1_rows() -> Vec<Row> {
 fn p1_races() {
     let race = Verdict::Race {
         row: 6,
+        other_group: 0,
         thread: 1,
-        other: 0,
+        other: Some(0),
         kind: AccessKind::Rw,
         at: 1,
     };
@@ -178,8 +179,9 @@ fn every_reader_of_a_cell_is_kept() {
     ];
     let race = Verdict::Race {
         row: 4,
+        other_group: 0,
         thread: 0,
-        other: 1,
+        other: Some(1),
         kind: AccessKind::Rw,
         at: 0,
     };
@@ -194,8 +196,9 @@ fn equal_stores_are_let_through_and_unequal_ones_race() {
     );
     let race = Verdict::Race {
         row: 1,
+        other_group: 0,
         thread: 1,
-        other: 0,
+        other: Some(0),
         kind: AccessKind::Ww,
         at: 0,
     };
@@ -211,8 +214,9 @@ fn a_load_of_anothers_store_races() {
     let rows = [tid(0), if_(0), store(1, 0), ELSE, load(2, 1), ENDIF];
     let race = Verdict::Race {
         row: 4,
+        other_group: 0,
         thread: 0,
-        other: 1,
+        other: Some(1),
         kind: AccessKind::Wr,
         at: 0,
     };
@@ -236,8 +240,9 @@ fn a_skipped_barrier_clears_no_log() {
     let found = run(&rows, 2, &[5], 99).0;
     let race = Verdict::Race {
         row: 7,
+        other_group: 0,
         thread: 0,
-        other: 1,
+        other: Some(1),
         kind: AccessKind::Wr,
         at: 0,
     };
@@ -313,20 +318,34 @@ fn a_loop_in_a_loop_saves_its_mask_anew() {
 #[test]
 fn barriers_are_observed_before_the_row_is_counted() {
     let rows = [tid(0), store(0, 0), BARRIER, BARRIER, store(0, 1)];
-    let (mut cells, mut log) = ([7, 7], [0; 10]);
+    let (mut cells, mut log) = ([7, 7], [0; 16]);
     let mut seen = Vec::new();
-    let (table, mut steps) = (rows.concat(), [JUNK; 32]);
+    let (table, mut steps) = (rows.concat(), [JUNK; MAX_LAUNCH_THREADS]);
     let (lent, log_lent) = (&mut cells, &mut log);
-    let (mut list, observe) = ([JUNK; INTERVAL_WORDS], |cells: &[u32]| {
+    let (mut list, observe) = ([JUNK; INTERVAL_WORDS], |group: u32, cells: &[u32]| {
+        assert_eq!(group, 0);
         seen.push(cells.to_vec());
     });
     let ran = observed_launch(
-        &table, 2, 2, 9, lent, log_lent, &mut list, &mut steps, observe,
+        &table,
+        2,
+        2,
+        1,
+        0,
+        9,
+        lent,
+        &mut [],
+        log_lent,
+        &mut list,
+        &mut steps,
+        observe,
     );
     let passed = outcome(Verdict::Passed, 5, &[3, 3], 2);
     assert_eq!(found(ran.unwrap(), 2, &steps), passed);
     assert_eq!(seen, [[0, 1], [0, 1]]);
-    assert_eq!((cells, log), ([0, 0], [0, 0, 1, 2, 0, 0, 0, 0, 0, 0]));
+    assert_eq!(cells, [0, 0]);
+    assert_eq!(log[..4], [0, 0, 1, 2]);
+    assert_eq!(log[4..], [0; 12]);
 }
 
 #[test]

@@ -2,7 +2,7 @@
 
 mod common;
 
-use checker::{bare_launch, check_file, Refusal, INTERVAL_WORDS};
+use checker::{Refusal, INTERVAL_WORDS, MAX_LAUNCH_THREADS};
 use common::*;
 
 fn refusal(number: u32, place: u32) -> Refusal {
@@ -17,12 +17,12 @@ fn p1_with(line: usize, text: &str) -> String {
 }
 
 fn bare(table: &[u8], threads: u32, cells: u32, limit: u32) -> Refusal {
-    let mut steps = [JUNK; 32];
+    let mut steps = [JUNK; MAX_LAUNCH_THREADS];
     let none = (&mut [], &mut [], &mut []);
-    let refused = bare_launch(
+    let refused = one_group(
         table, threads, cells, limit, none.0, none.1, none.2, &mut steps,
     );
-    assert_eq!(steps, [JUNK; 32]);
+    assert_eq!(steps, [JUNK; MAX_LAUNCH_THREADS]);
     refused.unwrap_err()
 }
 
@@ -43,40 +43,41 @@ fn bare_launches_in_order() {
 #[test]
 fn lent_buffers_fit_exactly() {
     for (cells, log, expected) in [
-        (1, 10, refusal(20, 0)),
-        (3, 9, refusal(20, 0)),
-        (2, 9, refusal(21, 0)),
-        (2, 11, refusal(21, 0)),
-        (2, 4, refusal(21, 0)), // twice the cells
-        (2, 6, refusal(21, 0)), // three times, as without values and marks
-        (2, 8, refusal(21, 0)), // one of them only
-        (2, 12, refusal(21, 0)),
+        (1, 16, refusal(20, 0)),
+        (3, 15, refusal(20, 0)),
+        (2, 15, refusal(21, 0)),
+        (2, 17, refusal(21, 0)),
+        (2, 4, refusal(21, 0)),  // twice the cells
+        (2, 6, refusal(21, 0)),  // three times, as without values and marks
+        (2, 10, refusal(21, 0)), // five times, as without group masks
+        (2, 14, refusal(21, 0)),
+        (2, 18, refusal(21, 0)),
         (2, 0, refusal(21, 0)),
     ] {
         let (mut lent_cells, mut lent_log) = (vec![5; cells], vec![6; log]);
-        let mut steps = [JUNK; 32];
+        let mut steps = [JUNK; MAX_LAUNCH_THREADS];
         let mut list = [JUNK; INTERVAL_WORDS];
         let (cells_lent, log_lent) = (&mut lent_cells, &mut lent_log);
-        let found = bare_launch(&[], 1, 2, 0, cells_lent, log_lent, &mut list, &mut steps);
-        assert_eq!((found, steps), (Err(expected), [JUNK; 32]));
+        let found = one_group(&[], 1, 2, 0, cells_lent, log_lent, &mut list, &mut steps);
+        assert_eq!((found, steps), (Err(expected), [JUNK; MAX_LAUNCH_THREADS]));
         assert_eq!(list, [JUNK; INTERVAL_WORDS]);
         assert_eq!((lent_cells, lent_log), (vec![5; cells], vec![6; log]));
     }
-    let (cells, log, list) = (&mut [5; 2], &mut [6; 10], &mut [7; INTERVAL_WORDS]);
-    let fitting = bare_launch(&[], 1, 2, 0, cells, log, list, &mut [0; 32]);
+    let (cells, log, list) = (&mut [5; 2], &mut [6; 16], &mut [7; INTERVAL_WORDS]);
+    let fitting = one_group(&[], 1, 2, 0, cells, log, list, &mut [0; MAX_LAUNCH_THREADS]);
     assert!(fitting.is_ok());
 }
 
 #[test]
 fn rows_3_unknown_op() {
-    for op in [0, 15, 19, 31, 38, 255] {
+    for op in [0, 15, 23, 31, 38, 255] {
         assert_eq!(refused(&[tid(0), [op, 255, 255, 255]]), refusal(3, 1));
     }
 }
 
 #[test]
 fn rows_4_operands() {
-    let wrong: [Row; 28] = [
+    let wrong: [Row; 40] = [
         [1, 16, 0, 0],
         [2, 16, 0, 0],
         [2, 0, 1, 0],
@@ -96,6 +97,18 @@ fn rows_4_operands() {
         [18, 0, 0, 1],
         [18, 0, 0, 16],
         [18, 15, 15, 255],
+        [19, 16, 0, 0],
+        [19, 0, 1, 0],
+        [19, 0, 0, 1],
+        [20, 16, 0, 0],
+        [20, 0, 16, 0],
+        [20, 0, 0, 1],
+        [21, 16, 0, 0],
+        [21, 0, 16, 0],
+        [21, 0, 0, 1],
+        [22, 16, 0, 0],
+        [22, 0, 16, 0],
+        [22, 0, 0, 1],
         [32, 1, 0, 0],
         [32, 0, 16, 0],
         [32, 0, 0, 1],
@@ -155,7 +168,7 @@ fn rows_7_left_open() {
 fn files_12_too_long() {
     let mut text = P1.to_string();
     text += &"x".repeat(32_768 - text.len());
-    assert_eq!(turned_back(&text), (11, 17));
+    assert_eq!(turned_back(&text), (11, 19));
     text.push('x');
     assert_eq!(turned_back(&text), (12, 0));
     assert_eq!(turned_back(&"\n".repeat(32_769)), (12, 0));
@@ -191,10 +204,10 @@ fn files_11_each_line_due() {
 
 #[test]
 fn files_11_behind_the_end() {
-    assert_eq!(turned_back(&format!("{P1}\n")), (11, 17));
-    assert_eq!(turned_back(&format!("{P1}x")), (11, 17));
-    assert_eq!(turned_back(&format!("{P1}\0")), (11, 17));
-    assert_eq!(turned_back(&p1_with(16, "end=kernelx")), (11, 16));
+    assert_eq!(turned_back(&format!("{P1}\n")), (11, 19));
+    assert_eq!(turned_back(&format!("{P1}x")), (11, 19));
+    assert_eq!(turned_back(&format!("{P1}\0")), (11, 19));
+    assert_eq!(turned_back(&p1_with(18, "end=kernelx")), (11, 18));
 }
 
 #[test]
@@ -202,9 +215,11 @@ fn files_11_numbers() {
     for (line, key) in [
         (2, "threads"),
         (3, "cells"),
-        (4, "limit"),
-        (5, "rows"),
-        (13, "cell"),
+        (4, "groups"),
+        (5, "global"),
+        (6, "limit"),
+        (7, "rows"),
+        (15, "cell"),
     ] {
         for value in [
             "",
@@ -230,7 +245,7 @@ fn files_11_numbers() {
         "2,,0,0",
         "2;0;0;0",
     ] {
-        assert_eq!(turned_back(&p1_with(6, &format!("row={value}"))), (11, 6));
+        assert_eq!(turned_back(&p1_with(8, &format!("row={value}"))), (11, 8));
     }
 }
 
@@ -245,11 +260,19 @@ fn files_8_9_10_2_at_their_lines() {
     for value in ["0", "1025", "4294967295"] {
         assert_eq!(turned_back(&p1_with(3, &format!("cells={value}"))), (9, 3));
     }
+    for value in ["0", "9", "4294967295"] {
+        let file = p1_with(4, &format!("groups={value}"));
+        assert_eq!(turned_back(&file), (32, 4));
+    }
+    for value in ["1022", "1024", "4294967293", "4294967295"] {
+        let file = p1_with(5, &format!("global={value}"));
+        assert_eq!(turned_back(&file), (33, 5));
+    }
     for value in ["1000001", "4294967295"] {
-        assert_eq!(turned_back(&p1_with(4, &format!("limit={value}"))), (10, 4));
+        assert_eq!(turned_back(&p1_with(6, &format!("limit={value}"))), (10, 6));
     }
     for value in ["257", "4294967295"] {
-        assert_eq!(turned_back(&p1_with(5, &format!("rows={value}"))), (2, 5));
+        assert_eq!(turned_back(&p1_with(7, &format!("rows={value}"))), (2, 7));
     }
     // Line by line: an early range comes before a later malformed line.
     let early = p1_with(2, "threads=33").replace("cells=3", "cells=x");
@@ -260,10 +283,10 @@ fn files_8_9_10_2_at_their_lines() {
 
 #[test]
 fn files_more_or_fewer_lines_than_said() {
-    assert_eq!(turned_back(&p1_with(5, "rows=6")), (11, 12));
-    assert_eq!(turned_back(&p1_with(5, "rows=8")), (11, 13));
-    assert_eq!(turned_back(&p1_with(3, "cells=2")), (11, 15));
-    assert_eq!(turned_back(&p1_with(3, "cells=4")), (11, 16));
+    assert_eq!(turned_back(&p1_with(7, "rows=6")), (11, 14));
+    assert_eq!(turned_back(&p1_with(7, "rows=8")), (11, 15));
+    assert_eq!(turned_back(&p1_with(3, "cells=2")), (11, 17));
+    assert_eq!(turned_back(&p1_with(3, "cells=4")), (11, 18));
 }
 
 #[test]
@@ -276,28 +299,30 @@ fn files_rows_come_after_all_lines_and_count_from_0() {
     assert_eq!(turned_back(&file(&nine)), (6, 8));
     assert_eq!(turned_back(&file(&[while_(0)])), (7, 0));
     let both = file(&[[99, 0, 0, 0]]).replace("cell=0", "cell=x");
-    assert_eq!(turned_back(&both), (11, 7));
+    assert_eq!(turned_back(&both), (11, 9));
 }
 
 #[test]
 fn whole_file_buffers() {
     for (cells, log, out, expected) in [
-        (1_023, 5_119, 0, 20),
-        (1_025, 5_120, 17_408, 20),
-        (3, 15, 17_408, 20),
-        (1_024, 5_119, 17_407, 21),
-        (1_024, 5_121, 17_408, 21),
-        (1_024, 2_048, 17_408, 21),
-        (1_024, 3_072, 17_408, 21),
-        (1_024, 4_096, 17_408, 21),
-        (1_024, 6_144, 17_408, 21),
-        (1_024, 15, 17_408, 21), // five times the file's own cells
-        (1_024, 5_120, 17_407, 24),
-        (1_024, 5_120, 0, 24),
+        (1_023, 8_191, 0, 20),
+        (1_025, 8_192, 24_576, 20),
+        (3, 24, 24_576, 20),
+        (1_024, 8_191, 24_575, 21),
+        (1_024, 8_193, 24_576, 21),
+        (1_024, 5_120, 24_576, 21),
+        (1_024, 2_048, 24_576, 21),
+        (1_024, 3_072, 24_576, 21),
+        (1_024, 4_096, 24_576, 21),
+        (1_024, 6_144, 24_576, 21),
+        (1_024, 24, 24_576, 21), // eight times the file's own cells
+        (1_024, 8_192, 24_575, 24),
+        (1_024, 8_192, 17_408, 24),
+        (1_024, 8_192, 0, 24),
     ] {
         let (mut lent_cells, mut lent_log, mut room) = (vec![5; cells], vec![6; log], vec![7; out]);
         let list = &mut [JUNK; INTERVAL_WORDS];
-        let found = check_file(
+        let found = check_without_global(
             P1.as_bytes(),
             &mut lent_cells,
             &mut lent_log,
@@ -305,7 +330,7 @@ fn whole_file_buffers() {
             &mut room,
         );
         assert_eq!(found, Err(refusal(expected, 0)));
-        let input = check_file(b"", &mut lent_cells, &mut lent_log, list, &mut room);
+        let input = check_without_global(b"", &mut lent_cells, &mut lent_log, list, &mut room);
         assert_eq!(list, &[JUNK; INTERVAL_WORDS]);
         assert_eq!(input, Err(refusal(11, 1)));
         assert_eq!(lent_cells, vec![5; cells]);

@@ -2,17 +2,17 @@
 
 mod common;
 
-use checker::{
-    check_file, write_report, AccessKind, Outcome, Refusal, Subject, Verdict, INTERVAL_WORDS,
-};
+use checker::{write_report, AccessKind, Outcome, Refusal, Subject, Verdict, INTERVAL_WORDS};
 use common::*;
 
-const P1_REPORT: &str = "verdict=race\nrow=6\nthread=1\nother=0\nkind=rw\nat=1\n\
+const P1_REPORT: &str =
+    "verdict=race\nrow=6\ngroup=0\nothergroup=0\nthread=1\nother=0\nkind=rw\nat=1\n\
     rows=6\nsteps=7\nsteps=6\nbarriers=0\nconflicts=0\ncell=2\ncell=1\ncell=1\nend=report\n";
 
 fn ran(verdict: Verdict) -> Subject {
     Subject::Ran(Outcome {
         verdict,
+        group: 0,
         rows: 1,
         barriers: 3,
         conflicts: 34,
@@ -20,8 +20,8 @@ fn ran(verdict: Verdict) -> Subject {
 }
 
 fn written(subject: Subject, steps: &[u32], cells: &[u32]) -> String {
-    let mut out = [b'?'; 1_024];
-    let len = write_report(subject, steps, cells, &mut out).unwrap();
+    let mut out = [b'?'; 4_096];
+    let len = write_report(subject, steps, cells, &[], &mut out).unwrap();
     assert!(out[len..].iter().all(|&byte| byte == b'?'));
     String::from_utf8(out[..len].to_vec()).unwrap()
 }
@@ -36,7 +36,7 @@ fn p2_prints_its_report() {
     let file = P1
         .replace("rows=7", "rows=8")
         .replace("row=16,4,0,0", "row=37,0,0,0\nrow=16,4,0,0");
-    let report = "verdict=passed\nrow=-\nthread=-\nother=-\nkind=-\nat=-\n\
+    let report = "verdict=passed\nrow=-\ngroup=-\nothergroup=-\nthread=-\nother=-\nkind=-\nat=-\n\
         rows=8\nsteps=7\nsteps=7\nbarriers=1\nconflicts=0\ncell=2\ncell=2\ncell=1\nend=report\n";
     assert_eq!(check(file.as_bytes()).unwrap(), report);
 }
@@ -57,12 +57,15 @@ fn hyphens_stand_for_lines_without_meaning() {
     for (kind, word) in kinds {
         let race = Verdict::Race {
             row,
+            other_group: 0,
             thread,
-            other,
+            other: Some(other),
             kind,
             at,
         };
-        let head = format!("verdict=race\nrow=4\nthread=5\nother=6\nkind={word}\nat=7\n");
+        let head = format!(
+            "verdict=race\nrow=4\ngroup=0\nothergroup=0\nthread=5\nother=6\nkind={word}\nat=7\n"
+        );
         assert_eq!(written(ran(race), &[2, 0], &[u32::MAX]), head + tail);
     }
     let outside = Verdict::Outside { row, thread, at };
@@ -70,19 +73,19 @@ fn hyphens_stand_for_lines_without_meaning() {
     for (verdict, head) in [
         (
             Verdict::Passed,
-            "verdict=passed\nrow=-\nthread=-\nother=-\nkind=-\nat=-\n",
+            "verdict=passed\nrow=-\ngroup=-\nothergroup=-\nthread=-\nother=-\nkind=-\nat=-\n",
         ),
         (
             outside,
-            "verdict=outside\nrow=4\nthread=5\nother=-\nkind=-\nat=7\n",
+            "verdict=outside\nrow=4\ngroup=0\nothergroup=-\nthread=5\nother=-\nkind=-\nat=7\n",
         ),
         (
             diverged,
-            "verdict=diverged\nrow=4\nthread=5\nother=6\nkind=-\nat=-\n",
+            "verdict=diverged\nrow=4\ngroup=0\nothergroup=-\nthread=5\nother=6\nkind=-\nat=-\n",
         ),
         (
             Verdict::Spent { row },
-            "verdict=spent\nrow=4\nthread=-\nother=-\nkind=-\nat=-\n",
+            "verdict=spent\nrow=4\ngroup=0\nothergroup=-\nthread=-\nother=-\nkind=-\nat=-\n",
         ),
     ] {
         let report = written(ran(verdict), &[2, 0], &[u32::MAX]);
@@ -101,7 +104,7 @@ fn refusals_have_a_report_without_cells() {
         let steps = vec![7; steps];
         assert_eq!(written(subject, &steps, &[]), report);
         assert_eq!(written(subject, &steps, &[0; 1_025]), report);
-        let short = write_report(subject, &steps, &[], &mut [0; 29]).unwrap_err();
+        let short = write_report(subject, &steps, &[], &[], &mut [0; 29]).unwrap_err();
         assert_eq!((short.number, short.place), (22, report.len() as u32));
     }
 }
@@ -111,7 +114,7 @@ fn refusals_have_a_report_without_cells() {
 fn refused(steps: usize, cells: usize, room: usize) -> (u32, u32) {
     let (steps, cells) = (vec![1; steps], vec![0; cells]);
     let mut out = vec![b'?'; room];
-    let refusal = write_report(ran(Verdict::Passed), &steps, &cells, &mut out).unwrap_err();
+    let refusal = write_report(ran(Verdict::Passed), &steps, &cells, &[], &mut out).unwrap_err();
     assert!(out.iter().all(|&byte| byte == b'?'));
     (refusal.number, refusal.place)
 }
@@ -119,12 +122,12 @@ fn refused(steps: usize, cells: usize, room: usize) -> (u32, u32) {
 #[test]
 fn r23_where_cells_or_counts_are_out_of_their_limits() {
     for room in [0, 30, 40_000] {
-        for steps in [0, 1, 2, 31, 32, 33, 64, 256, 1_024] {
+        for steps in [0, 1, 2, 32, 33, 256, 257, 1_024] {
             assert_eq!(refused(steps, 0, room), (23, 0));
             assert_eq!(refused(steps, 1_025, room), (23, 0));
         }
         for cells in [1, 2, 32, 33, 1_023, 1_024] {
-            for steps in [0, 33, 34, 64, 256, 1_024, 1_025] {
+            for steps in [0, 257, 258, 512, 1_024, 1_025] {
                 assert_eq!(refused(steps, cells, room), (23, 0));
             }
         }
@@ -132,12 +135,12 @@ fn r23_where_cells_or_counts_are_out_of_their_limits() {
 }
 
 #[test]
-fn every_number_of_counts_up_to_32_is_written_in_order() {
-    for threads in 1..=32 {
+fn every_number_of_counts_up_to_256_is_written_in_order() {
+    for threads in 1..=256 {
         let steps: Vec<u32> = (0..threads).map(|thread| 1_000 - thread).collect();
         let lines: String = steps.iter().map(|n| format!("steps={n}\n")).collect();
         let report = written(ran(Verdict::Spent { row: 0 }), &steps, &[9]);
-        let head = "verdict=spent\nrow=0\nthread=-\nother=-\nkind=-\nat=-\nrows=1\n";
+        let head = "verdict=spent\nrow=0\ngroup=0\nothergroup=-\nthread=-\nother=-\nkind=-\nat=-\nrows=1\n";
         let tail = "barriers=3\nconflicts=34\ncell=9\nend=report\n";
         assert_eq!(report, head.to_string() + &lines + tail);
     }
@@ -146,29 +149,33 @@ fn every_number_of_counts_up_to_32_is_written_in_order() {
 #[test]
 fn r22_names_the_length_needed() {
     let subject = ran(Verdict::Spent { row: 4 });
-    for (steps, cells) in [(1, 1), (32, 1), (1, 1_024), (32, 1_024)] {
+    for (steps, cells) in [(1, 1), (256, 1), (1, 1_024), (256, 1_024)] {
         let (steps, cells) = (vec![u32::MAX; steps], vec![u32::MAX; cells]);
-        let refusal = write_report(subject, &steps, &cells, &mut []).unwrap_err();
+        let refusal = write_report(subject, &steps, &cells, &[], &mut []).unwrap_err();
         assert_eq!(refusal.number, 22);
         let needed = refusal.place as usize;
-        assert!(needed <= 17_408);
+        assert!(needed <= 24_576);
         let mut out = vec![b'?'; needed - 1];
         assert_eq!(
-            write_report(subject, &steps, &cells, &mut out),
+            write_report(subject, &steps, &cells, &[], &mut out),
             Err(refusal)
         );
         assert!(out.iter().all(|&byte| byte == b'?'));
         out.push(b'?');
-        assert_eq!(write_report(subject, &steps, &cells, &mut out), Ok(needed));
+        assert_eq!(
+            write_report(subject, &steps, &cells, &[], &mut out),
+            Ok(needed)
+        );
         assert!(out.ends_with(b"end=report\n"));
     }
 }
 
 #[test]
 fn the_lent_log_is_packed_and_the_rest_kept() {
-    let (mut cells, mut log) = (vec![5; 1_024], vec![6; 5_120]);
-    let (mut list, mut out) = (vec![JUNK; INTERVAL_WORDS], vec![b'?'; 20_000]);
-    let len = check_file(P1.as_bytes(), &mut cells, &mut log, &mut list, &mut out).unwrap();
+    let (mut cells, mut log) = (vec![5; 1_024], vec![6; 8_192]);
+    let (mut list, mut out) = (vec![JUNK; INTERVAL_WORDS], vec![b'?'; 30_000]);
+    let len =
+        check_without_global(P1.as_bytes(), &mut cells, &mut log, &mut list, &mut out).unwrap();
     assert_eq!(&out[..len], P1_REPORT.as_bytes());
     assert!(out[len..].iter().all(|&byte| byte == b'?'));
     assert_eq!(&cells[..4], [2, 1, 1, 5]);
@@ -177,14 +184,16 @@ fn the_lent_log_is_packed_and_the_rest_kept() {
     // Nobody added, and there is no mark.
     assert_eq!(&log[..6], [0b01, 0b11, 0b10, 0b01, 0, 0]);
     assert_eq!(&log[6..15], [0, 0, 0, 2, 0, 0, 0, 0, 0]);
-    assert!(log[15..].iter().all(|&word| word == 6));
+    assert_eq!(&log[15..24], [0; 9]);
+    assert!(log[24..].iter().all(|&word| word == 6));
 }
 
 #[test]
 fn the_widest_report_fits_the_room() {
-    let mut file = "kernel=1\nthreads=32\ncells=1024\nlimit=1000000\nrows=0\n".to_string();
+    let mut file =
+        "kernel=1\nthreads=32\ncells=1024\ngroups=1\nglobal=0\nlimit=1000000\nrows=0\n".to_string();
     file += &"cell=4294967295\n".repeat(1_024);
     file += "end=kernel\n";
     let report = check(file.as_bytes()).unwrap();
-    assert!(report.len() > 16_384 && report.len() <= 17_408);
+    assert!(report.len() > 16_384 && report.len() <= 24_576);
 }

@@ -244,8 +244,9 @@ fn a_racing_thread_is_not_counted_and_the_lower_ones_are() {
     let (found, cells) = run(&rows, 8, &[9; 8], 99);
     let race = Verdict::Race {
         row: 6,
+        other_group: 0,
         thread: 5,
-        other: 2,
+        other: Some(2),
         kind: AccessKind::Ww,
         at: 2,
     };

@@ -3,9 +3,7 @@
 
 mod common;
 
-use checker::{
-    check_file, log_words, AccessKind, Verdict, INTERVAL_WORDS, LENT_CELLS, LENT_LOG, REPORT_ROOM,
-};
+use checker::{log_words, AccessKind, Verdict, INTERVAL_WORDS, LENT_CELLS, LENT_LOG, REPORT_ROOM};
 use common::*;
 
 /// Rows for one thread alone; R0 is then the thread's number.
@@ -41,8 +39,9 @@ fn in_turn(turns: &[(u16, Vec<Row>)]) -> (Verdict, u32, [u32; 5]) {
 fn race(verdict: Verdict) -> (u32, u32, AccessKind) {
     match verdict {
         Verdict::Race {
+            other_group: 0,
             thread,
-            other,
+            other: Some(other),
             kind,
             at: 0,
             ..
@@ -53,7 +52,7 @@ fn race(verdict: Verdict) -> (u32, u32, AccessKind) {
 
 #[test]
 fn the_log_has_five_words_a_cell() {
-    assert_eq!((LENT_LOG, log_words(1), log_words(3)), (5_120, 5, 15));
+    assert_eq!((LENT_LOG, log_words(1), log_words(3)), (8_192, 8, 24));
 }
 
 #[test]
@@ -497,8 +496,10 @@ fn reported(rows: &[Row]) -> (String, Vec<u32>) {
     let (mut cells, mut log) = (vec![5; LENT_CELLS], vec![6; LENT_LOG]);
     let (mut list, mut out) = (vec![JUNK; INTERVAL_WORDS], vec![b'?'; REPORT_ROOM]);
     let text = file(rows);
-    let len = check_file(text.as_bytes(), &mut cells, &mut log, &mut list, &mut out).unwrap();
-    assert!(log[5..].iter().all(|&word| word == 6));
+    let len =
+        check_without_global(text.as_bytes(), &mut cells, &mut log, &mut list, &mut out).unwrap();
+    assert_eq!(log[5..8], [0; 3]);
+    assert!(log[8..].iter().all(|&word| word == 6));
     let report = String::from_utf8(out[..len].to_vec()).unwrap();
     (report, log[..5].to_vec())
 }
@@ -506,7 +507,8 @@ fn reported(rows: &[Row]) -> (String, Vec<u32>) {
 #[test]
 fn files_print_the_flag_and_pack_the_log() {
     let (report, log) = reported(&put(3));
-    let expected = "verdict=passed\nrow=-\nthread=-\nother=-\nkind=-\nat=-\n\
+    let expected =
+        "verdict=passed\nrow=-\ngroup=-\nothergroup=-\nthread=-\nother=-\nkind=-\nat=-\n\
         rows=2\nsteps=2\nsteps=2\nbarriers=0\nconflicts=0\ncell=3\nend=report\n";
     assert_eq!((report.as_str(), log), (expected, vec![0, 3, 0, 3, 0]));
 }
@@ -531,7 +533,7 @@ fn files_print_the_kind() {
         let (report, found) = reported(&rows);
         let cell = u32::from(besides != store(15, 4));
         let expected = format!(
-            "verdict=race\nrow=6\nthread=0\nother={other}\nkind={kind}\nat=0\n\
+            "verdict=race\nrow=6\ngroup=0\nothergroup=0\nthread=0\nother={other}\nkind={kind}\nat=0\n\
              rows=6\nsteps=4\nsteps=6\nbarriers=0\nconflicts=0\ncell={cell}\nend=report\n"
         );
         assert_eq!((report, &found[..]), (expected, &log[..]));

@@ -1,9 +1,9 @@
 //! The two checkers behind one face, in the independent checker's types.
 
-use checker::{AccessKind, Outcome, Refusal, Subject, Verdict, MAX_THREADS};
+use checker::{AccessKind, Outcome, Refusal, Subject, Verdict, MAX_LAUNCH_THREADS};
 
-/// The words that a bare launch is lent for its threads' steps.
-pub type Steps = [u32; MAX_THREADS as usize];
+/// The words that a bare launch is lent for its threads' steps, by launch number.
+pub type Steps = [u32; MAX_LAUNCH_THREADS];
 
 /// The three entries of the specification.
 pub trait Checker {
@@ -12,17 +12,21 @@ pub trait Checker {
         &self,
         file: &[u8],
         cells: &mut [u32],
+        global: &mut [u32],
         log: &mut [u32],
         records: &mut [u32],
         output: &mut [u8],
     ) -> Result<usize, Refusal>;
 
-    /// The bare launch. Where it ran, the words of steps behind the last thread are 0.
+    /// The bare launch. Where it ran, the words of steps behind the last thread are 0. A launch that passed ended in no group: its
+    /// outcome's is 0.
+    #[allow(clippy::too_many_arguments)] // They are those of the specification.
     fn bare_launch(
         &self,
         table: &[u8],
         numbers: Numbers,
         cells: &mut [u32],
+        global: &mut [u32],
         log: &mut [u32],
         records: &mut [u32],
         steps: &mut Steps,
@@ -34,6 +38,7 @@ pub trait Checker {
         subject: Subject,
         steps: &[u32],
         cells: &[u32],
+        global: &[u32],
         output: &mut [u8],
     ) -> Result<usize, Refusal>;
 }
@@ -41,10 +46,14 @@ pub trait Checker {
 /// The numbers of a bare launch.
 #[derive(Clone, Copy, Debug)]
 pub struct Numbers {
-    /// Threads of the group.
+    /// Threads of each group.
     pub threads: u32,
-    /// Cells, as the launch says.
+    /// Own cells of each group, as the launch says.
     pub cells: u32,
+    /// Groups.
+    pub groups: u32,
+    /// Global cells, as the launch says.
+    pub global: u32,
     /// Rows that may be run.
     pub limit: u32,
 }
@@ -57,32 +66,40 @@ impl Checker for Independent {
         &self,
         file: &[u8],
         cells: &mut [u32],
+        global: &mut [u32],
         log: &mut [u32],
         records: &mut [u32],
         output: &mut [u8],
     ) -> Result<usize, Refusal> {
-        checker::check_file(file, cells, log, records, output)
+        checker::check_file(file, cells, global, log, records, output)
     }
 
-    /// This checker keeps the words of steps behind the last thread, which the library clears. So they are cleared for it, and the whole
-    /// array can be asked of the library.
+    /// This checker says of a launch that passed in which group it ended, the last one, which no report shows. The library has 0 there, as
+    /// for every word without meaning.
     fn bare_launch(
         &self,
         table: &[u8],
         numbers: Numbers,
         cells: &mut [u32],
+        global: &mut [u32],
         log: &mut [u32],
         records: &mut [u32],
         steps: &mut Steps,
     ) -> Result<Outcome, Refusal> {
         let Numbers {
             threads,
-            cells: count,
+            cells: own,
+            groups,
+            global: shared,
             limit,
         } = numbers;
-        let ran = checker::bare_launch(table, threads, count, limit, cells, log, records, steps)?;
-        steps[threads as usize..].fill(0);
-        Ok(ran)
+        let ran = checker::bare_launch(
+            table, threads, own, groups, shared, limit, cells, global, log, records, steps,
+        )?;
+        Ok(match ran.verdict {
+            Verdict::Passed => Outcome { group: 0, ..ran },
+            _ => ran,
+        })
     }
 
     fn write_report(
@@ -90,9 +107,10 @@ impl Checker for Independent {
         subject: Subject,
         steps: &[u32],
         cells: &[u32],
+        global: &[u32],
         output: &mut [u8],
     ) -> Result<usize, Refusal> {
-        checker::write_report(subject, steps, cells, output)
+        checker::write_report(subject, steps, cells, global, output)
     }
 }
 
@@ -104,11 +122,12 @@ impl Checker for Verified {
         &self,
         file: &[u8],
         cells: &mut [u32],
+        global: &mut [u32],
         log: &mut [u32],
         records: &mut [u32],
         output: &mut [u8],
     ) -> Result<usize, Refusal> {
-        sekufoyi::check_file(file, cells, log, records, output).map_err(refusal)
+        sekufoyi::check_file(file, cells, global, log, records, output).map_err(refusal)
     }
 
     fn bare_launch(
@@ -116,18 +135,23 @@ impl Checker for Verified {
         table: &[u8],
         numbers: Numbers,
         cells: &mut [u32],
+        global: &mut [u32],
         log: &mut [u32],
         records: &mut [u32],
         steps: &mut Steps,
     ) -> Result<Outcome, Refusal> {
         let Numbers {
             threads,
-            cells: count,
+            cells: own,
+            groups,
+            global: shared,
             limit,
         } = numbers;
-        sekufoyi::bare_launch(table, threads, count, limit, cells, log, records, steps)
-            .map(outcome)
-            .map_err(refusal)
+        sekufoyi::bare_launch(
+            table, threads, own, groups, shared, limit, cells, global, log, records, steps,
+        )
+        .map(outcome)
+        .map_err(refusal)
     }
 
     fn write_report(
@@ -135,9 +159,10 @@ impl Checker for Verified {
         subject: Subject,
         steps: &[u32],
         cells: &[u32],
+        global: &[u32],
         output: &mut [u8],
     ) -> Result<usize, Refusal> {
-        sekufoyi::write_report(subject_for(subject), steps, cells, output).map_err(refusal)
+        sekufoyi::write_report(subject_for(subject), steps, cells, global, output).map_err(refusal)
     }
 }
 
@@ -170,46 +195,122 @@ fn kind_for(theirs: AccessKind) -> sekufoyi::AccessKind {
     }
 }
 
-/// A verdict of one crate as the same one of another: names and fields are equal.
-macro_rules! same_verdict {
-    ($verdict:expr, $from:ident, $to:ident, $kind:ident) => {
-        match $verdict {
-            $from::Verdict::Passed => $to::Verdict::Passed,
-            $from::Verdict::Race {
+/// Where a run ended and how: the group of a launch that passed is 0.
+fn verdict(ours: sekufoyi::Verdict) -> (u32, Verdict) {
+    match ours {
+        sekufoyi::Verdict::Passed => (0, Verdict::Passed),
+        sekufoyi::Verdict::Race {
+            row,
+            group,
+            thread,
+            other,
+            kind: how,
+            at,
+        } => {
+            let (other_group, other, kind) = (group, Some(other), kind(how));
+            let race = Verdict::Race {
                 row,
+                other_group,
                 thread,
                 other,
                 kind,
                 at,
-            } => $to::Verdict::Race {
+            };
+            (group, race)
+        }
+        sekufoyi::Verdict::GroupRace {
+            row,
+            group,
+            other_group,
+            thread,
+            kind: how,
+            at,
+        } => {
+            let (other, kind) = (None, kind(how));
+            let race = Verdict::Race {
                 row,
+                other_group,
                 thread,
                 other,
-                kind: $kind(kind),
+                kind,
                 at,
-            },
-            $from::Verdict::Outside { row, thread, at } => {
-                $to::Verdict::Outside { row, thread, at }
-            }
-            $from::Verdict::Diverged { row, thread, other } => {
-                $to::Verdict::Diverged { row, thread, other }
-            }
-            $from::Verdict::Spent { row } => $to::Verdict::Spent { row },
+            };
+            (group, race)
         }
-    };
+        sekufoyi::Verdict::Outside {
+            row,
+            group,
+            thread,
+            at,
+        } => (group, Verdict::Outside { row, thread, at }),
+        sekufoyi::Verdict::Diverged {
+            row,
+            group,
+            thread,
+            other,
+        } => (group, Verdict::Diverged { row, thread, other }),
+        sekufoyi::Verdict::Spent { row, group } => (group, Verdict::Spent { row }),
+    }
 }
 
-fn verdict(ours: sekufoyi::Verdict) -> Verdict {
-    same_verdict!(ours, sekufoyi, checker, kind)
-}
-
-fn verdict_for(theirs: Verdict) -> sekufoyi::Verdict {
-    same_verdict!(theirs, checker, sekufoyi, kind_for)
+/// The same the other way. A race with another thread is in that thread's own group.
+fn verdict_for(group: u32, theirs: Verdict) -> sekufoyi::Verdict {
+    match theirs {
+        Verdict::Passed => sekufoyi::Verdict::Passed,
+        Verdict::Race {
+            row,
+            other_group,
+            thread,
+            other: Some(other),
+            kind,
+            at,
+        } => {
+            assert_eq!(other_group, group, "two threads of one group");
+            sekufoyi::Verdict::Race {
+                row,
+                group,
+                thread,
+                other,
+                kind: kind_for(kind),
+                at,
+            }
+        }
+        Verdict::Race {
+            row,
+            other_group,
+            thread,
+            other: None,
+            kind,
+            at,
+        } => sekufoyi::Verdict::GroupRace {
+            row,
+            group,
+            other_group,
+            thread,
+            kind: kind_for(kind),
+            at,
+        },
+        Verdict::Outside { row, thread, at } => sekufoyi::Verdict::Outside {
+            row,
+            group,
+            thread,
+            at,
+        },
+        Verdict::Diverged { row, thread, other } => sekufoyi::Verdict::Diverged {
+            row,
+            group,
+            thread,
+            other,
+        },
+        Verdict::Spent { row } => sekufoyi::Verdict::Spent { row, group },
+    }
 }
 
 fn outcome(ours: sekufoyi::Outcome) -> Outcome {
+    let (group, verdict) = verdict(ours.verdict);
     Outcome {
-        verdict: verdict(ours.verdict),
+        verdict,
+        group,
         rows: ours.rows,
         barriers: ours.barriers,
         conflicts: ours.conflicts,
@@ -218,7 +319,7 @@ fn outcome(ours: sekufoyi::Outcome) -> Outcome {
 
 fn outcome_for(theirs: Outcome) -> sekufoyi::Outcome {
     sekufoyi::Outcome {
-        verdict: verdict_for(theirs.verdict),
+        verdict: verdict_for(theirs.group, theirs.verdict),
         rows: theirs.rows,
         barriers: theirs.barriers,
         conflicts: theirs.conflicts,

@@ -2,20 +2,38 @@
 
 use std::fmt;
 
-use checker::Refusal;
+use checker::{Refusal, MAX_LAUNCH_THREADS};
 
 use crate::records::{self, Counts};
 use crate::Steps;
 
 /// The buffers that an entry is lent. An entry without one of them has it empty, or full of zeros.
-#[derive(Clone, Debug, Default, PartialEq, Eq)]
+#[derive(Clone, Debug, PartialEq, Eq)]
 pub(crate) struct Lent {
     pub cells: Vec<u32>,
+    pub global: Vec<u32>,
     pub log: Vec<u32>,
     pub records: Vec<u32>,
     pub steps: Steps,
     pub output: Vec<u8>,
 }
+
+/// Arrays of more than 32 words have no default of their own.
+impl Default for Lent {
+    fn default() -> Self {
+        Self {
+            cells: Vec::new(),
+            global: Vec::new(),
+            log: Vec::new(),
+            records: Vec::new(),
+            steps: NO_STEPS,
+            output: Vec::new(),
+        }
+    }
+}
+
+/// The steps of an entry that has none.
+const NO_STEPS: Steps = [0; MAX_LAUNCH_THREADS];
 
 /// An answer, and the lent buffers after it.
 #[derive(Clone, Debug, PartialEq, Eq)]
@@ -66,7 +84,7 @@ pub(crate) fn judge<T: PartialEq + fmt::Debug>(
         return Ok(());
     }
     let what = format!(
-        "ours:   {:?}\ntheirs: {:?}\n{}{}{}{}{}{}{}{}{}",
+        "ours:   {:?}\ntheirs: {:?}\n{}{}{}{}{}{}{}{}{}{}",
         ours.answer,
         theirs.answer,
         told("ours", our_fault),
@@ -74,6 +92,12 @@ pub(crate) fn judge<T: PartialEq + fmt::Debug>(
         steps(&before.steps, &ours.lent.steps, &theirs.lent.steps),
         records::shown(&before.records, &ours.lent.records, &theirs.lent.records),
         words("cell", &before.cells, &ours.lent.cells, &theirs.lent.cells),
+        words(
+            "global cell",
+            &before.global,
+            &ours.lent.global,
+            &theirs.lent.global
+        ),
         words("log word", &before.log, &ours.lent.log, &theirs.lent.log),
         words(
             "output byte",
@@ -110,17 +134,19 @@ fn told(whose: &str, fault: Option<String>) -> String {
     fault.map_or_else(String::new, |fault| format!("{whose}: {fault}\n"))
 }
 
-/// Every count beside the other's, since where one is wrong the others say which row it was; nothing where the entry has none.
+/// Every count beside the other's, since where one is wrong the others say which row it was; nothing where the entry has none. Words that
+/// both left 0 are not shown behind the last that is not.
 fn steps(before: &Steps, ours: &Steps, theirs: &Steps) -> String {
-    if *before == Steps::default() {
+    if *before == NO_STEPS {
         return String::new();
     }
-    let line = |thread: usize| {
-        let (was, our, their) = (before[thread], ours[thread], theirs[thread]);
+    let line = |number: usize| {
+        let (was, our, their) = (before[number], ours[number], theirs[number]);
         let mark = if our == their { "" } else { "  differs" };
-        format!("thread {thread:>5}{our:>12}{their:>12}{was:>12}{mark}\n")
+        format!("number {number:>5}{our:>12}{their:>12}{was:>12}{mark}\n")
     };
-    let lines: String = (0..before.len()).map(line).collect();
+    let shown = (ours.iter().zip(theirs)).rposition(|(&our, &their)| (our, their) != (0, 0));
+    let lines: String = (0..shown.map_or(0, |last| last + 1)).map(line).collect();
     format!(
         "{:<12}{:>12}{:>12}{:>12}\n{lines}",
         "steps of", "ours", "theirs", "before"

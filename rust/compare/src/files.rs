@@ -1,6 +1,6 @@
 //! Launch files through the whole-file entry.
 
-use checker::{INTERVAL_WORDS, LENT_CELLS, LENT_LOG, REPORT_ROOM};
+use checker::{parse_file, INTERVAL_WORDS, LENT_CELLS, LENT_GLOBAL, LENT_LOG, REPORT_ROOM};
 use generator::Rng;
 
 use crate::difference::{judge, lines, Difference, Left, Lent};
@@ -18,6 +18,9 @@ pub(crate) fn compare(
     let ours = check(ours, &file, &before);
     let theirs = check(theirs, &file, &before);
     let show = || show(&file, &before);
+    // Of a file that is refused nobody counts.
+    let groups = parse_file(&file).map_or(0, |launch| launch.groups);
+    let counts = |written: &usize, left: &Lent| Some(counts(*written, left, groups));
     judge(seed, show, counts, &before, &ours, &theirs)?;
     Ok(name(&ours))
 }
@@ -26,20 +29,21 @@ fn check(checker: &impl Checker, file: &[u8], before: &Lent) -> Left<usize> {
     let lend = |lent: &mut Lent| {
         let Lent {
             cells,
+            global,
             log,
             records,
             output,
             ..
         } = lent;
-        checker.check_file(file, cells, log, records, output)
+        checker.check_file(file, cells, global, log, records, output)
     };
     Left::by(before, lend)
 }
 
 /// As the report has them.
-fn counts(written: &usize, left: &Lent) -> Option<Result<Counts, String>> {
-    let report = left.output.get(..*written).unwrap_or(&[]);
-    Some(Counts::in_report(report))
+fn counts(written: usize, left: &Lent, groups: u32) -> Result<Counts, String> {
+    let report = left.output.get(..written).unwrap_or(&[]);
+    Counts::in_report(report, groups)
 }
 
 /// Buffers full of junk. In about one launch of six some of them are of a wrong size: one, some or all, each set as likely as
@@ -48,21 +52,23 @@ fn lend(seed: u64) -> Lent {
     let mut rng = Rng::new(seed, 10);
     let mut sizes = [
         LENT_CELLS,
+        LENT_GLOBAL,
         LENT_LOG,
         INTERVAL_WORDS + more_records(&mut rng),
-        rng.pick(&[REPORT_ROOM, REPORT_ROOM, REPORT_ROOM + 1, 20_000]),
+        rng.pick(&[REPORT_ROOM, REPORT_ROOM, REPORT_ROOM + 1, 30_000]),
     ];
     if rng.one_in(6) {
-        let wrong = rng.range(1, 15);
+        let wrong = rng.range(1, 31);
         for (which, size) in sizes.iter_mut().enumerate() {
             if wrong >> which & 1 == 1 {
                 *size = wrong_size(&mut rng, which);
             }
         }
     }
-    let [cells, log, records, output] = sizes;
+    let [cells, global, log, records, output] = sizes;
     Lent {
         cells: junk::words(seed, cells),
+        global: junk::words(seed.rotate_left(13), global),
         log: junk::words(!seed, log),
         records: junk::records(seed, records),
         output: junk::bytes(seed, output),
@@ -78,28 +84,36 @@ fn more_records(rng: &mut Rng) -> usize {
 
 fn wrong_size(rng: &mut Rng, which: usize) -> usize {
     match which {
-        0 => rng.pick(&[1_023, 1_025, 0, 5_120]),
-        // By a word, and as many words a cell as are too few or too many; three of them were once right.
-        1 => rng.pick(&[5_119, 5_121, 3_072, 3_072, 0, 1_024, 2_048, 4_096, 6_144]),
-        2 => rng.pick(&[3_074, 3_074, 3_074, 3_073, 3_072, 1_025, 3, 1, 0, 0]),
-        _ => rng.pick(&[0, 1, 17_407, 17_407, 1_024]),
+        0 => rng.pick(&[1_023, 1_025, 0, 8_192]),
+        1 => rng.pick(&[1_023, 1_025, 0, 0, 8_192]),
+        // By a word, and as many words a cell as are too few or too many; three and five of them were once right.
+        2 => rng.pick(&[
+            8_191, 8_193, 5_120, 5_120, 7_168, 9_216, 3_072, 0, 1_024, 4_096, 16_384,
+        ]),
+        3 => rng.pick(&[3_074, 3_074, 3_074, 3_073, 3_072, 1_025, 3, 1, 0, 0]),
+        _ => rng.pick(&[0, 1, 24_575, 24_575, 17_408, 1_024]),
     }
 }
 
-/// The report's first line, or the refusal.
+/// The report's first line, or the refusal. A race without another thread is told apart: it is between two groups.
 fn name(left: &Left<usize>) -> String {
     match left.answer {
         Ok(_) => {
-            let first = left.lent.output.split(|&byte| byte == b'\n').next();
-            first.unwrap_or(&[]).escape_ascii().to_string()
+            let mut lines = left.lent.output.split(|&byte| byte == b'\n');
+            let first = lines.next().unwrap_or(&[]).escape_ascii().to_string();
+            let alone = lines.take(5).any(|line| line == b"other=-");
+            match &first[..] {
+                "verdict=race" if alone => "verdict=race of groups".to_string(),
+                _ => first,
+            }
         }
         Err(refusal) => refused(refusal),
     }
 }
 
 fn show(file: &[u8], lent: &Lent) -> String {
-    let (cells, log) = (lent.cells.len(), lent.log.len());
+    let (cells, global, log) = (lent.cells.len(), lent.global.len(), lent.log.len());
     let (records, output) = (lent.records.len(), lent.output.len());
     let lines = lines(file);
-    format!("lent {cells} cells, {log} words of log, {records} of records, {output} bytes of output; the file:\n{lines}")
+    format!("lent {cells} cells, {global} global cells, {log} words of log, {records} of records, {output} bytes of output; the file:\n{lines}")
 }

@@ -8,22 +8,31 @@ const RECORD: usize = 3;
 /// The counts of a run that its records come to.
 #[derive(Clone, Copy, Debug, PartialEq, Eq)]
 pub(crate) struct Counts {
+    /// Groups that have started: each opens an interval.
+    pub begun: u32,
     pub rows: u32,
     pub barriers: u32,
     pub conflicts: u32,
 }
 
 impl Counts {
-    /// As a report's lines say, or what is wrong with these.
-    pub(crate) fn in_report(report: &[u8]) -> Result<Self, String> {
-        let number = |key: &str| {
-            let value = (report.split(|&byte| byte == b'\n'))
-                .find_map(|line| line.strip_prefix(key.as_bytes())?.strip_prefix(b"="));
-            let digits = value.and_then(|value| std::str::from_utf8(value).ok());
+    /// As the report's lines say of a launch of so many groups, or what is wrong with these.
+    pub(crate) fn in_report(report: &[u8], groups: u32) -> Result<Self, String> {
+        let value = |key: &str| {
+            (report.split(|&byte| byte == b'\n'))
+                .find_map(|line| line.strip_prefix(key.as_bytes())?.strip_prefix(b"="))
+        };
+        let number = |key: &str| -> Result<u32, String> {
+            let digits = value(key).and_then(|value| std::str::from_utf8(value).ok());
             let number = digits.and_then(|digits| digits.parse().ok());
             number.ok_or_else(|| format!("the report has no number in a line {key}="))
         };
         Ok(Self {
+            // A launch that passed has a hyphen there.
+            begun: match value("group") {
+                Some(b"-") => groups,
+                _ => number("group")?.saturating_add(1),
+            },
             rows: number("rows")?,
             barriers: number("barriers")?,
             conflicts: number("conflicts")?,
@@ -32,7 +41,7 @@ impl Counts {
 
     /// The records that a run with these counts uses.
     fn used(self) -> usize {
-        INTERVAL_RECORDS.min(self.barriers as usize + 1)
+        INTERVAL_RECORDS.min(self.barriers as usize + self.begun as usize)
     }
 
     /// What is wrong with the records that such a run left, each alone: how many words were written, and the sums of rows and costs. Words

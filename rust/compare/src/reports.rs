@@ -13,10 +13,14 @@ pub(crate) fn compare(
     theirs: &impl Checker,
 ) -> Result<String, Box<Difference>> {
     let mut rng = Rng::new(seed, 11);
+    let subject = subject(&mut rng);
+    let steps = counts(&mut rng);
+    let (cells, global) = cells(&mut rng);
     let asked = Asked {
-        subject: subject(&mut rng),
-        steps: counts(&mut rng),
-        cells: cells(&mut rng),
+        subject,
+        steps,
+        cells,
+        global,
     };
     let before = Lent {
         output: junk::bytes(seed, room(&mut rng, theirs, &asked)),
@@ -36,11 +40,18 @@ struct Asked {
     subject: Subject,
     steps: Vec<u32>,
     cells: Vec<u32>,
+    global: Vec<u32>,
 }
 
 impl Asked {
     fn of(&self, checker: &impl Checker, output: &mut [u8]) -> Result<usize, Refusal> {
-        checker.write_report(self.subject, &self.steps, &self.cells, output)
+        let Self {
+            subject,
+            steps,
+            cells,
+            global,
+        } = self;
+        checker.write_report(*subject, steps, cells, global, output)
     }
 }
 
@@ -52,7 +63,7 @@ fn write(checker: &impl Checker, asked: &Asked, before: &Lent) -> Left<usize> {
 fn room(rng: &mut Rng, checker: &impl Checker, asked: &Asked) -> usize {
     let mut output = vec![0; REPORT_ROOM];
     let Ok(needed) = asked.of(checker, &mut output) else {
-        return rng.pick(&[0, 1, 40, 1_024, REPORT_ROOM, 20_000]);
+        return rng.pick(&[0, 1, 40, 1_024, REPORT_ROOM, 30_000]);
     };
     match rng.below(8) {
         0..=2 => needed,
@@ -68,8 +79,10 @@ fn subject(rng: &mut Rng) -> Subject {
         let (number, place) = (digits(rng), digits(rng) * rng.below(2));
         return Subject::Refused(Refusal { number, place });
     }
+    let group = digits(rng);
     Subject::Ran(Outcome {
-        verdict: verdict(rng),
+        verdict: verdict(rng, group),
+        group,
         rows: digits(rng),
         barriers: digits(rng),
         conflicts: digits(rng),
@@ -86,18 +99,24 @@ const KINDS: [AccessKind; 7] = [
     AccessKind::Aw,
 ];
 
-fn verdict(rng: &mut Rng) -> Verdict {
-    let [row, thread, other, at] = std::array::from_fn(|_| digits(rng));
+/// A race of either kind: two threads are of one group.
+fn verdict(rng: &mut Rng, group: u32) -> Verdict {
+    let [row, other_group, thread, other, at] = std::array::from_fn(|_| digits(rng));
     let kind = rng.pick(&KINDS);
-    match rng.below(7) {
+    let (other_group, met) = match rng.below(2) {
+        0 => (group, Some(other)),
+        _ => (other_group, None),
+    };
+    match rng.below(8) {
         0 => Verdict::Passed,
         1 => Verdict::Outside { row, thread, at },
         2 => Verdict::Diverged { row, thread, other },
         3 => Verdict::Spent { row },
         _ => Verdict::Race {
             row,
+            other_group,
             thread,
-            other,
+            other: met,
             kind,
             at,
         },
@@ -107,17 +126,20 @@ fn verdict(rng: &mut Rng) -> Verdict {
 /// The generator's counts, of right and wrong lengths. One in four is drawn anew, so that the least and the greatest count of so many
 /// digits are among them.
 fn counts(rng: &mut Rng) -> Vec<u32> {
-    let drawn = generator::report_steps(rng).into_iter();
-    drawn
-        .map(|count| if rng.one_in(4) { digits(rng) } else { count })
-        .collect()
+    let drawn = generator::report_steps(rng);
+    some_anew(rng, drawn)
 }
 
-fn cells(rng: &mut Rng) -> Vec<u32> {
-    let some = 2 + rng.index(100);
-    let many = 2 + rng.index(1_023);
-    let len = rng.pick(&[0, 1, some, some, many, 1_024, 1_025]);
-    (0..len).map(|_| digits(rng)).collect()
+/// The generator's cells likewise, own and global ones.
+fn cells(rng: &mut Rng) -> (Vec<u32>, Vec<u32>) {
+    let (own, global) = generator::report_cells(rng);
+    (some_anew(rng, own), some_anew(rng, global))
+}
+
+fn some_anew(rng: &mut Rng, words: Vec<u32>) -> Vec<u32> {
+    (words.into_iter())
+        .map(|word| if rng.one_in(4) { digits(rng) } else { word })
+        .collect()
 }
 
 /// A word of 1 to 10 digits, each number of digits as likely as another; now and then the least or the greatest of them.
@@ -138,7 +160,9 @@ fn show(asked: &Asked, lent: &Lent) -> String {
         subject,
         steps,
         cells,
+        global,
     } = asked;
-    let (room, counts, words) = (lent.output.len(), steps.len(), cells.len());
-    format!("{subject:?}, {room} bytes of output\n{counts} steps: {steps:?}\n{words} cells: {cells:?}\n")
+    let (room, counts) = (lent.output.len(), steps.len());
+    let (own, shared) = (cells.len(), global.len());
+    format!("{subject:?}, {room} bytes of output\n{counts} steps: {steps:?}\n{own} cells: {cells:?}\n{shared} global cells: {global:?}\n")
 }

@@ -1,7 +1,7 @@
 //! The launches that the explorer plays every run of: what it finds of the independent checker's answers holds of the verified
 //! library's too, because they are the same.
 
-use checker::{log_words, Outcome, Refusal, INTERVAL_WORDS, MAX_THREADS};
+use checker::{log_words, Outcome, Refusal, INTERVAL_WORDS, MAX_LAUNCH_THREADS};
 use compare::{Checker, Independent, Numbers, Steps, Verified};
 use generator::SmallLaunch;
 
@@ -16,7 +16,9 @@ fn small_launches_are_answered_alike() {
         let launch = generator::small(seed);
         let numbers = Numbers {
             threads: launch.threads,
-            cells: launch.cells.len() as u32,
+            cells: launch.cells.len() as u32 / launch.groups,
+            groups: launch.groups,
+            global: launch.global.len() as u32,
             limit: LIMIT,
         };
         let ours = run(&Verified, &launch, numbers);
@@ -25,9 +27,10 @@ fn small_launches_are_answered_alike() {
     }
 }
 
-/// The answer with the cells, the log, the records and the steps that it leaves.
+/// The answer with the own cells, the global ones, the log, the records and the steps that it leaves.
 type Left = (
     Result<Outcome, Refusal>,
+    Vec<u32>,
     Vec<u32>,
     Vec<u32>,
     Vec<u32>,
@@ -35,17 +38,18 @@ type Left = (
 );
 
 fn run(checker: &impl Checker, launch: &SmallLaunch, numbers: Numbers) -> Left {
-    let mut cells = launch.cells.clone();
-    let mut log = vec![u32::MAX; log_words(cells.len())];
+    let (mut cells, mut global) = (launch.cells.clone(), launch.global.clone());
+    let mut log = vec![u32::MAX; log_words(cells.len() + global.len())];
     let mut records = vec![u32::MAX; INTERVAL_WORDS];
-    let mut steps = [u32::MAX; MAX_THREADS as usize];
+    let mut steps = [u32::MAX; MAX_LAUNCH_THREADS];
     let answer = checker.bare_launch(
         &launch.table,
         numbers,
         &mut cells,
+        &mut global,
         &mut log,
         &mut records,
         &mut steps,
     );
-    (answer, cells, log, records, steps)
+    (answer, cells, global, log, records, steps)
 }

@@ -1,8 +1,9 @@
 //! "The threads' own machine": written from that section, from "The kernel
-//! table" and from items 1, 3 and 6 alone. Nothing here knows of masks or of the
-//! lock-step run.
+//! table" and from items 1, 3, 6 and 7 alone. Nothing here knows of masks or of
+//! the lock-step run.
 
 use std::cmp::Ordering;
+use std::ops::Range;
 
 /// Where a table's constructs lie.
 #[derive(Clone, Copy, Debug, Default)]
@@ -12,11 +13,47 @@ struct Jump {
     to: usize,
 }
 
+/// A way in which this machine could be wrong about groups. Only tests have it
+/// made, to see that the claim would not hold for such a machine.
+#[derive(Clone, Copy, Debug, PartialEq, Eq)]
+pub enum Mistake {
+    /// TID gives the launch number.
+    TidIsLaunchNumber,
+    /// COUNT gives the threads of all groups.
+    CountIsOfLaunch,
+    /// Op 19 gives the number in the group.
+    LaunchNumberIsTid,
+    /// Every group uses the own cells of group 0.
+    OwnCellsOfGroup0,
+    /// A release is for all groups: none passes before all threads wait.
+    ReleaseWaitsForAll,
+    /// A release empties the whole record.
+    ReleaseForgetsAll,
+    /// A release forgets the accesses of the other groups too, but not its own
+    /// group's to global cells.
+    ReleaseForgetsOthers,
+    /// Global accesses don't count against other groups behind a release.
+    ReleaseForgetsGlobal,
+    /// Global accesses go on counting inside the group behind its release.
+    ReleaseKeepsGlobal,
+    /// Equal stores of two groups are let through.
+    EqualStoresAcrossAgree,
+    /// Adds of two groups are a race.
+    AddsAcrossRace,
+    /// Loads of two groups are a race.
+    LoadsAcrossRace,
+    /// Two groups never race.
+    GroupsNeverRace,
+    /// Equal stores inside a group to one global cell are a race.
+    EqualGlobalStoresRace,
+}
+
 /// A well-formed table with its jumps.
 #[derive(Clone, Debug)]
 pub struct Kernel {
     rows: Vec<[u8; 4]>,
     jumps: Vec<Jump>,
+    mistake: Option<Mistake>,
 }
 
 impl Kernel {
@@ -31,7 +68,23 @@ impl Kernel {
         while next < rows.len() {
             next = link(&rows, &mut jumps, next);
         }
-        Self { rows, jumps }
+        Self {
+            rows,
+            jumps,
+            mistake: None,
+        }
+    }
+
+    /// The same kernel, run by a machine that makes a mistake.
+    pub fn mistaken(self, mistake: Mistake) -> Self {
+        Self {
+            mistake: Some(mistake),
+            ..self
+        }
+    }
+
+    fn makes(&self, mistake: Mistake) -> bool {
+        self.mistake == Some(mistake)
     }
 
     /// The number of rows.
@@ -109,32 +162,115 @@ enum Kind {
 }
 
 impl Kind {
-    /// Loads agree with loads, adds with adds, and stores with stores of the
-    /// same value, in any order.
-    fn agrees_with(self, other: Self) -> bool {
+    /// Inside a group loads agree with loads, adds with adds, and stores with
+    /// stores of the same value, in any order.
+    fn agrees_in_group(self, other: Self) -> bool {
         self == other
+    }
+
+    /// Between groups equal stores don't agree.
+    fn agrees_across_groups(self, other: Self) -> bool {
+        matches!(
+            (self, other),
+            (Self::Load, Self::Load) | (Self::Add, Self::Add)
+        )
     }
 }
 
 /// A record of one access.
 #[derive(Clone, Copy, Debug, PartialEq, Eq, Hash, PartialOrd, Ord)]
 struct Access {
-    cell: u32,
-    thread: usize,
+    /// Among all cells of the launch.
+    place: usize,
+    group: usize,
+    /// Its number in the group. Nobody's once the group has been released since:
+    /// then the access counts against other groups only.
+    thread: Option<usize>,
     kind: Kind,
 }
 
 impl Access {
-    /// One cell, different threads, and kinds that don't agree.
-    fn races_with(self, other: Self) -> bool {
-        self.cell == other.cell && self.thread != other.thread && !self.kind.agrees_with(other.kind)
+    fn races_with(self, other: Self, shape: Shape, mistake: Option<Mistake>) -> bool {
+        self.place == other.place
+            && if self.group == other.group {
+                self.races_in_group(other, shape, mistake)
+            } else {
+                self.races_across_groups(other, mistake)
+            }
     }
+
+    /// Different threads, neither forgotten, and kinds that don't agree.
+    fn races_in_group(self, other: Self, shape: Shape, mistake: Option<Mistake>) -> bool {
+        let threads = self.thread.zip(other.thread);
+        let agree = match mistake {
+            Some(Mistake::EqualGlobalStoresRace) if shape.is_global(self.place) => {
+                self.kind.agrees_across_groups(other.kind)
+            }
+            _ => self.kind.agrees_in_group(other.kind),
+        };
+        threads.is_some_and(|(one, other)| one != other) && !agree
+    }
+
+    fn races_across_groups(self, other: Self, mistake: Option<Mistake>) -> bool {
+        let kinds = (self.kind, other.kind);
+        match (mistake, kinds) {
+            (Some(Mistake::GroupsNeverRace), _) => false,
+            (Some(Mistake::AddsAcrossRace), (Kind::Add, Kind::Add)) => true,
+            (Some(Mistake::LoadsAcrossRace), (Kind::Load, Kind::Load)) => true,
+            (Some(Mistake::EqualStoresAcrossAgree), _) => !self.kind.agrees_in_group(other.kind),
+            _ => !self.kind.agrees_across_groups(other.kind),
+        }
+    }
+}
+
+/// How many groups there are and what each of them has.
+#[derive(Clone, Copy, Debug, PartialEq, Eq, Hash)]
+pub struct Shape {
+    /// Groups of the launch.
+    pub groups: usize,
+    /// Threads of each group.
+    pub threads: usize,
+    /// Own cells of each group.
+    pub cells: usize,
+    /// Global cells.
+    pub global: usize,
+}
+
+impl Shape {
+    /// The launch numbers of a group's threads.
+    pub fn members(self, group: usize) -> Range<usize> {
+        group * self.threads..(group + 1) * self.threads
+    }
+
+    /// A launch number's group, and the number in that group.
+    pub fn member(self, launch_number: usize) -> (usize, usize) {
+        (launch_number / self.threads, launch_number % self.threads)
+    }
+
+    /// The places of a group's own cells among all cells.
+    fn own_places(self, group: usize) -> Range<usize> {
+        group * self.cells..(group + 1) * self.cells
+    }
+
+    fn is_global(self, place: usize) -> bool {
+        place >= self.groups * self.cells
+    }
+}
+
+/// The cells that an access means by its number.
+#[derive(Clone, Copy, Debug, PartialEq, Eq)]
+enum Space {
+    Own,
+    Global,
 }
 
 /// All threads, the cells and the access record between two moves.
 #[derive(Clone, Debug, PartialEq, Eq, Hash)]
 pub struct State {
+    shape: Shape,
+    /// By launch number.
     threads: Vec<Thread>,
+    /// The own cells of each group, group 0 first, and then the global ones.
     cells: Vec<u32>,
     /// Sorted, each record once.
     record: Vec<Access>,
@@ -143,10 +279,10 @@ pub struct State {
 /// A move of a run.
 #[derive(Clone, Copy, Debug, PartialEq, Eq)]
 pub enum Move {
-    /// A thread's row.
+    /// The row of the thread with this launch number.
     Row(usize),
-    /// All threads pass the barrier at which they wait.
-    Release,
+    /// All threads of this group pass the barrier at which they wait.
+    Release(usize),
 }
 
 /// A run's bad end.
@@ -154,8 +290,9 @@ pub enum Move {
 pub enum BadEnd {
     /// An access outside the cells.
     Outside,
-    /// Two records of one cell by different threads, which are not two loads,
-    /// two adds or two stores of one value.
+    /// Two records of one cell that conflict: by different threads of a group
+    /// since its last release, which are not two loads, two adds or two stores
+    /// of one value; or by different groups, which are not two loads or two adds.
     Race,
 }
 
@@ -171,46 +308,76 @@ pub enum Standing {
 }
 
 impl State {
-    /// The start of a launch.
-    pub fn start(threads: u32, cells: &[u32]) -> Self {
+    /// The start of a launch: groups of so many threads, their own cells, group
+    /// 0 first, and the global cells.
+    pub fn start(groups: u32, threads: u32, own: &[u32], global: &[u32]) -> Self {
         let thread = Thread {
             row: 0,
             registers: [0; 16],
             loops: vec![],
         };
+        let shape = Shape {
+            groups: groups as usize,
+            threads: threads as usize,
+            cells: own.len() / groups as usize,
+            global: global.len(),
+        };
         Self {
-            threads: vec![thread; threads as usize],
-            cells: cells.to_vec(),
+            shape,
+            threads: vec![thread; shape.groups * shape.threads],
+            cells: [own, global].concat(),
             record: vec![],
         }
     }
 
-    /// How many threads there are.
-    pub fn threads(&self) -> usize {
-        self.threads.len()
+    /// Groups, threads and cells.
+    pub fn shape(&self) -> Shape {
+        self.shape
     }
 
-    /// The cells now.
+    /// All cells now: the groups' own ones, group 0 first, and the global ones.
     pub fn cells(&self) -> &[u32] {
         &self.cells
     }
 
+    /// A group's own cells now.
+    pub fn own_cells(&self, group: usize) -> &[u32] {
+        &self.cells[self.shape.own_places(group)]
+    }
+
     /// Which moves are possible here.
     pub fn standing(&self, kernel: &Kernel) -> Standing {
-        if self.threads.iter().all(|thread| thread.row == kernel.len()) {
+        if self.first_unended_group(kernel).is_none() {
             return Standing::Ended;
         }
-        let mut moves: Vec<Move> = (0..self.threads.len())
+        let rows = (0..self.threads.len())
             .filter(|&thread| self.may_move(kernel, thread))
-            .map(Move::Row)
-            .collect();
-        if self.may_release(kernel) {
-            moves.push(Move::Release);
-        }
+            .map(Move::Row);
+        let releases = (0..self.shape.groups)
+            .filter(|&group| self.may_release(kernel, group))
+            .map(Move::Release);
+        let moves: Vec<Move> = rows.chain(releases).collect();
         if moves.is_empty() {
             Standing::Stuck
         } else {
             Standing::Open(moves)
+        }
+    }
+
+    /// The lowest group with a thread that is not at the table's end.
+    pub fn first_unended_group(&self, kernel: &Kernel) -> Option<usize> {
+        let first = self
+            .threads
+            .iter()
+            .position(|one| one.row != kernel.len())?;
+        Some(self.shape.member(first).0)
+    }
+
+    /// The group whose move it is.
+    pub fn group_of(&self, next: Move) -> usize {
+        match next {
+            Move::Row(thread) => self.shape.member(thread).0,
+            Move::Release(group) => group,
         }
     }
 
@@ -219,16 +386,21 @@ impl State {
         row.is_some_and(|row| row[0] != BARRIER)
     }
 
-    /// All wait at the same BARRIER row with equal loop counts.
-    fn may_release(&self, kernel: &Kernel) -> bool {
-        let first = &self.threads[0];
+    /// All threads of the group wait at the same BARRIER row with equal loop
+    /// counts.
+    fn may_release(&self, kernel: &Kernel, group: usize) -> bool {
+        let members = if kernel.makes(Mistake::ReleaseWaitsForAll) {
+            &self.threads
+        } else {
+            &self.threads[self.shape.members(group)]
+        };
+        let first = &members[0];
         let at_barrier = kernel
             .rows
             .get(first.row)
             .is_some_and(|row| row[0] == BARRIER);
         at_barrier
-            && self
-                .threads
+            && members
                 .iter()
                 .all(|thread| thread.row == first.row && thread.loops == first.loops)
     }
@@ -237,20 +409,41 @@ impl State {
     pub fn make(&mut self, kernel: &Kernel, made: Move) -> Result<(), BadEnd> {
         match made {
             Move::Row(thread) => self.do_row(kernel, thread),
-            Move::Release => {
-                self.threads.iter_mut().for_each(|thread| thread.row += 1);
-                self.record.clear();
+            Move::Release(group) => {
+                for thread in &mut self.threads[self.shape.members(group)] {
+                    thread.row += 1;
+                }
+                self.forget(kernel, group);
                 Ok(())
             }
         }
     }
 
+    /// A released group's accesses are forgotten, but for those to global cells,
+    /// which still count against other groups.
+    fn forget(&mut self, kernel: &Kernel, released: usize) {
+        let (shape, mistake) = (self.shape, kernel.mistake);
+        self.record.retain_mut(|access| match mistake {
+            Some(Mistake::ReleaseForgetsAll) => false,
+            _ if access.group != released => mistake != Some(Mistake::ReleaseForgetsOthers),
+            Some(Mistake::ReleaseForgetsGlobal) => false,
+            Some(Mistake::ReleaseKeepsGlobal) => shape.is_global(access.place),
+            _ => {
+                access.thread = None;
+                shape.is_global(access.place)
+            }
+        });
+        // Accesses of several threads may have become the same.
+        self.record.sort_unstable();
+        self.record.dedup();
+    }
+
     /// The effect of the thread's row alone.
     fn do_row(&mut self, kernel: &Kernel, number: usize) -> Result<(), BadEnd> {
-        let count = self.threads.len() as u32;
         let row = self.threads[number].row;
         let [op, d, a, b] = kernel.rows[row];
         let jump = kernel.jumps[row].to;
+        let about = self.number_told(kernel, op, number);
         let thread = &mut self.threads[number];
         let (d, x, y) = (
             usize::from(d),
@@ -258,25 +451,22 @@ impl State {
             thread.registers[usize::from(b) % 16],
         );
         thread.row += 1;
+        let at = thread.registers[d];
         match op {
             1 => thread.registers[d] = u32::from(a) + 256 * u32::from(b),
-            2 => thread.registers[d] = number as u32,
-            3 => thread.registers[d] = count,
+            2 | 3 | 19 => thread.registers[d] = about,
             4..=14 => thread.registers[d] = compute(op, x, y),
-            16 => {
-                self.access(number, x, Kind::Load)?;
-                self.threads[number].registers[d] = self.cells[x as usize];
+            16 | 20 => {
+                let place = self.access(kernel, number, (space(op), x), Kind::Load)?;
+                self.threads[number].registers[d] = self.cells[place];
             }
-            17 => {
-                let at = thread.registers[d];
-                self.access(number, at, Kind::Store(x))?;
-                self.cells[at as usize] = x;
+            17 | 21 => {
+                let place = self.access(kernel, number, (space(op), at), Kind::Store(x))?;
+                self.cells[place] = x;
             }
-            18 => {
-                let at = thread.registers[d];
-                self.access(number, at, Kind::Add)?;
-                let cell = &mut self.cells[at as usize];
-                *cell = compute(4, *cell, x);
+            18 | 22 => {
+                let place = self.access(kernel, number, (space(op), at), Kind::Add)?;
+                self.cells[place] = compute(4, self.cells[place], x);
             }
             IF if x == 0 => thread.row = jump,
             ELSE => thread.row = jump,
@@ -287,44 +477,68 @@ impl State {
         Ok(())
     }
 
-    /// Enters an access in the record, unless it ends the run badly.
-    fn access(&mut self, thread: usize, cell: u32, kind: Kind) -> Result<(), BadEnd> {
-        if cell as usize >= self.cells.len() {
-            return Err(BadEnd::Outside);
-        }
-        let access = Access { cell, thread, kind };
-        if self.record.iter().any(|&other| access.races_with(other)) {
-            return Err(BadEnd::Race);
-        }
-        if let Err(place) = self.record.binary_search(&access) {
-            self.record.insert(place, access);
-        }
-        Ok(())
+    /// What ops 2, 3 and 19 tell a thread: its number in its group, the number
+    /// of the group's threads, and its number in the launch.
+    fn number_told(&self, kernel: &Kernel, op: u8, launch_number: usize) -> u32 {
+        let (_, in_group) = self.shape.member(launch_number);
+        let told = match op {
+            2 if kernel.makes(Mistake::TidIsLaunchNumber) => launch_number,
+            2 => in_group,
+            3 if kernel.makes(Mistake::CountIsOfLaunch) => self.threads.len(),
+            3 => self.shape.threads,
+            _ if kernel.makes(Mistake::LaunchNumberIsTid) => in_group,
+            _ => launch_number,
+        };
+        told as u32
     }
 
-    /// Subtracts from the counts of a loop what all threads have in common
-    /// there, where this changes no later comparison of counts: all threads
-    /// are inside the loop, with equal counts for all loops around it. A
-    /// thread that enters the loop anew has by then another count for a loop
-    /// around it, and the outermost loop is entered once. So states of
-    /// endless runs come again.
+    /// Enters an access to the cell of that number in the record and gives the
+    /// cell's place, unless the access ends the run badly.
+    fn access(
+        &mut self,
+        kernel: &Kernel,
+        launch_number: usize,
+        (space, number): (Space, u32),
+        kind: Kind,
+    ) -> Result<usize, BadEnd> {
+        let (shape, mistake) = (self.shape, kernel.mistake);
+        let (group, thread) = shape.member(launch_number);
+        let answering = match mistake {
+            Some(Mistake::OwnCellsOfGroup0) => 0,
+            _ => group,
+        };
+        let places = match space {
+            Space::Own => shape.own_places(answering),
+            Space::Global => shape.groups * shape.cells..self.cells.len(),
+        };
+        if number as usize >= places.len() {
+            return Err(BadEnd::Outside);
+        }
+        let access = Access {
+            place: places.start + number as usize,
+            group,
+            thread: Some(thread),
+            kind,
+        };
+        let races = |&other: &Access| access.races_with(other, shape, mistake);
+        if self.record.iter().any(races) {
+            return Err(BadEnd::Race);
+        }
+        if let Err(entry) = self.record.binary_search(&access) {
+            self.record.insert(entry, access);
+        }
+        Ok(access.place)
+    }
+
+    /// Subtracts from the counts of a loop what all threads of a group have in
+    /// common there, where this changes no later comparison of counts: all
+    /// threads of the group are inside the loop, with equal counts for all loops
+    /// around it. A thread that enters the loop anew has by then another count
+    /// for a loop around it, and the outermost loop is entered once. So states
+    /// of endless runs come again. Counts of two groups are never compared.
     pub fn level_counts(&mut self) {
-        for depth in 0.. {
-            let Some(first) = self.threads[0].loops.get(depth).cloned() else {
-                return;
-            };
-            let counts = || self.threads.iter().map(|thread| thread.loops.get(depth));
-            if !counts().all(|count| count.is_some_and(|count| count.head == first.head)) {
-                return;
-            }
-            let least = counts().flatten().map(|count| count.times).min();
-            let equal = counts().flatten().all(|count| *count == first);
-            for thread in &mut self.threads {
-                thread.loops[depth].times -= least.unwrap_or(0);
-            }
-            if !equal {
-                return;
-            }
+        for group in 0..self.shape.groups {
+            level_group(&mut self.threads[self.shape.members(group)]);
         }
     }
 
@@ -335,6 +549,36 @@ impl State {
             thread.loops.clear();
         }
         state
+    }
+}
+
+/// Levels the loop counts of one group's threads.
+fn level_group(threads: &mut [Thread]) {
+    for depth in 0.. {
+        let Some(first) = threads[0].loops.get(depth).cloned() else {
+            return;
+        };
+        let counts = || threads.iter().map(|thread| thread.loops.get(depth));
+        if !counts().all(|count| count.is_some_and(|count| count.head == first.head)) {
+            return;
+        }
+        let least = counts().flatten().map(|count| count.times).min();
+        let equal = counts().flatten().all(|count| *count == first);
+        for thread in &mut *threads {
+            thread.loops[depth].times -= least.unwrap_or(0);
+        }
+        if !equal {
+            return;
+        }
+    }
+}
+
+/// Ops 16 to 18 use the group's own cells, 20 to 22 the global ones.
+fn space(op: u8) -> Space {
+    if op < 20 {
+        Space::Own
+    } else {
+        Space::Global
     }
 }
 
@@ -430,43 +674,159 @@ mod tests {
         }
     }
 
+    const KINDS: [Kind; 5] = [
+        Kind::Load,
+        Kind::Store(0),
+        Kind::Store(1),
+        Kind::Store(1 << 31),
+        Kind::Add,
+    ];
+
     #[test]
-    fn only_loads_only_adds_and_only_equal_stores_agree() {
-        use Kind::{Add, Load, Store};
-        let kinds = [Load, Store(0), Store(1), Store(1 << 31), Add];
-        for (i, one) in kinds.into_iter().enumerate() {
-            for (j, other) in kinds.into_iter().enumerate() {
-                assert_eq!(one.agrees_with(other), i == j, "{one:?}, {other:?}");
+    fn only_loads_only_adds_and_in_a_group_equal_stores_agree() {
+        for (i, one) in KINDS.into_iter().enumerate() {
+            for (j, other) in KINDS.into_iter().enumerate() {
+                let equal = i == j;
+                assert_eq!(one.agrees_in_group(other), equal, "{one:?}, {other:?}");
+                let store = matches!(one, Kind::Store(_));
+                let agree = one.agrees_across_groups(other);
+                assert_eq!(agree, equal && !store, "{one:?}, {other:?}");
             }
         }
-        let access = |cell, thread, kind| Access { cell, thread, kind };
-        assert!(access(1, 0, Add).races_with(access(1, 1, Load)));
-        assert!(!access(1, 0, Add).races_with(access(1, 0, Load)));
-        assert!(!access(1, 0, Add).races_with(access(2, 1, Load)));
-        assert!(access(1, 0, Store(5)).races_with(access(1, 1, Store(6))));
-        assert!(!access(1, 0, Store(5)).races_with(access(1, 1, Store(5))));
-        assert!(!access(1, 0, Store(5)).races_with(access(1, 0, Store(6))));
-        assert!(!access(1, 0, Store(5)).races_with(access(2, 1, Store(6))));
-        assert!(access(1, 0, Store(5)).races_with(access(1, 1, Load)));
-        assert!(access(1, 0, Store(5)).races_with(access(1, 1, Add)));
+    }
+
+    /// Two groups of two threads, each with one own cell, and one global cell.
+    const TWO_BY_TWO: Shape = Shape {
+        groups: 2,
+        threads: 2,
+        cells: 1,
+        global: 1,
+    };
+
+    #[test]
+    fn threads_of_a_group_race_until_forgotten_and_groups_always() {
+        for place in [0, 2] {
+            let of = |group, thread, kind| Access {
+                place,
+                group,
+                thread,
+                kind,
+            };
+            let race = |one: Access, other| one.races_with(other, TWO_BY_TWO, None);
+            for one in KINDS {
+                for other in KINDS {
+                    let first = of(0, Some(0), one);
+                    let apart = !one.agrees_in_group(other);
+                    assert_eq!(race(first, of(0, Some(1), other)), apart);
+                    assert!(!race(first, of(0, Some(0), other)));
+                    assert!(!race(first, of(0, None, other)));
+                    let across = !one.agrees_across_groups(other);
+                    for thread in [Some(0), Some(1), None] {
+                        assert_eq!(race(first, of(1, thread, other)), across);
+                    }
+                    let elsewhere = Access {
+                        place: 1,
+                        ..of(0, Some(1), other)
+                    };
+                    assert!(!race(first, elsewhere));
+                }
+            }
+        }
+    }
+
+    fn access(state: &mut State, thread: usize, cell: (Space, u32), kind: Kind) -> Option<BadEnd> {
+        state.access(&Kernel::new(&[]), thread, cell, kind).err()
     }
 
     /// Every value that a thread has stored is kept, each once.
     #[test]
     fn the_record_keeps_all_values_of_a_thread() {
-        let mut state = State::start(2, &[0, 0]);
+        let mut state = State::start(1, 2, &[0, 0], &[]);
+        let store = |state: &mut State, thread, cell, value| {
+            access(state, thread, (Space::Own, cell), Kind::Store(value))
+        };
         for value in [6, 5, 6, 0, 5] {
-            assert_eq!(state.access(0, 1, Kind::Store(value)), Ok(()));
+            assert_eq!(store(&mut state, 0, 1, value), None);
         }
         let kept: Vec<Kind> = state.record.iter().map(|access| access.kind).collect();
         assert_eq!(kept, [0, 5, 6].map(Kind::Store));
         for value in [0, 5, 6, 7] {
-            let met = state.access(1, 1, Kind::Store(value));
-            assert_eq!(met, Err(BadEnd::Race), "{value}");
-            assert_eq!(state.access(1, 0, Kind::Store(5)), Ok(()));
+            let met = store(&mut state, 1, 1, value);
+            assert_eq!(met, Some(BadEnd::Race), "{value}");
+            assert_eq!(store(&mut state, 1, 0, 5), None);
         }
-        assert_eq!(state.access(0, 0, Kind::Store(5)), Ok(()));
-        assert_eq!(state.access(0, 0, Kind::Store(6)), Err(BadEnd::Race));
+        assert_eq!(store(&mut state, 0, 0, 5), None);
+        assert_eq!(store(&mut state, 0, 0, 6), Some(BadEnd::Race));
+    }
+
+    /// Own cells are 2 for each group, global ones 3 for all of them.
+    #[test]
+    fn cells_are_outside_by_their_own_count() {
+        let mut state = State::start(2, 1, &[0; 4], &[0; 3]);
+        let mut outside = |thread, space, number| {
+            let met = access(&mut state, thread, (space, number), Kind::Load);
+            assert!(met.is_none_or(|end| end == BadEnd::Outside));
+            met.is_some()
+        };
+        for thread in [0, 1] {
+            for number in [0, 1, 2, 3, 4, u32::MAX] {
+                assert_eq!(outside(thread, Space::Own, number), number >= 2);
+                assert_eq!(outside(thread, Space::Global, number), number >= 3);
+            }
+        }
+    }
+
+    /// A release leaves of its own group's accesses those to global cells, and
+    /// these are no thread's any more; other groups' accesses are as they were.
+    #[test]
+    fn a_release_forgets_its_own_group() {
+        let mut state = State::start(2, 2, &[0, 0], &[0]);
+        for thread in 0..4 {
+            for space in [Space::Own, Space::Global] {
+                assert_eq!(access(&mut state, thread, (space, 0), Kind::Load), None);
+            }
+        }
+        let other_group = |access: &&Access| access.group == 0;
+        let before: Vec<Access> = state.record.iter().filter(other_group).copied().collect();
+        let barrier = Kernel::new(&[BARRIER, 0, 0, 0]);
+        assert_eq!(state.make(&barrier, Move::Release(1)), Ok(()));
+        let after: Vec<Access> = state.record.iter().filter(other_group).copied().collect();
+        assert_eq!((before.len(), after), (4, before));
+        let left = Access {
+            place: 2,
+            group: 1,
+            thread: None,
+            kind: Kind::Load,
+        };
+        assert_eq!(
+            (state.record.len(), state.record.contains(&left)),
+            (5, true)
+        );
+        let rows: Vec<usize> = state.threads.iter().map(|thread| thread.row).collect();
+        assert_eq!(rows, [0, 0, 1, 1]);
+    }
+
+    #[test]
+    fn numbers_in_the_group_and_in_the_launch() {
+        // R0 = TID, R1 = COUNT, R2 = launch number.
+        let kernel = Kernel::new(&[2, 0, 0, 0, 3, 1, 0, 0, 19, 2, 0, 0]);
+        let mut state = State::start(3, 2, &[0; 3], &[]);
+        for thread in 0..6 {
+            for _ in 0..3 {
+                assert_eq!(state.make(&kernel, Move::Row(thread)), Ok(()));
+            }
+        }
+        let told = |thread: &Thread| [0, 1, 2].map(|register| thread.registers[register]);
+        let told: Vec<[u32; 3]> = state.threads.iter().map(told).collect();
+        let expected = [
+            [0, 2, 0],
+            [1, 2, 1],
+            [0, 2, 2],
+            [1, 2, 3],
+            [0, 2, 4],
+            [1, 2, 5],
+        ];
+        assert_eq!(told, expected);
     }
 
     #[test]

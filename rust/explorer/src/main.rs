@@ -13,8 +13,8 @@ fn main() -> ExitCode {
         return ExitCode::from(2);
     };
     let (tally, faults) = explore(seed, count);
-    for (confirmed, launches) in &tally {
-        println!("{confirmed:?}: {launches}");
+    for ((confirmed, extent), launches) in &tally {
+        println!("{confirmed:?}, {extent:?}: {launches}");
     }
     println!("faults: {faults}");
     if faults == 0 {

@@ -2,7 +2,7 @@
 
 use std::collections::{BTreeMap, BTreeSet, HashMap, HashSet};
 
-use crate::machine::{BadEnd, Kernel, Move, Standing, State};
+use crate::machine::{BadEnd, Kernel, Move, Shape, Standing, State};
 
 /// A run, as the list of its moves.
 pub type Run = Vec<Move>;
@@ -12,8 +12,35 @@ pub type Run = Vec<Move>;
 pub struct End {
     /// The moves made.
     pub made: Made,
-    /// The cells at the end.
+    /// The cells at the end: own ones, group 0 first, and global ones.
     pub cells: Vec<u32>,
+}
+
+/// Which groups may move.
+#[derive(Clone, Copy, Debug, PartialEq, Eq)]
+pub enum Order {
+    /// All of them, in any order.
+    Any,
+    /// One after the other: only the lowest that has not come to its end.
+    GroupByGroup,
+}
+
+impl Order {
+    /// The moves that are possible and in order.
+    fn standing(self, kernel: &Kernel, state: &State) -> Standing {
+        match (self, state.standing(kernel)) {
+            (Self::GroupByGroup, Standing::Open(mut moves)) => {
+                let turn = state.first_unended_group(kernel);
+                moves.retain(|&next| Some(state.group_of(next)) == turn);
+                if moves.is_empty() {
+                    Standing::Stuck
+                } else {
+                    Standing::Open(moves)
+                }
+            }
+            (_, standing) => standing,
+        }
+    }
 }
 
 /// What all runs of a launch have shown.
@@ -25,8 +52,9 @@ pub struct Findings {
     pub complete: bool,
     /// All ways in which runs came to their end, each with a run that did so.
     pub ends: BTreeMap<End, Run>,
-    /// For each release by its number, the cells just before it in any run.
-    pub releases: Vec<BTreeSet<Vec<u32>>>,
+    /// For each group, and each of its releases by its number, the group's own
+    /// cells just before it in any run.
+    pub releases: Vec<Vec<BTreeSet<Vec<u32>>>>,
     /// A run that ended badly.
     pub bad: Option<(Run, BadEnd)>,
     /// A run that is stuck.
@@ -34,7 +62,8 @@ pub struct Findings {
     /// A run after which a part of it can be repeated for ever.
     pub endless: Option<Run>,
     /// A run that leads to a state which another run reaches with another
-    /// number of moves, of releases, or of moves of any one thread.
+    /// number of moves, of releases of any one group, or of moves of any one
+    /// thread.
     pub uneven: Option<Run>,
 }
 
@@ -49,34 +78,34 @@ impl Findings {
 /// so that none of them has to be worked out from the others.
 #[derive(Clone, Debug, PartialEq, Eq, PartialOrd, Ord)]
 pub struct Made {
-    /// Of each thread.
+    /// Of each thread, by launch number.
     pub by_thread: Vec<u32>,
-    /// Releases.
-    pub releases: u32,
+    /// Releases of each group.
+    pub releases: Vec<u32>,
     /// Of any kind.
     pub all: u32,
 }
 
 impl Made {
-    /// None yet, by so many threads.
-    pub fn nothing(threads: usize) -> Self {
+    /// None yet, by all threads and groups of a launch.
+    pub fn nothing(shape: Shape) -> Self {
         Self {
-            by_thread: vec![0; threads],
-            releases: 0,
+            by_thread: vec![0; shape.groups * shape.threads],
+            releases: vec![0; shape.groups],
             all: 0,
         }
     }
 
     /// The numbers of a run's moves.
-    pub fn of(run: &[Move], threads: usize) -> Self {
-        let start = Self::nothing(threads);
+    pub fn of(run: &[Move], shape: Shape) -> Self {
+        let start = Self::nothing(shape);
         run.iter().fold(start, |made, &next| made.after(next))
     }
 
     fn after(mut self, made: Move) -> Self {
         match made {
             Move::Row(thread) => self.by_thread[thread] += 1,
-            Move::Release => self.releases += 1,
+            Move::Release(group) => self.releases[group] += 1,
         }
         self.all += 1;
         self
@@ -92,21 +121,24 @@ struct Frame {
 
 struct Search<'k> {
     kernel: &'k Kernel,
+    order: Order,
     most_states: usize,
     /// Every state seen: the moves made to it, and whether it is on the path.
     seen: HashMap<State, (Made, bool)>,
     /// States on the path without their counts, with the releases before them.
-    on_path: HashSet<(State, u32)>,
+    on_path: HashSet<(State, Vec<u32>)>,
     path: Vec<Frame>,
     run: Run,
     findings: Findings,
 }
 
-/// Plays every run of a launch, as long as no more than `most_states` states
-/// are met; otherwise the findings are not complete.
-pub fn explore(kernel: &Kernel, start: State, most_states: usize) -> Findings {
+/// Plays every run of a launch in which groups move in that order, as long as
+/// no more than `most_states` states are met; otherwise the findings are not
+/// complete.
+pub fn explore(kernel: &Kernel, start: State, order: Order, most_states: usize) -> Findings {
     let mut search = Search {
         kernel,
+        order,
         most_states,
         seen: HashMap::new(),
         on_path: HashSet::new(),
@@ -115,7 +147,8 @@ pub fn explore(kernel: &Kernel, start: State, most_states: usize) -> Findings {
         findings: Findings::default(),
     };
     search.findings.complete = true;
-    let nothing = Made::nothing(start.threads());
+    search.findings.releases = vec![vec![]; start.shape().groups];
+    let nothing = Made::nothing(start.shape());
     search.arrive(start, nothing);
     while search.findings.complete && search.advance() {}
     search.findings.states = search.seen.len();
@@ -135,9 +168,9 @@ impl Search<'_> {
         };
         let mut state = frame.state.clone();
         let count = frame.made.clone();
-        if made == Move::Release {
-            let before = state.cells().to_vec();
-            self.note_release(count.releases as usize, before);
+        if let Move::Release(group) = made {
+            let before = state.own_cells(group).to_vec();
+            self.note_release(group, count.releases[group] as usize, before);
         }
         self.run.push(made);
         match state.make(self.kernel, made) {
@@ -169,7 +202,7 @@ impl Search<'_> {
             self.findings.complete = false;
             return;
         }
-        let place = (state.without_counts(), made.releases);
+        let place = (state.without_counts(), made.releases.clone());
         if self.on_path.contains(&place) {
             // Only threads have moved since, and thread moves don't look at
             // loop counts: the same moves can be made again and again.
@@ -177,7 +210,7 @@ impl Search<'_> {
             self.run.pop();
             return;
         }
-        match state.standing(self.kernel) {
+        match self.order.standing(self.kernel, &state) {
             Standing::Open(untried) => {
                 self.seen.insert(state.clone(), (made.clone(), true));
                 self.on_path.insert(place);
@@ -200,8 +233,8 @@ impl Search<'_> {
             return;
         };
         self.run.pop();
-        self.on_path
-            .remove(&(frame.state.without_counts(), frame.made.releases));
+        let place = (frame.state.without_counts(), frame.made.releases.clone());
+        self.on_path.remove(&place);
         self.seen.insert(frame.state, (frame.made, false));
     }
 
@@ -212,8 +245,8 @@ impl Search<'_> {
         self.findings.ends.entry(end).or_insert_with(run);
     }
 
-    fn note_release(&mut self, number: usize, cells: Vec<u32>) {
-        let releases = &mut self.findings.releases;
+    fn note_release(&mut self, group: usize, number: usize, cells: Vec<u32>) {
+        let releases = &mut self.findings.releases[group];
         if releases.len() <= number {
             releases.resize_with(number + 1, BTreeSet::new);
         }
@@ -240,9 +273,9 @@ pub enum Replay {
 }
 
 /// Makes the moves of a run from the start, to confirm what was said of it.
-pub fn replay(kernel: &Kernel, mut state: State, run: &[Move]) -> Replay {
+pub fn replay(kernel: &Kernel, mut state: State, order: Order, run: &[Move]) -> Replay {
     for (place, &made) in run.iter().enumerate() {
-        match state.standing(kernel) {
+        match order.standing(kernel, &state) {
             Standing::Open(moves) if moves.contains(&made) => {}
             _ => return Replay::Impossible,
         }
@@ -255,7 +288,7 @@ pub fn replay(kernel: &Kernel, mut state: State, run: &[Move]) -> Replay {
             };
         }
     }
-    Replay::Stands(state.standing(kernel))
+    Replay::Stands(order.standing(kernel, &state))
 }
 
 #[cfg(test)]
@@ -267,7 +300,8 @@ mod tests {
 
     fn all_runs(rows: &[[u8; 4]], threads: u32) -> Findings {
         let kernel = Kernel::new(&rows.concat());
-        explore(&kernel, State::start(threads, &[0]), 10_000)
+        let start = State::start(1, threads, &[0], &[]);
+        explore(&kernel, start, Order::Any, 10_000)
     }
 
     /// The moves of every run, where all runs make the same.
@@ -280,7 +314,7 @@ mod tests {
             releases,
             all,
         } = findings.ends.into_keys().next().unwrap().made;
-        (by_thread, releases, all)
+        (by_thread, releases[0], all)
     }
 
     #[test]
@@ -303,19 +337,22 @@ mod tests {
 
     #[test]
     fn moves_of_a_run_are_those_of_its_list() {
-        let run = [1, 0, 1, 1].map(Move::Row);
-        let made = Made::of(&[&run[..], &[Move::Release]].concat(), 3);
-        assert_eq!(made.by_thread, [1, 3, 0]);
-        assert_eq!((made.releases, made.all), (1, 5));
+        let shape = State::start(2, 2, &[0, 0], &[]).shape();
+        let run = [1, 0, 1, 3].map(Move::Row);
+        let releases = [1, 0, 1].map(Move::Release);
+        let made = Made::of(&[&run[..], &releases].concat(), shape);
+        assert_eq!(made.by_thread, [1, 2, 0, 1]);
+        assert_eq!((made.releases, made.all), (vec![1, 2], 7));
     }
 
     /// No launch that passes has such a state, so that one is made by hand.
     #[test]
     fn a_state_reached_by_other_moves_is_uneven() {
         let kernel = Kernel::new(&[TID, TID].concat());
-        let start = State::start(2, &[0]);
+        let start = State::start(1, 2, &[0], &[]);
         let mut search = Search {
             kernel: &kernel,
+            order: Order::Any,
             most_states: 9,
             seen: HashMap::new(),
             on_path: HashSet::new(),
@@ -323,13 +360,13 @@ mod tests {
             run: vec![],
             findings: Findings::default(),
         };
-        let by = |moves: &[Move]| Made::of(moves, 2);
+        let by = |moves: &[Move]| Made::of(moves, start.shape());
         let [first, second] = [0, 1].map(Move::Row);
         search.seen.insert(start.clone(), (by(&[first]), false));
         search.arrive(start.clone(), by(&[first]));
         assert!(search.findings.uneven.is_none());
         // As many moves, but another thread's.
-        search.arrive(start, by(&[second]));
+        search.arrive(start.clone(), by(&[second]));
         assert!(search.findings.uneven.is_some());
     }
 }

@@ -1,9 +1,12 @@
 //! The claim over a fixed number of seeds, and for launches by hand.
 
+mod common;
+
+use common::*;
 use explorer::claim::{check, Confirmed};
 use explorer::machine::{BadEnd, Kernel, Move, Standing, State};
-use explorer::search::{explore, replay, Replay};
-use explorer::{check_seed, Tally};
+use explorer::search::{explore, replay, Order, Replay};
+use explorer::{check_seed, Extent, Tally};
 use generator::SmallLaunch;
 
 const SEEDS: u64 = 4_000;
@@ -15,39 +18,34 @@ fn the_claim_holds_for_every_seed() {
         check_seed(seed, &mut tally).unwrap();
     }
     println!("{tally:#?}");
-    let of = |confirmed| tally.get(&confirmed).copied().unwrap_or(0);
-    for (confirmed, least) in [
-        (Confirmed::Passed, 1_000),
-        (Confirmed::EndsBadly, 500),
-        (Confirmed::Stuck, 200),
-        (Confirmed::Endless, 100),
+    let of = |confirmed, extents: &[Extent]| -> usize {
+        let number = |&extent| tally.get(&(confirmed, extent)).copied().unwrap_or(0);
+        extents.iter().map(number).sum()
+    };
+    use Extent::{GlobalCells, Groups, GroupsAndGlobalCells, OneGroup};
+    for (confirmed, one_group, global, groups, both) in [
+        (Confirmed::Passed, 800, 150, 150, 300),
+        (Confirmed::EndsBadly, 400, 80, 40, 400),
+        (Confirmed::Stuck, 120, 20, 15, 30),
+        (Confirmed::Endless, 60, 6, 10, 10),
     ] {
-        assert!(of(confirmed) >= least, "{confirmed:?}: {}", of(confirmed));
+        for (extent, least) in [
+            (OneGroup, one_group),
+            (GlobalCells, global),
+            (Groups, groups),
+            (GroupsAndGlobalCells, both),
+        ] {
+            let found = of(confirmed, &[extent]);
+            assert!(found >= least, "{confirmed:?}, {extent:?}: {found}");
+        }
     }
-    assert!(of(Confirmed::Unknown) <= SEEDS as usize / 50);
+    let all = [OneGroup, GlobalCells, Groups, GroupsAndGlobalCells];
+    assert!(of(Confirmed::Unknown, &all) <= SEEDS as usize / 50);
 }
 
+/// One group without global cells.
 fn launch(threads: u32, rows: &[[u8; 4]], cells: &[u32]) -> SmallLaunch {
-    SmallLaunch {
-        table: rows.concat(),
-        threads,
-        cells: cells.to_vec(),
-    }
-}
-
-const TID: [u8; 4] = [2, 0, 0, 0];
-const ONE: [u8; 4] = [1, 1, 1, 0];
-const BARRIER: [u8; 4] = [37, 0, 0, 0];
-const ELSE: [u8; 4] = [33, 0, 0, 0];
-const ENDIF: [u8; 4] = [34, 0, 0, 0];
-const ENDWHILE: [u8; 4] = [36, 0, 0, 0];
-
-fn begin_if(a: u8) -> [u8; 4] {
-    [32, 0, a, 0]
-}
-
-fn begin_while(a: u8) -> [u8; 4] {
-    [35, 0, a, 0]
+    launch_of((1, threads), rows, cells, &[])
 }
 
 #[test]
@@ -187,17 +185,12 @@ fn own_accesses_beside_an_add_pass() {
 #[test]
 fn a_release_parts_adds_from_loads_and_stores() {
     for access in [LOAD, STORE] {
-        let late = [begin_if(0), access, ENDIF].concat();
-        let rows = |middle: &[[u8; 4]]| [&[TID, ONE, ADD], middle].concat().concat();
-        let parted = [rows(&[BARRIER]), late.clone()].concat();
-        let together = [rows(&[]), late].concat();
-        let of = |table: Vec<u8>| SmallLaunch {
-            table,
-            threads: 2,
-            cells: vec![7],
-        };
-        assert_eq!(check(&of(parted)), Ok(Confirmed::Passed));
-        assert_eq!(check(&of(together)), Ok(Confirmed::EndsBadly));
+        let late = [begin_if(0), access, ENDIF];
+        let rows = |middle: &[[u8; 4]]| [&[TID, ONE, ADD], middle, &late].concat();
+        let parted = launch(2, &rows(&[BARRIER]), &[7]);
+        assert_eq!(check(&parted), Ok(Confirmed::Passed));
+        let together = launch(2, &rows(&[]), &[7]);
+        assert_eq!(check(&together), Ok(Confirmed::EndsBadly));
     }
 }
 
@@ -211,12 +204,6 @@ fn an_add_outside_ends_badly() {
 
 const SHR: u8 = 10;
 const SAR: u8 = 11;
-
-/// SET Rd = value.
-fn set(d: u8, value: u16) -> [u8; 4] {
-    let [low, high] = value.to_le_bytes();
-    [1, d, low, high]
-}
 
 #[test]
 fn a_shift_decides_the_cell() {
@@ -449,8 +436,8 @@ fn a_flag_set_in_loops_passes_and_another_value_ends_badly() {
 /// Plays the rows of the threads in this order, for two threads.
 fn play(rows: &[[u8; 4]], order: &[usize]) -> Replay {
     let run: Vec<Move> = order.iter().map(|&thread| Move::Row(thread)).collect();
-    let start = State::start(2, &[7, 7, 7]);
-    replay(&Kernel::new(&rows.concat()), start, &run)
+    let start = State::start(1, 2, &[7, 7, 7], &[]);
+    replay(&Kernel::new(&rows.concat()), start, Order::Any, &run)
 }
 
 /// Thread 1 stores 5, 6 and 5, thread 0 stores 5: who meets the race, and by
@@ -491,8 +478,9 @@ fn an_order_that_meets_no_race_is_there_besides_one_that_does() {
         arms(&endless, &unequal),
         [arms(&put(5), &unequal), endless[2..].to_vec()].concat(),
     ] {
-        let start = State::start(2, &[7, 7, 7]);
-        let findings = explore(&Kernel::new(&rows.concat()), start, 9_999);
+        let start = State::start(1, 2, &[7, 7, 7], &[]);
+        let kernel = Kernel::new(&rows.concat());
+        let findings = explore(&kernel, start, Order::Any, 9_999);
         let (_, end) = findings.bad.unwrap();
         assert_eq!((end, findings.endless.is_some()), (BadEnd::Race, true));
     }

@@ -66,6 +66,26 @@ pub fn atomic_add(d: u8, a: u8) -> Row {
     [op::ATOMIC_ADD, d, a, 0]
 }
 
+/// Rd = the thread's number in the launch.
+pub fn launch_number(d: u8) -> Row {
+    [op::LAUNCH_NUMBER, d, 0, 0]
+}
+
+/// Rd = global cell numbered Ra.
+pub fn global_load(d: u8, a: u8) -> Row {
+    [op::GLOBAL_LOAD, d, a, 0]
+}
+
+/// Global cell numbered Rd = Ra.
+pub fn global_store(d: u8, a: u8) -> Row {
+    [op::GLOBAL_STORE, d, a, 0]
+}
+
+/// The global cell numbered Rd grows by Ra.
+pub fn global_add(d: u8, a: u8) -> Row {
+    [op::GLOBAL_ADD, d, a, 0]
+}
+
 pub const fn begin_if(a: u8) -> Row {
     [op::IF, 0, a, 0]
 }

@@ -390,7 +390,7 @@ fn all_records(rng: &mut Rng) -> Plan {
     let releases = match rng.below(8) {
         0 | 1 => rng.range(1_027, 1_100),
         2 => rng.range(1_100, 2_500),
-        _ => rng.pick(&[1_023, 1_023, 1_024, 1_024, 1_025, 1_025, 1_026, 1_026]),
+        _ => rng.pick(&[1_023, 1_023, 1_024, 1_024, 1_024, 1_025, 1_025, 1_026]),
     };
     let a_trip = rng.pick(&[1, 1, 2, 3, 5, 8]);
     let mut rows = head(&common);
@@ -465,12 +465,8 @@ fn far_apart(rng: &mut Rng) -> Plan {
     rows.extend((0..left).map(|_| tid(8)));
     rows.push(load(4, 3));
     let cells = words(rng, &common);
-    Plan {
-        threads: common.threads,
-        limit: rng.pick(&[apart + 100, 1_000_000]),
-        rows,
-        cells,
-    }
+    let limit = rng.pick(&[apart + 100, 1_000_000]);
+    Plan::limited(common.threads, limit, rows, cells)
 }
 
 /// Many accesses of 32 cells in one bank, again and again: the cost of an
@@ -506,12 +502,8 @@ fn past_24_bits(rng: &mut Rng) -> Plan {
         rows.push(BARRIER);
     }
     rows.push(ENDWHILE);
-    Plan {
-        threads: 32,
-        limit: rng.range(570_000, 600_000),
-        rows,
-        cells,
-    }
+    let limit = rng.range(570_000, 600_000);
+    Plan::limited(32, limit, rows, cells)
 }
 
 /// R3 is one of 32 cells in one bank.

@@ -1,9 +1,9 @@
 //! Bare launches, with buffers and lengths right and wrong.
 
-use checker::{log_words, INTERVAL_WORDS, LENT_CELLS, LENT_LOG, MAX_THREADS};
+use checker::{log_words, INTERVAL_WORDS, LENT_CELLS, LENT_LOG, MAX_LAUNCH_THREADS};
 
 use crate::damage::hurt_rows;
-use crate::headers::{out_of_range, LIMIT};
+use crate::headers::{out_of_range, GLOBAL, GROUPS, LIMIT};
 use crate::plan::Plan;
 use crate::rng::Rng;
 use crate::slips::{small_faulty_plan, small_plan};
@@ -14,21 +14,27 @@ use crate::tables::table;
 pub struct BareLaunch {
     /// Table bytes, maybe no multiple of 4.
     pub table: Vec<u8>,
-    /// Threads, maybe out of range.
+    /// Threads of each group, maybe out of range.
     pub threads: u32,
-    /// Cells said, maybe out of range or not as many as lent.
+    /// Own cells said of each group, maybe out of range or not as many as lent.
     pub cells: u32,
+    /// Groups, maybe out of range.
+    pub groups: u32,
+    /// Global cells said, maybe out of range or not as many as lent.
+    pub global: u32,
     /// Limit, maybe out of range.
     pub limit: u32,
-    /// The lent cells, holding the launch's words.
+    /// The lent own cells, holding the launch's words.
     pub lent_cells: Vec<u32>,
+    /// The lent global cells, holding the launch's words.
+    pub lent_global: Vec<u32>,
     /// The lent log, holding anything.
     pub lent_log: Vec<u32>,
     /// The lent list of intervals, maybe too short, holding words that no
     /// record comes to.
     pub lent_intervals: Vec<u32>,
     /// The lent words of steps, holding words that no count comes to.
-    pub lent_steps: [u32; MAX_THREADS as usize],
+    pub lent_steps: [u32; MAX_LAUNCH_THREADS],
 }
 
 /// A bare launch: sound, hurt in some way, with a small table that is turned
@@ -45,7 +51,7 @@ pub fn bare(rng: &mut Rng, any_plan: impl FnOnce(&mut Rng) -> Plan) -> BareLaunc
         }
         _ => one_or_two_faults(rng),
     };
-    launch.lent_steps = [0; MAX_THREADS as usize].map(|_| no_count(rng));
+    launch.lent_steps = [0; MAX_LAUNCH_THREADS].map(|_| no_count(rng));
     launch
 }
 
@@ -55,16 +61,19 @@ fn no_count(rng: &mut Rng) -> u32 {
 }
 
 fn of(rng: &mut Rng, plan: Plan) -> BareLaunch {
-    let log = log_words(plan.cells.len());
+    let log = log_words(plan.cells.len() + plan.global.len());
     BareLaunch {
         table: plan.table(),
         threads: plan.threads,
-        cells: plan.cells.len() as u32,
+        cells: plan.cells_each(),
+        groups: plan.groups,
+        global: plan.global.len() as u32,
         limit: plan.limit,
         lent_cells: plan.cells,
+        lent_global: plan.global,
         lent_log: (0..log).map(|_| rng.word()).collect(),
         lent_intervals: long_enough(rng),
-        lent_steps: [0; MAX_THREADS as usize],
+        lent_steps: [0; MAX_LAUNCH_THREADS],
     }
 }
 
@@ -85,7 +94,7 @@ fn long_enough(rng: &mut Rng) -> Vec<u32> {
 fn cut_intervals(rng: &mut Rng, list: &mut Vec<u32>) {
     let words = match rng.below(4) {
         0 | 1 => rng.pick(&[3_074, 3_074, 3_074, 3_073, 3_072, 3_071]),
-        2 => rng.pick(&[0, 0, 1, 3, 1_024, 1_025, 2_050]),
+        2 => rng.pick(&[0, 0, 1, 3, 1_024, 1_025, 1_025, 2_050]),
         _ => rng.below(INTERVAL_WORDS as u32),
     };
     list.truncate(words as usize);
@@ -104,7 +113,7 @@ fn hurt_or_not(rng: &mut Rng, mut plan: Plan) -> BareLaunch {
 }
 
 fn hurt(rng: &mut Rng, launch: &mut BareLaunch) {
-    match rng.below(16) {
+    match rng.below(19) {
         0 => {
             let len = rng.index(launch.table.len() + 1);
             launch.table.truncate(len);
@@ -122,6 +131,9 @@ fn hurt(rng: &mut Rng, launch: &mut BareLaunch) {
         5 => launch.limit = rng.pick(&[1_000_001, u32::MAX]),
         6 => resize(rng, &mut launch.lent_cells),
         7 | 8 => cut_intervals(rng, &mut launch.lent_intervals),
+        9 => launch.groups = rng.pick(&[0, 9, u32::MAX, 2, 8]),
+        10 => launch.global = rng.pick(&[1, 1_024, 1_025, u32::MAX]),
+        11 => resize(rng, &mut launch.lent_global),
         _ => resize_log(rng, launch),
     }
 }
@@ -147,8 +159,14 @@ fn resize_log(rng: &mut Rng, launch: &mut BareLaunch) {
         8 => rng.pick(&[LENT_LOG - 1, LENT_LOG + 1, 3 * LENT_CELLS]),
         9 => 0,
         _ => {
-            let words =
-                rng.pick(&[1, 1, 1, 2, 2, 2, 2, 3, 3, 3, 4, 4, 4, 6, 6]) * launch.lent_cells.len();
+            let kinds = rng.pick(&[1, 1, 2, 2, 3, 3, 4, 5, 5, 5, 6, 7, 7, 7, 9, 9]);
+            let (own, global) = (launch.lent_cells.len(), launch.lent_global.len());
+            let words = match rng.below(5) {
+                // The global cells forgotten, or the own ones of all groups but one.
+                0 if global > 0 => log_words(own),
+                0 => log_words(launch.cells as usize % 1_025 + global),
+                _ => kinds * (own + global),
+            };
             match rng.below(8) {
                 0 => words + 1,
                 1 => words.saturating_sub(1),
@@ -161,7 +179,7 @@ fn resize_log(rng: &mut Rng, launch: &mut BareLaunch) {
 
 /// The faults of a bare launch that a refusal of their own is told for, in
 /// the order in which they are told.
-const FAULTS: [fn(&mut Rng, &mut BareLaunch, &Plan); 9] = [
+const FAULTS: [fn(&mut Rng, &mut BareLaunch, &Plan); 12] = [
     |rng, launch, _| {
         let more = rng.range(1, 3);
         launch.table.extend((0..more).map(|_| 2));
@@ -174,19 +192,25 @@ const FAULTS: [fn(&mut Rng, &mut BareLaunch, &Plan); 9] = [
     },
     |rng, launch, plan| launch.threads = out_of_range(rng, 0, plan),
     |rng, launch, plan| launch.cells = out_of_range(rng, 1, plan),
+    |rng, launch, plan| launch.groups = out_of_range(rng, GROUPS, plan),
+    |rng, launch, plan| launch.global = out_of_range(rng, GLOBAL, plan),
     |rng, launch, plan| launch.limit = out_of_range(rng, LIMIT, plan),
     |rng, launch, _| {
         let mut rows = table(rng).concat();
         rows.extend(launch.table.split_off(launch.table.len() / 4 * 4));
         launch.table = rows;
     },
-    |rng, launch, _| resize(rng, &mut launch.lent_cells),
+    |rng, launch, plan| match plan.groups {
+        2.. if rng.one_in(3) => launch.lent_cells.truncate(plan.cells_each() as usize),
+        _ => resize(rng, &mut launch.lent_cells),
+    },
+    |rng, launch, _| resize(rng, &mut launch.lent_global),
     |rng, launch, _| resize_log(rng, launch),
     |rng, launch, _| cut_intervals(rng, &mut launch.lent_intervals),
 ];
 
 /// The place of the log among them.
-const LOG: usize = 7;
+const LOG: usize = 10;
 
 /// One fault of a small launch, or two, often such as are told one after the
 /// other.

@@ -267,12 +267,8 @@ fn past_16_bits(rng: &mut Rng) -> Plan {
     rows.extend([add(5, 5, 1); 13]);
     rows.extend([sub(2, 2, 1), ENDWHILE, store(0, 5)]);
     let cells = (0..threads).map(|_| rng.word()).collect();
-    Plan {
-        threads,
-        limit: rng.pick(&[70_000, 1_000_000]),
-        rows,
-        cells,
-    }
+    let limit = rng.pick(&[70_000, 1_000_000]);
+    Plan::limited(threads, limit, rows, cells)
 }
 
 /// A loop without an end, behind an arm of one thread: all counts together are
@@ -286,10 +282,6 @@ fn past_24_bits(rng: &mut Rng) -> Plan {
     rows.extend([ENDIF, begin_while(1)]);
     rows.extend([add(5, 5, 1); 40]);
     rows.push(ENDWHILE);
-    Plan {
-        threads,
-        limit: rng.range(560_000, 600_000),
-        rows,
-        cells: vec![rng.word()],
-    }
+    let limit = rng.range(560_000, 600_000);
+    Plan::limited(threads, limit, rows, vec![rng.word()])
 }

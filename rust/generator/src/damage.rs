@@ -3,7 +3,7 @@
 use checker::op;
 
 use crate::asm::*;
-use crate::plan::{join, Plan};
+use crate::plan::{join, Plan, HEADER_LINES};
 use crate::rng::Rng;
 use crate::spelling::hurt_number;
 use crate::tables::wrong_row_in_frame;
@@ -39,7 +39,7 @@ pub fn noise(rng: &mut Rng) -> Vec<u8> {
     let random = |rng: &mut Rng| if any { rng.byte() } else { rng.pick(alphabet) };
     let mut file: Vec<u8> = (0..len).map(|_| random(rng)).collect();
     if rng.one_in(3) {
-        let start = b"kernel=1\nthreads=2\ncells=1\nlimit=9\nrows=1\n";
+        let start = b"kernel=1\nthreads=2\ncells=1\ngroups=2\nglobal=0\nlimit=9\nrows=1\n";
         file.splice(0..0, start.iter().copied());
     }
     file
@@ -78,9 +78,9 @@ fn put_row(rng: &mut Rng, rows: &mut Vec<Row>, row: Row) {
 
 fn unknown_op(rng: &mut Rng, rows: &mut Vec<Row>) {
     let code = match rng.below(3) {
-        0 => rng.pick(&[0, 15, 19, 31, 38, 255]),
+        0 => rng.pick(&[0, 15, 23, 31, 38, 255]),
         1 => rng.range(38, 255) as u8,
-        _ => rng.range(19, 31) as u8,
+        _ => rng.range(23, 31) as u8,
     };
     let operand = rng.pick(&[0, 0, 16, 255]);
     put_row(rng, rows, [code, operand, 0, operand]);
@@ -182,8 +182,11 @@ fn too_many_rows(rng: &mut Rng, rows: &mut Vec<Row>) {
 
 /// Faults in whole lines or in a line's value.
 fn hurt_lines(rng: &mut Rng, lines: &mut Lines) {
-    let at = rng.index(lines.len());
-    match rng.below(13) {
+    let mut at = rng.index(lines.len());
+    if rng.one_in(3) {
+        at = rng.index(HEADER_LINES);
+    }
+    match rng.below(15) {
         0 => {
             lines.remove(at);
         }
@@ -195,35 +198,62 @@ fn hurt_lines(rng: &mut Rng, lines: &mut Lines) {
             let next = (at + 1) % lines.len();
             lines.swap(at, next);
         }
+        13 => global_first(lines),
+        14 => rename_a_cell(rng, lines),
         3 => lines[at].push(b'\r'),
         4 => lines.iter_mut().for_each(|line| line.push(b'\r')),
         5 | 6 => hurt_number(rng, &mut lines[at]),
         7 => {
-            let header = rng.range(0, 4) as usize;
+            let header = rng.index(HEADER_LINES);
             hurt_number(rng, &mut lines[header]);
         }
         _ => hurt_header(rng, lines),
     }
 }
 
+/// The global cells' lines before those of the own cells, or those of `groups=`
+/// and `global=` exchanged where there are none.
+fn global_first(lines: &mut Lines) {
+    let first = |key: &[u8]| lines.iter().position(|line| line.starts_with(key));
+    match (first(b"cell="), first(b"gcell="), lines.len()) {
+        (Some(own), Some(global), len) if own < global => {
+            lines[own..len - 1].rotate_left(global - own);
+        }
+        _ => lines.swap(3, 4),
+    }
+}
+
+/// A cell's line under the other kind's key.
+fn rename_a_cell(rng: &mut Rng, lines: &mut Lines) {
+    let is_cell = |line: &[u8]| line.starts_with(b"cell=") || line.starts_with(b"gcell=");
+    let cells: Vec<usize> = (0..lines.len()).filter(|&at| is_cell(&lines[at])).collect();
+    if cells.is_empty() {
+        return;
+    }
+    let line = &mut lines[rng.pick(&cells)];
+    if line[0] == b'g' {
+        line.remove(0);
+    } else {
+        line.insert(0, b'g');
+    }
+}
+
 /// A header's number out of range, or at odds with the lines that follow.
 fn hurt_header(rng: &mut Rng, lines: &mut Lines) {
-    let rows = lines
-        .iter()
-        .filter(|line| line.starts_with(b"row="))
-        .count();
-    let cells = lines
-        .iter()
-        .filter(|line| line.starts_with(b"cell="))
-        .count();
-    let around = |rng: &mut Rng, count: usize| (count + rng.index(3)).saturating_sub(1) as u32;
-    let (at, key, value) = match rng.below(9) {
+    let around = |rng: &mut Rng, key: &[u8]| {
+        let count = lines.iter().filter(|line| line.starts_with(key)).count();
+        (count + rng.index(3)).saturating_sub(1) as u32
+    };
+    let (at, key, value) = match rng.below(14) {
         0 | 1 => (1, "threads", rng.pick(&[0, 33, 32, 1, u32::MAX])),
         2 | 3 => (2, "cells", rng.pick(&[0, 1_025, 1_024, u32::MAX])),
-        4 | 5 => (3, "limit", rng.pick(&[1_000_001, 1_000_001, u32::MAX])),
-        6 => (4, "rows", rng.pick(&[257, 257, 256, u32::MAX])),
-        7 => (4, "rows", around(rng, rows)),
-        _ => (2, "cells", around(rng, cells)),
+        4 | 5 => (3, "groups", rng.pick(&[0, 9, 8, 2, 1, u32::MAX])),
+        6 => (4, "global", rng.pick(&[1_024, 1_025, 1, 0, u32::MAX])),
+        7 => (4, "global", around(rng, b"gcell=")),
+        8 | 9 => (5, "limit", rng.pick(&[1_000_001, 1_000_001, u32::MAX])),
+        10 => (6, "rows", rng.pick(&[257, 257, 256, u32::MAX])),
+        11 => (6, "rows", around(rng, b"row=")),
+        _ => (2, "cells", around(rng, b"cell=")),
     };
     lines[at] = format!("{key}={value}").into_bytes();
 }

@@ -172,10 +172,5 @@ fn long_loop(rng: &mut Rng) -> Plan {
     let inside = if threads == 32 { tid(2) } else { BARRIER };
     let rows = vec![set(1, 1), begin_while(1), inside, ENDWHILE];
     let cells = edge_words(rng, 1);
-    Plan {
-        threads,
-        limit,
-        rows,
-        cells,
-    }
+    Plan::limited(threads, limit, rows, cells)
 }

@@ -7,8 +7,10 @@ mod bare;
 mod counts;
 mod damage;
 mod extremes;
+mod groups;
 mod headers;
 mod intervals;
+mod meetings;
 mod patterns;
 mod plan;
 mod random;
@@ -18,6 +20,7 @@ mod shifts;
 mod slips;
 mod small;
 mod small_counts;
+mod small_groups;
 mod small_shifts;
 mod small_stores;
 mod spelling;
@@ -27,7 +30,7 @@ mod words;
 
 pub use bare::BareLaunch;
 pub use plan::Plan;
-pub use reports::report_steps;
+pub use reports::{report_cells, report_steps};
 pub use rng::Rng;
 pub use small::SmallLaunch;
 
@@ -43,8 +46,8 @@ pub fn launch(seed: u64) -> Vec<u8> {
         }
         14..=28 => slips::misspelt(&mut rng),
         29..=31 => slips::hurt_bytes(&mut rng),
-        32..=37 => slips::headers(&mut rng),
-        38..=51 => slips::faulty_table(&mut rng),
+        32..=39 => slips::headers(&mut rng),
+        40..=53 => slips::faulty_table(&mut rng),
         _ => any_plan(&mut rng).file(),
     }
 }
@@ -64,7 +67,16 @@ pub fn small(seed: u64) -> SmallLaunch {
     small::small_launch(&mut Rng::new(seed, 4))
 }
 
+/// About a third for several groups or with global cells.
 fn any_plan(rng: &mut Rng) -> Plan {
+    if rng.one_in(3) {
+        groups::grouped(rng, of_one_group)
+    } else {
+        of_one_group(rng)
+    }
+}
+
+fn of_one_group(rng: &mut Rng) -> Plan {
     match rng.below(118) {
         0..=38 => patterns::pattern(rng),
         39..=48 => banks::banks(rng),

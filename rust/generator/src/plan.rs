@@ -1,37 +1,68 @@
 //! A launch before it is written as a file.
 
-use checker::{bare_launch, log_words, Verdict, INTERVAL_WORDS, MAX_THREADS};
+use checker::{bare_launch, log_words, Verdict, INTERVAL_WORDS, MAX_LAUNCH_THREADS};
 
 use crate::asm::Row;
 use crate::rng::Rng;
 
-/// Threads, limit, rows and cells of a launch, in range or not.
+/// Numbers, rows and cells of a launch, in range or not.
 #[derive(Clone, Debug, PartialEq, Eq)]
 pub struct Plan {
-    /// Threads of the group.
+    /// Threads of each group.
     pub threads: u32,
+    /// Groups, at least one.
+    pub groups: u32,
     /// Rows that may be run.
     pub limit: u32,
     /// The table.
     pub rows: Vec<Row>,
-    /// The cells at the start.
+    /// The own cells at the start, as many of each group, group 0's first.
     pub cells: Vec<u32>,
+    /// The global cells at the start.
+    pub global: Vec<u32>,
 }
 
 /// Rows run to find out how long a launch takes.
 const PROBE: u32 = 20_000;
 
+/// Lines of a file before its rows.
+pub const HEADER_LINES: usize = 7;
+
 impl Plan {
-    /// A plan with a limit chosen to suit its length.
+    /// One group without global cells, with a limit chosen to suit its length.
     pub fn new(rng: &mut Rng, threads: u32, rows: Vec<Row>, cells: Vec<u32>) -> Self {
-        let mut plan = Self {
-            threads,
-            limit: PROBE,
-            rows,
-            cells,
-        };
+        let mut plan = Self::limited(threads, PROBE, rows, cells);
         plan.limit = plan.choose_limit(rng);
         plan
+    }
+
+    /// One group without global cells.
+    pub fn limited(threads: u32, limit: u32, rows: Vec<Row>, cells: Vec<u32>) -> Self {
+        Self {
+            threads,
+            groups: 1,
+            limit,
+            rows,
+            cells,
+            global: vec![],
+        }
+    }
+
+    /// With a limit chosen anew, often about where one of the groups ends.
+    pub fn with_fitting_limit(mut self, rng: &mut Rng) -> Self {
+        self.limit = self.choose_limit(rng);
+        if self.groups > 1 && rng.one_in(3) {
+            let ending = rng.range(1, self.groups);
+            if let Some(rows) = self.rows_of_groups(ending) {
+                self.limit = (rows + rng.pick(&[0, 0, 1, 2])).saturating_sub(rng.below(2));
+            }
+        }
+        self
+    }
+
+    /// Own cells of each group.
+    pub fn cells_each(&self) -> u32 {
+        self.cells.len() as u32 / self.groups
     }
 
     /// Four bytes a row.
@@ -44,12 +75,15 @@ impl Plan {
         let mut lines = vec![
             "kernel=1".to_string(),
             format!("threads={}", self.threads),
-            format!("cells={}", self.cells.len()),
+            format!("cells={}", self.cells_each()),
+            format!("groups={}", self.groups),
+            format!("global={}", self.global.len()),
             format!("limit={}", self.limit),
             format!("rows={}", self.rows.len()),
         ];
         lines.extend((self.rows.iter()).map(|[op, d, a, b]| format!("row={op},{d},{a},{b}")));
         lines.extend(self.cells.iter().map(|cell| format!("cell={cell}")));
+        lines.extend(self.global.iter().map(|cell| format!("gcell={cell}")));
         lines.push("end=kernel".to_string());
         lines.into_iter().map(String::into_bytes).collect()
     }
@@ -83,14 +117,27 @@ impl Plan {
     /// Rows finished, if the launch ends soon. Launches that are refused need
     /// none.
     pub(crate) fn rows_needed(&self) -> Option<u32> {
-        let mut cells = self.cells.clone();
-        let mut log = vec![0; log_words(cells.len())];
-        let count = cells.len() as u32;
-        let (table, mut steps) = (self.table(), [0; MAX_THREADS as usize]);
-        let (threads, log) = (self.threads, &mut log);
-        let list = &mut [0; INTERVAL_WORDS];
+        self.rows_of_groups(self.groups)
+    }
+
+    /// Rows finished by the first groups of the launch, if they end soon.
+    fn rows_of_groups(&self, groups: u32) -> Option<u32> {
+        let each = self.cells_each();
+        let mut cells = self.cells[..(groups * each) as usize].to_vec();
+        let mut global = self.global.clone();
+        let mut log = vec![0; log_words(cells.len() + global.len())];
         let outcome = bare_launch(
-            &table, threads, count, PROBE, &mut cells, log, list, &mut steps,
+            &self.table(),
+            self.threads,
+            each,
+            groups,
+            global.len() as u32,
+            PROBE,
+            &mut cells,
+            &mut global,
+            &mut log,
+            &mut [0; INTERVAL_WORDS],
+            &mut [0; MAX_LAUNCH_THREADS],
         );
         match outcome {
             Ok(outcome) if matches!(outcome.verdict, Verdict::Spent { .. }) => None,

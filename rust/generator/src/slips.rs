@@ -4,21 +4,30 @@
 
 use crate::damage::stretch;
 use crate::headers::{out_of_range, set_number, LIMIT, NUMBERS};
-use crate::plan::{join, Plan};
+use crate::plan::{join, Plan, HEADER_LINES};
 use crate::rng::Rng;
 use crate::spelling::{misspell, misspell_row};
 use crate::tables::{filler, table};
 
 type Lines = Vec<Vec<u8>>;
 
-/// A few rows and cells, of which no run takes long.
+/// A few rows and cells, of which no run takes long; about a third of them for
+/// several groups or with global cells.
 pub fn small_plan(rng: &mut Rng) -> Plan {
-    let count = rng.range(1, 4);
+    let (groups, global) = match rng.below(9) {
+        0 => (1, rng.range(1, 3)),
+        1 => (rng.range(2, 8), 0),
+        2 => (rng.range(2, 3), rng.range(1, 3)),
+        _ => (1, 0),
+    };
+    let count = groups * rng.range(1, 4);
     Plan {
         threads: rng.range(1, 4),
+        groups,
         limit: rng.below(12),
         rows: filler(rng, 4),
         cells: (0..count).map(|_| rng.word()).collect(),
+        global: (0..global).map(|_| rng.word()).collect(),
     }
 }
 
@@ -75,14 +84,17 @@ pub fn hurt_bytes(rng: &mut Rng) -> Vec<u8> {
 }
 
 fn misspell_some_line(rng: &mut Rng, lines: &mut Lines, plan: &Plan) {
-    let (rows, cells) = (plan.rows.len(), plan.cells.len());
+    let (rows, global) = (plan.rows.len(), plan.global.len());
+    let cells = plan.cells.len() + global;
     let at = match rng.below(14) {
-        0..=5 => rng.index(5),
-        6..=9 if rows > 0 => 5 + rng.index(rows),
-        10..=12 => 5 + rows + cells,
-        _ => 5 + rows + rng.index(cells),
+        // A global cell's, right before the end.
+        0..=2 if global > 0 => lines.len() - 2 - rng.index(global),
+        0..=5 => rng.index(HEADER_LINES),
+        6..=9 if rows > 0 => HEADER_LINES + rng.index(rows),
+        10..=12 => HEADER_LINES + rows + cells,
+        _ => HEADER_LINES + rows + rng.index(cells),
     };
-    if (5..5 + rows).contains(&at) && lines[at].starts_with(b"row=") {
+    if (HEADER_LINES..HEADER_LINES + rows).contains(&at) && lines[at].starts_with(b"row=") {
         misspell_row(rng, &mut lines[at]);
     } else {
         misspell(rng, &mut lines[at]);
@@ -140,7 +152,7 @@ pub fn faulty_table(rng: &mut Rng) -> Vec<u8> {
     let plan = small_faulty_plan(rng);
     let mut lines = plan.lines();
     if rng.one_in(8) {
-        let from = 5 + plan.rows.len();
+        let from = HEADER_LINES + plan.rows.len();
         let at = from + rng.index(lines.len() - from);
         misspell(rng, &mut lines[at]);
     }

@@ -3,6 +3,7 @@
 use crate::asm::*;
 use crate::rng::Rng;
 use crate::small_counts::uneven;
+use crate::small_groups::groups;
 use crate::small_shifts::shifts;
 use crate::small_stores::stores;
 
@@ -11,16 +12,30 @@ use crate::small_stores::stores;
 pub struct SmallLaunch {
     /// Four bytes a row.
     pub table: Vec<u8>,
-    /// 2 or 3 threads.
+    /// 1 to 3 threads of each group.
     pub threads: u32,
-    /// 1 to 5 cells.
+    /// 1 to 3 groups.
+    pub groups: u32,
+    /// 1 to 5 own cells of each group, group 0 first.
     pub cells: Vec<u32>,
+    /// Global cells, or none.
+    pub global: Vec<u32>,
 }
 
-/// A small launch: rows at random, a short loop with barriers and accesses, a
-/// shift on which the outcome hangs, threads with unequal steps, or stores that
-/// meet.
+/// A small launch: one group with its own cells alone, or groups and global
+/// cells.
 pub fn small_launch(rng: &mut Rng) -> SmallLaunch {
+    if rng.one_in(2) {
+        one_group(rng)
+    } else {
+        groups(rng)
+    }
+}
+
+/// One group of 2 or 3 threads without global cells: rows at random, a short
+/// loop with barriers and accesses, a shift on which the outcome hangs, threads
+/// with unequal steps, or stores that meet.
+pub fn one_group(rng: &mut Rng) -> SmallLaunch {
     let threads = rng.pick(&[2, 2, 2, 3]);
     let mut count = rng.range(1, 3);
     let mut behind = vec![];
@@ -43,11 +58,7 @@ pub fn small_launch(rng: &mut Rng) -> SmallLaunch {
             if !words.is_empty() {
                 let mut cells = vec![rng.below(3)];
                 cells.extend(&words[..threads as usize]);
-                return SmallLaunch {
-                    table: rows.concat(),
-                    threads,
-                    cells,
-                };
+                return of_one_group(&rows, threads, cells);
             }
             rows
         }
@@ -58,10 +69,16 @@ pub fn small_launch(rng: &mut Rng) -> SmallLaunch {
     }
     let mut cells: Vec<u32> = (0..count).map(|_| rng.below(3)).collect();
     cells.extend(behind);
+    of_one_group(&rows, threads, cells)
+}
+
+fn of_one_group(rows: &[Row], threads: u32, cells: Vec<u32>) -> SmallLaunch {
     SmallLaunch {
         table: rows.concat(),
         threads,
+        groups: 1,
         cells,
+        global: vec![],
     }
 }
 

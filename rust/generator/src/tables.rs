@@ -8,7 +8,7 @@ use crate::rng::Rng;
 
 /// Which bytes of a row its op reads as registers: d, a, b. Accesses stand here
 /// twice, so that they come up more often.
-const OPS: [(u8, [bool; 3]); 26] = {
+const OPS: [(u8, [bool; 3]); 31] = {
     const D: [bool; 3] = [true, false, false];
     const DAB: [bool; 3] = [true; 3];
     const DA: [bool; 3] = [true, true, false];
@@ -35,6 +35,11 @@ const OPS: [(u8, [bool; 3]); 26] = {
         (op::STORE, DA),
         (op::ATOMIC_ADD, DA),
         (op::ATOMIC_ADD, DA),
+        (op::LAUNCH_NUMBER, D),
+        (op::LAUNCH_NUMBER, D),
+        (op::GLOBAL_LOAD, DA),
+        (op::GLOBAL_STORE, DA),
+        (op::GLOBAL_ADD, DA),
         (op::IF, A),
         (op::ELSE, NONE),
         (op::ENDIF, NONE),
@@ -45,17 +50,17 @@ const OPS: [(u8, [bool; 3]); 26] = {
 };
 
 /// Ops next to the known ones.
-const NEAR: [u8; 6] = [0, 15, 19, 31, 38, 255];
+const NEAR: [u8; 6] = [0, 15, 23, 31, 38, 255];
 
 /// A small table with a fault or two, or at the edge of one.
 pub fn table(rng: &mut Rng) -> Vec<Row> {
-    match rng.below(28) {
-        0..=12 | 25.. => one_byte(rng),
+    match rng.below(31) {
+        0..=12 | 26.. => one_byte(rng),
         13 | 14 => one_op(rng),
         15 | 16 => loose(rng),
         17 => one_misfit(rng),
         18 => left_open(rng),
-        19 => nested(rng),
+        19 | 25 => nested(rng),
         _ => two_faults(rng),
     }
 }
@@ -67,10 +72,11 @@ pub fn filler(rng: &mut Rng, most: u32) -> Vec<Row> {
 
 fn plain(rng: &mut Rng) -> Row {
     let [d, a, b] = std::array::from_fn(|_| rng.below(16) as u8);
-    match rng.below(4) {
+    match rng.below(5) {
         0 => tid(d),
         1 => [op::SET, d, rng.byte(), rng.byte()],
         2 => count(d),
+        3 => launch_number(d),
         _ => [rng.range(4, 14) as u8, d, a, b],
     }
 }
@@ -133,7 +139,7 @@ fn one_op(rng: &mut Rng) -> Vec<Row> {
 
 fn unknown(rng: &mut Rng) -> Row {
     let code = match rng.below(4) {
-        0 => rng.range(19, 31) as u8,
+        0 => rng.range(23, 31) as u8,
         1 => rng.range(38, 255) as u8,
         _ => rng.pick(&NEAR),
     };

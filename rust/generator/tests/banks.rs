@@ -6,23 +6,20 @@ mod slow;
 
 use std::collections::BTreeSet;
 
-use checker::{bare_launch, log_words, op, INTERVAL_RECORDS, INTERVAL_WORDS, MAX_LIMIT};
-use common::Counts;
+use checker::{log_words, op, INTERVAL_RECORDS, INTERVAL_WORDS, MAX_LIMIT};
+use common::{around, of_one_group, run, Counts};
 use generator::Plan;
 use slow::{cost, slow_run, Access, Told};
 
-const SEEDS: u64 = 6_000;
+const SEEDS: u64 = 10_000;
 
 /// Sound launches that take a moment only, with their accesses.
 fn launches() -> impl Iterator<Item = (Plan, Told, Vec<Access>)> {
-    (0..SEEDS).map(generator::plan).filter_map(|plan| {
+    of_one_group(SEEDS).filter_map(|plan| {
         let rows = ran(&plan)?[0];
         (rows < 20_000).then(|| {
             let mut seen = vec![];
-            let (threads, limit) = (plan.threads as usize, plan.limit);
-            let told = slow_run(&plan.rows, threads, limit, &plan.cells, |access| {
-                seen.push(access);
-            });
+            let told = slow_run(&plan, |access| seen.push(access));
             (plan, told, seen)
         })
     })
@@ -31,15 +28,11 @@ fn launches() -> impl Iterator<Item = (Plan, Told, Vec<Access>)> {
 /// Rows, barriers, conflicts and the largest cost of an interval, if the launch
 /// isn't refused.
 fn ran(plan: &Plan) -> Option<[u32; 4]> {
-    let mut cells = plan.cells.clone();
-    let (mut log, mut steps) = (vec![0; log_words(cells.len())], [0; 32]);
-    let (list, said) = (&mut [0; INTERVAL_WORDS], cells.len() as u32);
-    let (table, threads) = (plan.table(), plan.threads);
-    let ran = bare_launch(
-        &table, threads, said, plan.limit, &mut cells, &mut log, list, &mut steps,
-    );
-    let ran = ran.ok()?;
-    let most = list.as_chunks::<3>().0.iter().map(|record| record[2]).max();
+    let left = run(plan).ok()?;
+    let ran = left.outcome;
+    let used = INTERVAL_RECORDS.min(ran.barriers as usize + 1);
+    let records = &left.list.as_chunks::<3>().0[..used];
+    let most = records.iter().map(|record| record[2]).max();
     Some([ran.rows, ran.barriers, ran.conflicts, most.unwrap_or(0)])
 }
 
@@ -61,23 +54,6 @@ fn in_banks(cells: &BTreeSet<usize>) -> Vec<usize> {
 fn with_banks(cells: &BTreeSet<usize>, banks: usize) -> u32 {
     let in_bank = |bank| cells.iter().filter(|&cell| cell % banks == bank).count();
     (0..banks).map(in_bank).max().unwrap_or(0).saturating_sub(1) as u32
-}
-
-/// The constructs around a row: I, E for the arm behind an ELSE, W.
-fn around(rows: &[[u8; 4]], row: usize) -> String {
-    let mut open = String::new();
-    for row in &rows[..row] {
-        match row[0] {
-            op::IF => open.push('I'),
-            op::WHILE => open.push('W'),
-            op::ELSE | op::ENDIF | op::ENDWHILE => drop(open.pop()),
-            _ => {}
-        }
-        if row[0] == op::ELSE {
-            open.push('E');
-        }
-    }
-    open
 }
 
 #[test]
@@ -306,9 +282,7 @@ fn lists_that_are_full() {
 #[test]
 fn costs_past_8_16_and_24_bits() {
     let (mut counts, mut rare) = (Counts::default(), Counts::default());
-    let outcomes = (0..SEEDS)
-        .map(generator::plan)
-        .filter_map(|plan| ran(&plan));
+    let outcomes = of_one_group(SEEDS).filter_map(|plan| ran(&plan));
     for [_, barriers, conflicts, most] in outcomes {
         counts.see("an interval past 8 bits", most > 255);
         counts.see("an interval past 16 bits", most > 65_535);
@@ -336,9 +310,11 @@ fn lent_lists_of_all_lengths() {
         for length in [0, 1, 1_025, 3_072, 3_074, 3_075, 3_076] {
             counts.see(format!("{length} words"), words == length);
         }
-        let (cells, log) = (launch.lent_cells.len(), launch.lent_log.len());
+        let (own, global) = (launch.lent_cells.len(), launch.lent_global.len());
+        let (cells, log) = (own + global, launch.lent_log.len());
         counts.see("more by some records", words > INTERVAL_WORDS + 3);
-        let said = cells == launch.cells as usize;
+        let all = u64::from(launch.groups) * u64::from(launch.cells);
+        let said = own as u64 == all && global == launch.global as usize;
         counts.see(
             "with a wrong log",
             words < INTERVAL_WORDS && said && log != log_words(cells),

@@ -4,13 +4,13 @@
 mod common;
 
 use checker::{
-    bare_launch, log_words, op, AccessKind, Outcome, Refusal, Verdict, INTERVAL_WORDS, MAX_FILE,
-    MAX_LIMIT, MAX_ROWS,
+    log_words, op, AccessKind, Outcome, Refusal, Verdict, INTERVAL_WORDS, MAX_FILE, MAX_LIMIT,
+    MAX_ROWS,
 };
-use common::{around, Counts};
+use common::{around, of_one_group, run, small_plan, Counts};
 use generator::{BareLaunch, Plan};
 
-const SEEDS: u64 = 4_000;
+const SEEDS: u64 = 6_000;
 
 /// Whether some line of a file has this key and a value of this kind.
 fn has(file: &[u8], key: &str, value: impl Fn(&[u8]) -> bool) -> bool {
@@ -21,7 +21,9 @@ fn has(file: &[u8], key: &str, value: impl Fn(&[u8]) -> bool) -> bool {
     })
 }
 
-const KEYS: [&str; 6] = ["threads", "cells", "limit", "rows", "row", "cell"];
+const KEYS: [&str; 9] = [
+    "threads", "cells", "groups", "global", "limit", "rows", "row", "cell", "gcell",
+];
 
 fn only(value: &[u8], more: &[u8]) -> bool {
     let fits = |byte: &u8| byte.is_ascii_digit() || b",".contains(byte) || more.contains(byte);
@@ -114,13 +116,23 @@ fn keys_and_values_that_are_almost_right() {
 }
 
 /// The header's numbers that can be read, 0 to 2^32 - 1.
-fn header(file: &[u8]) -> [Option<u32>; 4] {
+fn header(file: &[u8]) -> [Option<u32>; 6] {
     let mut lines = file.split(|&byte| byte == b'\n').skip(1);
-    ["threads=", "cells=", "limit=", "rows="].map(|key| {
+    let keys = [
+        "threads=", "cells=", "groups=", "global=", "limit=", "rows=",
+    ];
+    keys.map(|key| {
         let value = lines.next()?.strip_prefix(key.as_bytes())?;
         let number = std::str::from_utf8(value).ok()?.parse().ok()?;
         (!value.starts_with(b"+")).then_some(number)
     })
+}
+
+/// All cells together, where the numbers before are in range.
+fn all_cells(cells: Option<u32>, groups: Option<u32>, global: Option<u32>) -> Option<u64> {
+    let fine = !bad(cells, 1, 1_024) && !bad(groups, 1, 8);
+    let own = u64::from(cells?) * u64::from(groups?);
+    fine.then_some(own + u64::from(global?))
 }
 
 fn bad(number: Option<u32>, low: u32, high: u32) -> bool {
@@ -131,7 +143,28 @@ fn bad(number: Option<u32>, low: u32, high: u32) -> bool {
 fn both_sides_of_every_limit() {
     let mut counts = Counts::default();
     for file in (0..SEEDS).map(generator::launch) {
-        let [threads, cells, limit, rows] = header(&file);
+        let [threads, cells, groups, global, limit, rows] = header(&file);
+        for edge in [0, 1, 2, 8, 9] {
+            counts.see(format!("groups {edge}"), groups == Some(edge));
+        }
+        counts.see(
+            "all cells 1,024",
+            all_cells(cells, groups, global) == Some(1_024),
+        );
+        counts.see(
+            "all cells 1,025",
+            all_cells(cells, groups, global) == Some(1_025),
+        );
+        // Read by a sum of 32 bits, or of 16, they would be in range.
+        for bits in [16, 32] {
+            let wraps = all_cells(cells, groups, global)
+                .is_some_and(|all| all > 1_024 && all % (1 << bits) <= 1_024);
+            counts.see(format!("all cells past {bits} bits"), wraps);
+        }
+        counts.see(
+            "groups as a byte",
+            groups.is_some_and(|n| n % 256 < 9 && n > 255),
+        );
         for edge in [0, 1, 32, 33] {
             counts.see(format!("threads {edge}"), threads == Some(edge));
         }
@@ -168,14 +201,17 @@ fn two_faults_in_a_header() {
     let mut counts = Counts::default();
     for file in (0..SEEDS).map(generator::launch) {
         let numbers = header(&file);
-        let [threads, cells, limit, rows] = numbers;
+        let [threads, cells, groups, global, limit, rows] = numbers;
+        let own = cells.unwrap_or(0).saturating_mul(groups.unwrap_or(0));
         let out = [
             bad(threads, 1, 32),
             bad(cells, 1, 1_024),
+            bad(groups, 1, 8),
+            bad(global, 0, 1_024_u32.saturating_sub(own)),
             bad(limit, 0, MAX_LIMIT),
             bad(rows, 0, MAX_ROWS as u32),
         ];
-        for first in 0..3 {
+        for first in 0..5 {
             let next = first + 1;
             counts.see(format!("{first} and {next}"), out[first] && out[next]);
             let misspelt = out[first] && numbers[next].is_none();
@@ -187,8 +223,8 @@ fn two_faults_in_a_header() {
 
 /// What the row checks say of a table, with all else in order.
 fn rows_refused(table: &[u8]) -> Option<Refusal> {
-    let list = &mut [0; INTERVAL_WORDS];
-    bare_launch(table, 1, 1, 0, &mut [0], &mut [0; 5], list, &mut [0; 32]).err()
+    let rows = table.as_chunks().0.to_vec();
+    run(&Plan::limited(1, 0, rows, vec![0])).err()
 }
 
 /// The four bytes of a `row=` line that is spelt right.
@@ -246,7 +282,7 @@ fn each_byte_of_each_op_is_wrong_alone() {
     let mut counts = Counts::default();
     for table in tables() {
         let refused = rows_refused(&table);
-        for known in (1..=14).chain(16..=18).chain(32..=37) {
+        for known in (1..=14).chain(16..=22).chain(32..=37) {
             for byte in 1..4 {
                 if known == op::SET && byte > 1 {
                     continue;
@@ -271,7 +307,7 @@ fn unknown_ops_next_to_known_ones() {
     let mut counts = Counts::default();
     for table in tables() {
         let refused = rows_refused(&table);
-        for unknown in [0, 15, 19, 31, 38, 255] {
+        for unknown in [0, 15, 23, 31, 38, 255] {
             let seen = refused.is_some_and(|Refusal { number, place }| {
                 number == 3 && table[4 * place as usize] == unknown
             });
@@ -313,24 +349,32 @@ fn eight_and_nine_constructs_of_both_kinds() {
     counts.expect(20);
 }
 
+/// Own cells of all groups as a bare launch says them.
+fn said_own(launch: &BareLaunch) -> usize {
+    launch.groups as usize * launch.cells as usize
+}
+
 /// The refusals that a bare launch earns, each by itself.
 fn faults(launch: &BareLaunch) -> Vec<&'static str> {
     let table = &launch.table;
-    let (cells, log) = (launch.lent_cells.len(), launch.lent_log.len());
-    let said = launch.cells as usize;
+    let (own, global) = (said_own(launch), launch.global as usize);
+    let lent = (launch.lent_cells.len(), launch.lent_global.len());
+    let log = launch.lent_log.len();
     let few = table.len() / 4 <= MAX_ROWS;
     [
         ("1", !table.len().is_multiple_of(4)),
         ("2", !few),
         ("8", bad(Some(launch.threads), 1, 32)),
         ("9", bad(Some(launch.cells), 1, 1_024)),
+        ("32", bad(Some(launch.groups), 1, 8)),
+        ("33", own + global > 1_024),
         ("10", bad(Some(launch.limit), 0, MAX_LIMIT)),
         (
             "rows",
             few && rows_refused(&table[..table.len() / 4 * 4]).is_some(),
         ),
-        ("20", cells != said),
-        ("21", log != log_words(said)),
+        ("20", lent != (own, global)),
+        ("21", log != log_words(own + global)),
         ("30", launch.lent_intervals.len() < INTERVAL_WORDS),
     ]
     .into_iter()
@@ -341,8 +385,10 @@ fn faults(launch: &BareLaunch) -> Vec<&'static str> {
 #[test]
 fn two_faults_of_a_bare_launch() {
     let mut counts = Counts::default();
-    let names = ["1", "2", "8", "9", "10", "rows", "20", "21", "30"];
-    for launch in (0..SEEDS).map(generator::bare) {
+    let names = [
+        "1", "2", "8", "9", "32", "33", "10", "rows", "20", "21", "30",
+    ];
+    for launch in (0..2 * SEEDS).map(generator::bare) {
         let found = faults(&launch);
         for (at, first) in names.iter().enumerate() {
             for second in &names[at + 1..] {
@@ -354,26 +400,46 @@ fn two_faults_of_a_bare_launch() {
                 counts.see(format!("{first} and {second}"), seen);
             }
         }
-        let (cells, lent) = (launch.cells as usize, launch.lent_cells.len());
-        let log = launch.lent_log.len();
-        counts.see("one cell more", found == ["20"] && lent == cells + 1);
-        counts.see("one cell fewer", found == ["20"] && lent + 1 == cells);
+        let (own, lent) = (said_own(&launch), launch.lent_cells.len());
+        let (global, lent_global) = (launch.global as usize, launch.lent_global.len());
+        let (cells, log) = (own.saturating_add(global), launch.lent_log.len());
+        counts.see("one cell more", found == ["20"] && lent == own + 1);
+        counts.see("one cell fewer", found == ["20"] && lent + 1 == own);
+        let of_global = found == ["20"] && lent == own;
+        counts.see(
+            "one global cell more",
+            of_global && lent_global == global + 1,
+        );
+        counts.see(
+            "one global cell fewer",
+            of_global && lent_global + 1 == global,
+        );
+        let one_group = found == ["20"] && launch.groups > 1 && lent == launch.cells as usize;
+        counts.see("own cells of one group", one_group);
+        let exchanged = found == ["20"] && (lent, lent_global) == (global, own);
+        counts.see("own and global cells exchanged", exchanged && own != global);
         let mut see = |name: &str, length: usize| {
             let seen = found == ["21"] && cells > 1 && log == length;
             counts.see(format!("log of {name}"), seen);
         };
-        see("one word more", 5 * cells + 1);
-        see("one word fewer", 5 * cells - usize::from(cells > 0));
+        see("one word more", log_words(cells.min(9_999)) + 1);
+        see("one word fewer", log_words(cells.clamp(1, 9_999)) - 1);
         see("one kind", cells);
         see("two kinds", 2 * cells);
         see("three kinds", 3 * cells);
         see("four kinds", 4 * cells);
+        see("five kinds", 5 * cells);
         see("six kinds", 6 * cells);
-        see("a whole file", 5_120);
+        see("seven kinds", 7 * cells);
+        see("nine kinds", 9 * cells);
+        if global > 0 {
+            see("own cells only", log_words(own.min(9_999)));
+        }
+        see("a whole file", 8_192);
         see("no word", 0);
-        let whole = [3_072, 5_119, 5_121].contains(&log);
+        let whole = [5_120, 8_191, 8_193].contains(&log);
         counts.see("log of nearly a whole file", found == ["21"] && whole);
-        for words in [3, 4, 6] {
+        for words in [5, 7, 9] {
             let near = log.abs_diff(words * cells) == 1;
             let seen = found == ["21"] && cells > 1 && near;
             counts.see("log of other words a cell but for one", seen);
@@ -384,9 +450,7 @@ fn two_faults_of_a_bare_launch() {
 
 /// Sound launches with these rows among theirs.
 fn plans_with(rows: &'static [[u8; 4]]) -> impl Iterator<Item = Plan> {
-    (0..SEEDS)
-        .map(generator::plan)
-        .filter(move |plan| plan.rows.windows(rows.len()).any(|some| some == rows))
+    of_one_group(SEEDS).filter(move |plan| plan.rows.windows(rows.len()).any(|some| some == rows))
 }
 
 /// What a thread shifts, by what amount, and whether only some threads do.
@@ -536,7 +600,7 @@ fn shifts_that_decide_the_verdict() {
         counts.see(format!("{wrong} for passed"), false);
     }
     counts.see("passed for spent", false);
-    for plan in (0..SEEDS).map(generator::plan).filter_map(with_shifts) {
+    for plan in of_one_group(SEEDS).filter_map(with_shifts) {
         see_changes(&mut counts, &plan);
     }
     // Others occur, but need not.
@@ -545,10 +609,8 @@ fn shifts_that_decide_the_verdict() {
     counts.0.retain(|name, _| asked(name));
     counts.expect(3);
     // What else turns into or out of passed is no single chance find.
-    for plan in (SEEDS..8 * SEEDS)
-        .map(generator::plan)
-        .filter_map(with_shifts)
-    {
+    let more = of_one_group(8 * SEEDS).skip(SEEDS as usize);
+    for plan in more.filter_map(with_shifts) {
         see_changes(&mut others, &plan);
     }
     others.0.retain(|name, _| name.contains("passed"));
@@ -562,15 +624,8 @@ fn shifts_that_decide_the_verdict_of_small_launches() {
         counts.see(format!("{other} for passed"), false);
         counts.see(format!("passed for {other}"), false);
     }
-    for small in (0..SEEDS).map(generator::small) {
-        let (rows, _) = small.table.as_chunks();
-        let plan = Plan {
-            threads: small.threads,
-            limit: 0,
-            rows: rows.to_vec(),
-            cells: small.cells,
-        };
-        if let Some(plan) = with_shifts(plan) {
+    for small in (0..2 * SEEDS).map(generator::small) {
+        if let Some(plan) = with_shifts(small_plan(small, 0)) {
             see_changes(&mut counts, &plan);
         }
     }
@@ -635,22 +690,13 @@ struct Ran {
 
 impl Ran {
     fn of(plan: &Plan) -> Option<Self> {
-        let mut after = plan.cells.clone();
-        let mut log = vec![0; log_words(after.len())];
-        let (table, count) = (plan.rows.concat(), after.len() as u32);
-        let (threads, limit) = (plan.threads, plan.limit);
-        let (cells, masks, mut steps) = (&mut after, &mut log, [0; 32]);
-        let list = &mut [0; INTERVAL_WORDS];
-        let ran = bare_launch(
-            &table, threads, count, limit, cells, masks, list, &mut steps,
-        );
-        let before = plan.cells.clone();
+        let left = run(plan).ok()?;
         Some(Self {
-            outcome: ran.ok()?,
-            steps: steps[..threads as usize].to_vec(),
-            before,
-            after,
-            log,
+            outcome: left.outcome,
+            steps: left.steps[..plan.threads as usize].to_vec(),
+            before: plan.cells.clone(),
+            after: left.cells,
+            log: left.log,
         })
     }
 
@@ -676,7 +722,7 @@ fn ran() -> impl Iterator<Item = (Plan, Ran)> {
 
 /// The launches of so many seeds.
 fn ran_to(seeds: u64) -> impl Iterator<Item = (Plan, Ran)> {
-    (0..seeds).map(generator::plan).filter_map(|plan| {
+    of_one_group(seeds).filter_map(|plan| {
         let ran = Ran::of(&plan)?;
         Some((plan, ran))
     })
@@ -721,7 +767,10 @@ fn every_access_meets_all_that_another_can_have_done() {
     }
     for (_, ran) in ran() {
         if let Verdict::Race {
-            other, kind, at, ..
+            other: Some(other),
+            kind,
+            at,
+            ..
         } = ran.outcome.verdict
         {
             let others = letters(ran.masks(at as usize), other);
@@ -744,7 +793,7 @@ fn races_with_many_and_by_threads_that_were_there() {
     for (_, ran) in ran() {
         let Verdict::Race {
             thread,
-            other,
+            other: Some(other),
             kind,
             at,
             ..
@@ -1004,7 +1053,7 @@ fn barriers_part_accesses_far_up() {
 
 #[test]
 fn the_number_of_threads_is_seldom_that_of_cells() {
-    let differ = (0..SEEDS).map(generator::plan).filter(|plan| {
+    let differ = of_one_group(SEEDS).filter(|plan| {
         let counted = plan.rows.iter().any(|row| row[0] == op::COUNT);
         counted && plan.cells.len() != plan.threads as usize
     });
@@ -1222,16 +1271,49 @@ fn counts_for_the_report_writer_alone() {
     let mut counts = Counts::default();
     for seed in 0..SEEDS {
         let steps = generator::report_steps(&mut generator::Rng::new(seed, 0));
-        for length in [0, 1, 32, 33, 64, 256, 1_024] {
+        for length in [0, 1, 32, 33, 255, 256, 257, 1_024] {
             counts.see(format!("{length} counts"), steps.len() == length);
         }
         counts.see("some counts", (2..32).contains(&steps.len()));
+        counts.see("counts of several groups", (34..256).contains(&steps.len()));
         for digits in 1..=10 {
             let seen = steps.iter().any(|count| count.to_string().len() == digits);
             counts.see(format!("{digits} digits"), seen);
         }
     }
     counts.expect(100);
+}
+
+/// Own and global cells for the report writer alone: it is their sum that counts.
+#[test]
+fn cells_for_the_report_writer_alone() {
+    let mut counts = Counts::default();
+    for seed in 0..SEEDS {
+        let (own, global) = generator::report_cells(&mut generator::Rng::new(seed, 0));
+        let sum = own.len() + global.len();
+        for edge in [0, 1, 1_023, 1_024, 1_025, 2_048] {
+            counts.see(format!("{edge} cells"), sum == edge);
+        }
+        for (edge, name) in [(1_024, "in range"), (1_025, "too many")] {
+            counts.see(
+                format!("own cells only, {name}"),
+                own.len() == edge && sum == edge,
+            );
+            counts.see(
+                format!("global cells only, {name}"),
+                own.is_empty() && sum == edge,
+            );
+            counts.see(
+                format!("both, {name}"),
+                sum == edge && !own.is_empty() && !global.is_empty(),
+            );
+        }
+        counts.see(
+            "few of both",
+            sum < 20 && !own.is_empty() && !global.is_empty(),
+        );
+    }
+    counts.expect(40);
 }
 
 #[test]

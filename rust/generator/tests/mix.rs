@@ -1,19 +1,23 @@
 //! The mix of launches: every verdict and every refusal turns up, none rarely.
 
+mod common;
+
 use std::collections::BTreeMap;
 
 use checker::{
-    bare_launch, check_file, log_words, op, Refusal, Verdict, INTERVAL_WORDS, LENT_CELLS, LENT_LOG,
-    REPORT_ROOM,
+    bare_launch, check_file, op, Refusal, Verdict, INTERVAL_WORDS, LENT_CELLS, LENT_GLOBAL,
+    LENT_LOG, REPORT_ROOM,
 };
+use common::{run, small_plan};
 
 type Tally = BTreeMap<String, usize>;
 
 /// The report's first line, its kind if it has one, or the refusal's number.
 fn answers(file: &[u8]) -> Vec<String> {
-    let (mut cells, mut log) = (vec![0; LENT_CELLS], vec![0; LENT_LOG]);
-    let (mut list, mut out) = (vec![0; INTERVAL_WORDS], vec![0; REPORT_ROOM]);
-    match check_file(file, &mut cells, &mut log, &mut list, &mut out) {
+    let (mut cells, mut global) = (vec![0; LENT_CELLS], vec![0; LENT_GLOBAL]);
+    let (mut log, mut list) = (vec![0; LENT_LOG], vec![0; INTERVAL_WORDS]);
+    let mut out = vec![0; REPORT_ROOM];
+    match check_file(file, &mut cells, &mut global, &mut log, &mut list, &mut out) {
         Ok(len) => {
             let report = std::str::from_utf8(&out[..len]).unwrap();
             let lines = report.lines().map(String::from);
@@ -78,37 +82,40 @@ fn refusals(numbers: &[u32]) -> Vec<String> {
 #[test]
 fn files() {
     let mut tally = Tally::new();
-    for seed in 0..10_000 {
+    for seed in 0..15_000 {
         count(&mut tally, answers(&generator::launch(seed)));
     }
     expect(&tally, &verdicts(), 250);
     expect(&tally, &kinds(), 40);
-    expect(&tally, &refusals(&[2, 3, 4, 5, 6, 7, 8, 9, 10, 11, 12]), 40);
+    let numbers = [2, 3, 4, 5, 6, 7, 8, 9, 10, 11, 12, 32, 33];
+    expect(&tally, &refusals(&numbers), 40);
 }
 
 #[test]
 fn bare_launches() {
     let mut tally = Tally::new();
-    for seed in 0..10_000 {
+    for seed in 0..15_000 {
         let mut bare = generator::bare(seed);
         let before = bare.clone();
-        let (cells, log) = (&mut bare.lent_cells, &mut bare.lent_log);
-        let table = &before.table;
         let found = bare_launch(
-            table,
+            &before.table,
             before.threads,
             before.cells,
+            before.groups,
+            before.global,
             before.limit,
-            cells,
-            log,
+            &mut bare.lent_cells,
+            &mut bare.lent_global,
+            &mut bare.lent_log,
             &mut bare.lent_intervals,
             &mut bare.lent_steps,
         );
         let names = match found {
             Ok(outcome) => {
-                let (steps, behind) = bare.lent_steps.split_at(before.threads as usize);
+                let threads = (before.groups * before.threads) as usize;
+                let (steps, behind) = bare.lent_steps.split_at(threads);
                 assert!(steps.iter().all(|&count| count <= outcome.rows + 1));
-                assert_eq!(behind, &before.lent_steps[steps.len()..]);
+                assert!(behind.iter().all(|&word| word == 0));
                 verdict_names(outcome.verdict)
             }
             Err(refusal) => {
@@ -122,7 +129,7 @@ fn bare_launches() {
     expect(&tally, &kinds(), 40);
     expect(
         &tally,
-        &refusals(&[1, 2, 3, 4, 5, 6, 7, 8, 9, 10, 20, 21, 30]),
+        &refusals(&[1, 2, 3, 4, 5, 6, 7, 8, 9, 10, 20, 21, 30, 32, 33]),
         100,
     );
 }
@@ -130,27 +137,15 @@ fn bare_launches() {
 #[test]
 fn small_launches() {
     let mut tally = Tally::new();
-    for seed in 0..10_000 {
-        let small = generator::small(seed);
-        let mut cells = small.cells.clone();
-        let mut log = vec![0; log_words(cells.len())];
-        let said = cells.len() as u32;
-        let (mut list, mut steps) = ([0; INTERVAL_WORDS], [0; 32]);
-        let found = bare_launch(
-            &small.table,
-            small.threads,
-            said,
-            1_000,
-            &mut cells,
-            &mut log,
-            &mut list,
-            &mut steps,
-        );
-        let outcome = found.expect("small launches are well-formed");
+    for small in (0..15_000).map(generator::small) {
+        let plan = small_plan(small, 1_000);
+        let left = run(&plan).expect("small launches are well-formed");
+        let outcome = left.outcome;
         count(&mut tally, verdict_names(outcome.verdict));
         let passed = outcome.verdict == Verdict::Passed;
+        let cells = plan.cells.len() + plan.global.len();
         let met = |kind: usize| {
-            let masks = &log[kind * cells.len()..(kind + 1) * cells.len()];
+            let masks = &left.log[kind * cells..(kind + 1) * cells];
             passed && masks.iter().any(|mask| mask.count_ones() > 1)
         };
         if met(2) {
@@ -160,7 +155,7 @@ fn small_launches() {
             count(&mut tally, vec!["equal stores that meet".to_string()]);
         }
         if passed
-            && steps[..small.threads as usize]
+            && left.steps[..(plan.groups * plan.threads) as usize]
                 .windows(2)
                 .any(|two| two[0] != two[1])
         {
@@ -179,7 +174,8 @@ fn small_launches() {
 fn plans_with_adds() {
     let adds = |seed: &u64| {
         let rows = generator::plan(*seed).rows;
-        rows.iter().any(|row| row[0] == op::ATOMIC_ADD)
+        rows.iter()
+            .any(|row| matches!(row[0], op::ATOMIC_ADD | op::GLOBAL_ADD))
     };
     let with = (0..4_000).filter(adds).count();
     println!("with adds: {with} of 4000");

@@ -1,48 +1,66 @@
-//! Items 5 and 6 against a slow computation of their own.
+//! Items 4 to 7 against a slow computation of their own.
 
+mod common;
 mod slow;
 
 use checker::{
-    bare_launch, check_file, log_words, op, parse_file, Verdict, INTERVAL_RECORDS, INTERVAL_WORDS,
-    LENT_CELLS, LENT_LOG, REPORT_ROOM,
+    check_file, op, parse_file, Outcome, Verdict, INTERVAL_RECORDS, INTERVAL_WORDS, LENT_CELLS,
+    LENT_GLOBAL, LENT_LOG, REPORT_ROOM,
 };
 
-use slow::{slow_run, Told};
+use common::{run, JUNK};
+use slow::{slow_run, Launch, Stop, Told};
 
-fn name(verdict: Verdict) -> &'static str {
-    match verdict {
-        Verdict::Passed => "passed",
-        Verdict::Race { .. } => "race",
-        Verdict::Outside { .. } => "outside",
-        Verdict::Diverged { .. } => "diverged",
-        Verdict::Spent { .. } => "spent",
-    }
-}
-
-/// Thread, other, kind and cell.
-fn race(verdict: Verdict) -> Option<(usize, usize, String, usize)> {
-    match verdict {
+/// The verdict's name, and where and how the run ended.
+fn ended(outcome: &Outcome) -> (&'static str, Stop) {
+    let numbered = |number: u32| Some(number as usize);
+    let at_row = |row: u32| Stop {
+        row: numbered(row),
+        group: numbered(outcome.group),
+        ..Stop::default()
+    };
+    match outcome.verdict {
+        Verdict::Passed => ("passed", Stop::default()),
         Verdict::Race {
+            row,
+            other_group,
             thread,
             other,
             kind,
             at,
-            ..
-        } => Some((
-            thread as usize,
-            other as usize,
-            format!("{kind:?}").to_lowercase(),
-            at as usize,
-        )),
-        _ => None,
+        } => {
+            let stop = Stop {
+                other_group: numbered(other_group),
+                thread: numbered(thread),
+                other: other.map(|other| other as usize),
+                kind: Some(format!("{kind:?}").to_lowercase()),
+                at: Some(at),
+                ..at_row(row)
+            };
+            ("race", stop)
+        }
+        Verdict::Outside { row, thread, at } => {
+            let stop = Stop {
+                thread: numbered(thread),
+                at: Some(at),
+                ..at_row(row)
+            };
+            ("outside", stop)
+        }
+        Verdict::Diverged { row, thread, other } => {
+            let stop = Stop {
+                thread: numbered(thread),
+                other: numbered(other),
+                ..at_row(row)
+            };
+            ("diverged", stop)
+        }
+        Verdict::Spent { row } => ("spent", at_row(row)),
     }
 }
 
-const JUNK: u32 = 0xdead_beef;
-
 /// The records of a list of which all else is as it was lent.
-fn records(list: &[u32], barriers: u32) -> Vec<[u32; 3]> {
-    let used = INTERVAL_RECORDS.min(barriers as usize + 1);
+fn records(list: &[u32], used: usize) -> Vec<[u32; 3]> {
     let (records, behind) = list.split_at(3 * used);
     assert!(behind.iter().all(|&word| word == JUNK));
     records.as_chunks().0.to_vec()
@@ -52,80 +70,97 @@ fn records(list: &[u32], barriers: u32) -> Vec<[u32; 3]> {
 const LONG: u32 = 60_000;
 
 #[test]
-fn bare_launches_have_the_costs_records_and_log_of_a_slow_run() {
-    let (mut compared, mut costly) = (0, 0);
-    for plan in (0..6_000).map(generator::plan) {
-        let (mut cells, table) = (plan.cells.clone(), plan.table());
-        let mut log = vec![JUNK; log_words(cells.len())];
-        let (mut list, mut steps) = (vec![JUNK; INTERVAL_WORDS + 5], [0; 32]);
-        let (threads, said) = (plan.threads, cells.len() as u32);
-        let ran = bare_launch(
-            &table, threads, said, plan.limit, &mut cells, &mut log, &mut list, &mut steps,
-        );
-        let Ok(outcome) = ran else { continue };
+fn bare_launches_leave_what_a_slow_run_leaves() {
+    let (mut compared, mut costly, mut grouped, mut global) = (0, 0, 0, 0);
+    for plan in (0..9_000).map(generator::plan) {
+        let Ok(left) = run(&plan) else { continue };
+        let outcome = left.outcome;
+        let (verdict, stop) = ended(&outcome);
+        if verdict == "passed" {
+            assert_eq!(outcome.group, plan.groups - 1);
+        }
+        let (steps, behind) = left.steps.split_at((plan.groups * plan.threads) as usize);
+        assert!(behind.iter().all(|&word| word == 0));
+        // Each group that has begun and each release, as far as there is room.
+        let used = INTERVAL_RECORDS.min((outcome.group + 1 + outcome.barriers) as usize);
         let found = Told {
-            verdict: name(outcome.verdict),
+            verdict,
+            stop,
             rows: outcome.rows,
             barriers: outcome.barriers,
-            records: records(&list, outcome.barriers),
-            race: race(outcome.verdict),
-            cells,
-            log,
+            steps: steps.to_vec(),
+            records: records(&left.list, used),
+            cells: left.cells,
+            global: left.global,
+            log: left.log,
         };
         let sum = |word: usize| found.records.iter().map(|record| record[word]).sum::<u32>();
         assert_eq!((sum(1), sum(2)), (outcome.rows, outcome.conflicts));
         if outcome.rows < LONG {
-            let expected = slow_run(
-                &plan.rows,
-                threads as usize,
-                plan.limit,
-                &plan.cells,
-                |_| {},
-            );
-            assert_eq!(found, expected, "{plan:?}");
+            assert_eq!(found, slow_run(&plan, |_| {}), "{plan:?}");
             compared += 1;
             costly += usize::from(outcome.conflicts > 0);
+            grouped += usize::from(plan.groups > 1);
+            global += usize::from(!plan.global.is_empty());
         }
     }
-    println!("{compared} compared, {costly} with costs");
-    assert!(compared > 5_000 && costly > 1_000);
+    println!(
+        "{compared} compared, {costly} with costs, {grouped} grouped, {global} with global cells"
+    );
+    assert!(compared > 7_500 && costly > 1_000 && grouped > 2_000 && global > 1_500);
 }
 
 #[test]
-fn files_have_the_records_of_a_slow_run_and_print_their_sum() {
-    let mut compared = 0;
-    for file in (0..4_000).map(generator::launch) {
-        let (mut cells, mut log) = (vec![JUNK; LENT_CELLS], vec![JUNK; LENT_LOG]);
-        let (mut list, mut out) = (vec![JUNK; INTERVAL_WORDS], vec![0; REPORT_ROOM]);
-        let Ok(len) = check_file(&file, &mut cells, &mut log, &mut list, &mut out) else {
-            assert!(list.iter().all(|&word| word == JUNK));
+fn files_leave_what_a_slow_run_leaves_and_print_its_report() {
+    let (mut compared, mut grouped) = (0, 0);
+    for file in (0..6_000).map(generator::launch) {
+        let (mut cells, mut global) = (vec![JUNK; LENT_CELLS], vec![JUNK; LENT_GLOBAL]);
+        let (mut log, mut list) = (vec![JUNK; LENT_LOG], vec![JUNK; INTERVAL_WORDS]);
+        let mut out = vec![0; REPORT_ROOM];
+        let checked = check_file(
+            &file,
+            &mut cells,
+            &mut global,
+            &mut log,
+            &mut list,
+            &mut out,
+        );
+        let Ok(len) = checked else {
+            let lent = [cells, global, log, list].concat();
+            assert!(lent.iter().all(|&word| word == JUNK));
             continue;
         };
         let launch = parse_file(&file).unwrap();
+        assert_eq!(launch.cells.len() as u32, launch.groups * launch.cells_each);
         if launch.limit > LONG && launch.table.contains(&op::WHILE) {
             continue; // it may be long
         }
-        let (rows, threads) = (launch.table.as_chunks().0, launch.threads as usize);
-        let expected = slow_run(rows, threads, launch.limit, &launch.cells, |_| {});
-        let report = std::str::from_utf8(&out[..len]).unwrap();
-        let conflicts: u32 = expected.records.iter().map(|record| record[2]).sum();
-        let line = format!(
-            "\nbarriers={}\nconflicts={conflicts}\ncell=",
-            expected.barriers
+        let expected = slow_run(
+            Launch {
+                rows: launch.table.as_chunks().0,
+                threads: launch.threads as usize,
+                groups: launch.groups as usize,
+                limit: launch.limit,
+                cells: &launch.cells,
+                global: &launch.global,
+            },
+            |_| {},
         );
-        assert!(report.contains(&line), "{report}, not {line}");
-        assert_eq!(records(&list, expected.barriers), expected.records);
-        let kind = expected
-            .race
-            .map_or("-".to_string(), |(_, _, kind, _)| kind);
-        assert!(report.contains(&format!("\nkind={kind}\n")), "{report}");
+        let report = std::str::from_utf8(&out[..len]).unwrap();
+        assert_eq!(report, expected.report());
+        assert_eq!(records(&list, expected.records.len()), expected.records);
         // The rest of the lent words is kept.
-        for (lent, first) in [(&cells, &expected.cells), (&log, &expected.log)] {
+        for (lent, first) in [
+            (&cells, &expected.cells),
+            (&global, &expected.global),
+            (&log, &expected.log),
+        ] {
             assert_eq!(lent[..first.len()], first[..]);
             assert!(lent[first.len()..].iter().all(|&word| word == JUNK));
         }
         compared += 1;
+        grouped += usize::from(launch.groups > 1);
     }
-    println!("{compared} compared");
-    assert!(compared > 800);
+    println!("{compared} compared, {grouped} grouped");
+    assert!(compared > 1_200 && grouped > 300);
 }

@@ -8,11 +8,11 @@ mod slow;
 use std::collections::{BTreeMap, BTreeSet};
 
 use checker::op;
-use common::{around, Counts};
+use common::{around, of_one_group, small_plan, Counts};
 use generator::Plan;
-use slow::{run_by, Access, Rule, Told};
+use slow::{run_by, Access, Launch, Rule, Told};
 
-const SEEDS: u64 = 8_000;
+const SEEDS: u64 = 10_000;
 /// Longer runs are left out.
 const ROWS: u32 = 400;
 
@@ -48,9 +48,13 @@ const IN_THE_LOG: [Rule; 3] = [Rule::LastKept, Rule::RefusedIsFirst, Rule::Refus
 /// What a plan that the checker wouldn't refuse came to, where it has stores
 /// and isn't long.
 fn told(plan: &Plan, rule: Rule, see: impl FnMut(Access)) -> Option<Told> {
-    let (threads, limit) = (plan.threads as usize, plan.limit.min(ROWS));
+    let limit = plan.limit.min(ROWS);
     let stores = plan.rows.iter().any(|row| row[0] == op::STORE);
-    stores.then(|| run_by(rule, &plan.rows, threads, limit, &plan.cells, see))
+    let launch = Launch {
+        limit,
+        ..Launch::from(plan)
+    };
+    stores.then(|| run_by(rule, launch, see))
 }
 
 /// Whether the constructs are nested no deeper than they may be.
@@ -67,7 +71,7 @@ fn sound(plan: &Plan) -> bool {
 }
 
 fn plans() -> impl Iterator<Item = Plan> {
-    (0..SEEDS).map(generator::plan).filter(sound)
+    of_one_group(SEEDS).filter(sound)
 }
 
 /// In how many launches each mistake shows, in any way and in the report.
@@ -84,8 +88,7 @@ fn each_mistake_shows() {
             };
             anywhere.see(format!("{rule:?}"), wrong != right);
             if !IN_THE_LOG.contains(&rule) {
-                let report = |told: &Told| (told.verdict, told.race.clone(), told.cells.clone());
-                let seen = report(&wrong) != report(&right);
+                let seen = wrong.report() != right.report();
                 reported.see(format!("{rule:?}"), seen);
             }
         }
@@ -106,13 +109,8 @@ fn each_mistake_shows_in_the_verdict_of_small_launches() {
         !kept_only && !shown_only && !bits
     });
     let mistakes: Vec<Rule> = mistakes.collect();
-    for small in (0..SEEDS).map(generator::small) {
-        let plan = Plan {
-            threads: small.threads,
-            limit: ROWS,
-            rows: small.table.as_chunks().0.to_vec(),
-            cells: small.cells,
-        };
+    for small in (0..2 * SEEDS).map(generator::small) {
+        let plan = small_plan(small, ROWS);
         let Some(right) = told(&plan, Rule::Right, |_| {}) else {
             continue;
         };
@@ -254,10 +252,13 @@ fn races_of_all_kinds() {
         let Some((told, uses)) = uses(&plan) else {
             continue;
         };
-        let Some((thread, other, kind, at)) = told.race else {
+        let stop = told.stop;
+        let (Some(kind), Some(thread), Some(other), Some(at)) =
+            (stop.kind, stop.thread, stop.other, stop.at)
+        else {
             continue;
         };
-        let used = &uses[&(at, told.barriers as usize)];
+        let used = &uses[&(at as usize, told.barriers as usize)];
         let set = stores(used);
         let (by, put) = (threads(&set), values(&set));
         let flag = by.len() > 1;

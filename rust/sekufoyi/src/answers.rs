@@ -31,15 +31,17 @@ pub enum AccessKind {
     Aw,
 }
 
-/// How a run ended.
+/// How a run ended. Threads go by their numbers in their group.
 #[derive(Clone, Copy, Debug, PartialEq, Eq, Hash)]
 pub enum Verdict {
-    /// The table's end was reached; so it is by every run of the threads.
+    /// Every group reached the table's end; so it does in every run of the threads.
     Passed,
-    /// Two threads met at a cell.
+    /// Two threads of one group met at a cell, one of the group's own or a global one.
     Race {
         /// Where the run stopped.
         row: u32,
+        /// The group of both threads.
+        group: u32,
         /// The acting thread.
         thread: u32,
         /// The lowest thread that it conflicts with.
@@ -49,19 +51,38 @@ pub enum Verdict {
         /// The cell.
         at: u32,
     },
-    /// An access outside the cells.
+    /// Two groups met at a global cell. A report says `race` of them too, and gives no other thread.
+    GroupRace {
+        /// Where the run stopped.
+        row: u32,
+        /// The acting thread's group.
+        group: u32,
+        /// The lowest group that it conflicts with.
+        other_group: u32,
+        /// The acting thread.
+        thread: u32,
+        /// How they conflict.
+        kind: AccessKind,
+        /// The global cell.
+        at: u32,
+    },
+    /// An access outside the group's own cells, or outside the global ones.
     Outside {
         /// Where the run stopped.
         row: u32,
+        /// The acting thread's group.
+        group: u32,
         /// The acting thread.
         thread: u32,
         /// The number that was used.
         at: u32,
     },
-    /// A barrier that some threads came to, but not all.
+    /// A barrier that some threads of the group came to, but not all.
     Diverged {
         /// Where the run stopped.
         row: u32,
+        /// The group.
+        group: u32,
         /// The lowest thread at the barrier.
         thread: u32,
         /// The lowest thread that is missing.
@@ -71,6 +92,8 @@ pub enum Verdict {
     Spent {
         /// The row that was due.
         row: u32,
+        /// The group whose row it is.
+        group: u32,
     },
 }
 
@@ -79,9 +102,9 @@ pub enum Verdict {
 pub struct Outcome {
     /// How the run ended.
     pub verdict: Verdict,
-    /// Rows run.
+    /// Rows run, by all groups.
     pub rows: u32,
-    /// Barriers that all threads came to.
+    /// Barriers that all threads of a group came to, in all groups.
     pub barriers: u32,
     /// What bank conflicts cost in all rows together.
     pub conflicts: u32,
@@ -132,37 +155,76 @@ impl AccessKind {
 
 impl Verdict {
     /// The library proves that it answers no other code.
-    fn from_words([code, row, thread, other, kind, at, ..]: OutcomeWords) -> Self {
+    fn from_words(words: OutcomeWords) -> Self {
+        let [code, row, group, other_group, thread, other, kind, at, ..] = words;
         match code {
             1 => Self::Passed,
             2 => Self::Race {
                 row,
+                group,
                 thread,
                 other,
                 kind: AccessKind::from_code(kind),
                 at,
             },
-            3 => Self::Outside { row, thread, at },
-            4 => Self::Diverged { row, thread, other },
-            5 => Self::Spent { row },
+            3 => Self::Outside {
+                row,
+                group,
+                thread,
+                at,
+            },
+            4 => Self::Diverged {
+                row,
+                group,
+                thread,
+                other,
+            },
+            5 => Self::Spent { row, group },
+            6 => Self::GroupRace {
+                row,
+                group,
+                other_group,
+                thread,
+                kind: AccessKind::from_code(kind),
+                at,
+            },
             _ => panic!("the library answered verdict {code}"),
         }
     }
 
-    /// Verdict, row, thread, other, kind, at; 0 where a word has no meaning.
-    fn words(self) -> [u32; 6] {
+    /// Verdict, row, group, othergroup, thread, other, kind, at; 0 where a word has no meaning.
+    fn words(self) -> [u32; 8] {
         match self {
-            Self::Passed => [1, 0, 0, 0, 0, 0],
+            Self::Passed => [1, 0, 0, 0, 0, 0, 0, 0],
             Self::Race {
                 row,
+                group,
                 thread,
                 other,
                 kind,
                 at,
-            } => [2, row, thread, other, kind.code(), at],
-            Self::Outside { row, thread, at } => [3, row, thread, 0, 0, at],
-            Self::Diverged { row, thread, other } => [4, row, thread, other, 0, 0],
-            Self::Spent { row } => [5, row, 0, 0, 0, 0],
+            } => [2, row, group, group, thread, other, kind.code(), at],
+            Self::Outside {
+                row,
+                group,
+                thread,
+                at,
+            } => [3, row, group, 0, thread, 0, 0, at],
+            Self::Diverged {
+                row,
+                group,
+                thread,
+                other,
+            } => [4, row, group, 0, thread, other, 0, 0],
+            Self::Spent { row, group } => [5, row, group, 0, 0, 0, 0, 0],
+            Self::GroupRace {
+                row,
+                group,
+                other_group,
+                thread,
+                kind,
+                at,
+            } => [6, row, group, other_group, thread, 0, kind.code(), at],
         }
     }
 }
@@ -179,7 +241,7 @@ impl Outcome {
     }
 
     pub(crate) fn words(self) -> OutcomeWords {
-        let [verdict, row, thread, other, kind, at] = self.verdict.words();
+        let [verdict, row, group, other_group, thread, other, kind, at] = self.verdict.words();
         let Self {
             rows,
             barriers,
@@ -187,7 +249,17 @@ impl Outcome {
             ..
         } = self;
         [
-            verdict, row, thread, other, kind, at, rows, barriers, conflicts,
+            verdict,
+            row,
+            group,
+            other_group,
+            thread,
+            other,
+            kind,
+            at,
+            rows,
+            barriers,
+            conflicts,
         ]
     }
 }

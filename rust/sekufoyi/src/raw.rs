@@ -2,10 +2,10 @@
 #![allow(unsafe_code)]
 
 /// The words of an outcome, as the header orders them.
-pub(crate) type OutcomeWords = [u32; 9];
+pub(crate) type OutcomeWords = [u32; 11];
 
-/// Each thread's steps, and 0 behind the last thread.
-pub(crate) type StepWords = [u32; 32];
+/// Each thread's steps by launch number, and 0 behind the last one.
+pub(crate) type StepWords = [u32; 256];
 
 /// A refusal's number and place; both 0 where there is none.
 pub(crate) type RefusalWords = [u32; 2];
@@ -16,6 +16,8 @@ extern "C" {
         file_length: usize,
         cells: *mut u32,
         cells_length: usize,
+        global: *mut u32,
+        global_length: usize,
         log: *mut u32,
         log_length: usize,
         records: *mut u32,
@@ -30,9 +32,13 @@ extern "C" {
         table_length: usize,
         threads: u32,
         cell_count: u32,
+        groups: u32,
+        global_count: u32,
         limit: u32,
         cells: *mut u32,
         cells_length: usize,
+        global: *mut u32,
+        global_length: usize,
         log: *mut u32,
         log_length: usize,
         records: *mut u32,
@@ -48,6 +54,8 @@ extern "C" {
         steps_length: usize,
         cells: *const u32,
         cells_length: usize,
+        global: *const u32,
+        global_length: usize,
         output: *mut u8,
         output_length: usize,
         refusal: *mut RefusalWords,
@@ -69,6 +77,7 @@ const UNWRITTEN: u32 = u32::MAX;
 pub(crate) fn check_file(
     file: &[u8],
     cells: &mut [u32],
+    global: &mut [u32],
     log: &mut [u32],
     records: &mut [u32],
     output: &mut [u8],
@@ -82,6 +91,8 @@ pub(crate) fn check_file(
             file.len(),
             cells.as_mut_ptr(),
             cells.len(),
+            global.as_mut_ptr(),
+            global.len(),
             log.as_mut_ptr(),
             log.len(),
             records.as_mut_ptr(),
@@ -106,25 +117,32 @@ pub(crate) fn bare_launch(
     table: &[u8],
     threads: u32,
     cell_count: u32,
+    groups: u32,
+    global_count: u32,
     limit: u32,
     cells: &mut [u32],
+    global: &mut [u32],
     log: &mut [u32],
     records: &mut [u32],
     steps: &mut StepWords,
 ) -> BareAnswer {
-    let mut outcome = [UNWRITTEN; 9];
+    let mut outcome = [UNWRITTEN; 11];
     let mut refusal = [UNWRITTEN; 2];
-    // SAFETY: as in `check_file`; the steps have the 32 words, the outcome the nine and the refusal the two that are asked for. A C bool
-    // is a Rust bool.
+    // SAFETY: as in `check_file`; the steps have the 256 words, the outcome the eleven and the refusal the two that are asked for. A C
+    // bool is a Rust bool.
     let ran = unsafe {
         sekufoyi_bare_launch(
             table.as_ptr(),
             table.len(),
             threads,
             cell_count,
+            groups,
+            global_count,
             limit,
             cells.as_mut_ptr(),
             cells.len(),
+            global.as_mut_ptr(),
+            global.len(),
             log.as_mut_ptr(),
             log.len(),
             records.as_mut_ptr(),
@@ -146,10 +164,12 @@ pub(crate) fn write_report(
     outcome: &OutcomeWords,
     steps: &[u32],
     cells: &[u32],
+    global: &[u32],
     output: &mut [u8],
 ) -> (usize, RefusalWords) {
     let mut refusal = [UNWRITTEN; 2];
-    // SAFETY: as in `check_file`; outcome, steps and cells are only read, and the output, borrowed exclusively, overlaps none of them.
+    // SAFETY: as in `check_file`; outcome, steps and both kinds of cells are only read, and the output, borrowed exclusively, overlaps none
+    // of them.
     let length = unsafe {
         sekufoyi_write_report(
             outcome,
@@ -157,6 +177,8 @@ pub(crate) fn write_report(
             steps.len(),
             cells.as_ptr(),
             cells.len(),
+            global.as_ptr(),
+            global.len(),
             output.as_mut_ptr(),
             output.len(),
             &mut refusal,

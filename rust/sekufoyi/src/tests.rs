@@ -1,12 +1,12 @@
 use super::*;
 
 /// P1: two threads add their right neighbour's cell to their own, without a barrier.
-const P1_FILE: &str = "kernel=1\nthreads=2\ncells=3\nlimit=100\nrows=7\n\
+const P1_FILE: &str = "kernel=1\nthreads=2\ncells=3\ngroups=1\nglobal=0\nlimit=100\nrows=7\n\
     row=2,0,0,0\nrow=1,1,1,0\nrow=4,2,0,1\nrow=16,3,2,0\nrow=16,4,0,0\nrow=4,3,3,4\nrow=17,0,3,0\n\
     cell=1\ncell=1\ncell=1\nend=kernel\n";
 const P1_REPORT: &str =
-    "verdict=race\nrow=6\nthread=1\nother=0\nkind=rw\nat=1\nrows=6\nsteps=7\nsteps=6\nbarriers=0\nconflicts=0\n\
-    cell=2\ncell=1\ncell=1\nend=report\n";
+    "verdict=race\nrow=6\ngroup=0\nothergroup=0\nthread=1\nother=0\nkind=rw\nat=1\nrows=6\nsteps=7\nsteps=6\n\
+    barriers=0\nconflicts=0\ncell=2\ncell=1\ncell=1\nend=report\n";
 #[rustfmt::skip]
 const P1_TABLE: [u8; 28] = [
     2, 0, 0, 0,  1, 1, 1, 0,  4, 2, 0, 1,  16, 3, 2, 0,  16, 4, 0, 0,  4, 3, 3, 4,  17, 0, 3, 0,
@@ -14,6 +14,7 @@ const P1_TABLE: [u8; 28] = [
 const P1_OUTCOME: Outcome = Outcome {
     verdict: Verdict::Race {
         row: 6,
+        group: 0,
         thread: 1,
         other: 0,
         kind: AccessKind::Rw,
@@ -25,13 +26,20 @@ const P1_OUTCOME: Outcome = Outcome {
 };
 /// Thread 1 is stopped in the last row, which thread 0 has run by then.
 const P1_STEPS: [u32; 2] = [7, 6];
-/// Readers, writers, adders, first values and marks. Cell 0 alone was stored to.
-const P1_LOG: [[u32; 3]; 5] = [[1, 3, 2], [1, 0, 0], [0; 3], [2, 0, 0], [0; 3]];
+/// Readers, writers, adders, first values and marks. Cell 0 alone was stored to. Masks of groups are for global cells.
+const P1_LOG: [[u32; 3]; LOG_WORDS] = log_of([[1, 3, 2], [1, 0, 0], [0; 3], [2, 0, 0], [0; 3]]);
 /// One interval. The cells that are loaded are neighbours, and the stopped row is not run.
 const P1_RECORDS: [u32; 3] = [0, 6, 0];
 
 /// Words of log for each cell.
-const LOG_WORDS: usize = 5;
+const LOG_WORDS: usize = 8;
+
+/// A log of own cells alone: masks of groups are 0.
+const fn log_of<const N: usize>(threads: [[u32; N]; 5]) -> [[u32; N]; LOG_WORDS] {
+    let [readers, writers, adders, firsts, marks] = threads;
+    let none = [0; N];
+    [readers, writers, adders, firsts, marks, none, none, none]
+}
 
 /// What no thread's steps come to, and no word of a record.
 const JUNK: u32 = 0xfeed_face;
@@ -40,6 +48,7 @@ const JUNK: u32 = 0xfeed_face;
 #[derive(Clone, PartialEq)]
 struct Lent {
     cells: Vec<u32>,
+    global: Vec<u32>,
     log: Vec<u32>,
     records: Vec<u32>,
     steps: [u32; LENT_STEPS],
@@ -47,14 +56,36 @@ struct Lent {
 }
 
 impl Lent {
+    /// For a bare launch without global cells.
     fn new(cells: usize, log: usize, output: usize) -> Self {
         Self {
             cells: vec![0xdead_beef; cells],
+            global: Vec::new(),
             log: vec![0xcafe_f00d; log],
             records: vec![JUNK; LENT_RECORDS],
             steps: [JUNK; LENT_STEPS],
             output: vec![0xff; output],
         }
+    }
+
+    /// For a file.
+    fn for_file() -> Self {
+        Self::new(LENT_CELLS, LENT_LOG, REPORT_ROOM).with_global(LENT_GLOBAL)
+    }
+
+    /// For a bare launch of `[threads, cells, groups, global, limit]`. All cells are 0.
+    fn for_groups([_, cells, groups, global, _]: [u32; 5]) -> Self {
+        let (own, global) = ((cells * groups) as usize, global as usize);
+        let mut lent = Self::new(own, LOG_WORDS * (own + global), 0).with_global(global);
+        lent.cells.fill(0);
+        lent.global.fill(0);
+        lent
+    }
+
+    /// The same with so many global cells.
+    fn with_global(self, words: usize) -> Self {
+        let global = vec![0xbad_cafe; words];
+        Self { global, ..self }
     }
 
     /// The same with so many words of records.
@@ -66,25 +97,35 @@ impl Lent {
     fn check(&mut self, file: &str) -> Result<usize, Refusal> {
         let Self {
             cells,
+            global,
             log,
             records,
             output,
             ..
         } = self;
-        check_file(file.as_bytes(), cells, log, records, output)
+        check_file(file.as_bytes(), cells, global, log, records, output)
     }
 
-    /// A bare launch of `[threads, cells, limit]`.
+    /// A bare launch of `[threads, cells, limit]` in one group without global cells.
     fn launch(&mut self, table: &[u8], numbers: [u32; 3]) -> Result<Outcome, Refusal> {
+        let [threads, cells, limit] = numbers;
+        self.launch_groups(table, [threads, cells, 1, 0, limit])
+    }
+
+    /// A bare launch of `[threads, cells, groups, global, limit]`.
+    fn launch_groups(&mut self, table: &[u8], numbers: [u32; 5]) -> Result<Outcome, Refusal> {
         let Self {
             cells,
+            global,
             log,
             records,
             steps,
             ..
         } = self;
-        let [threads, count, limit] = numbers;
-        bare_launch(table, threads, count, limit, cells, log, records, steps)
+        let [threads, own, groups, shared, limit] = numbers;
+        bare_launch(
+            table, threads, own, groups, shared, limit, cells, global, log, records, steps,
+        )
     }
 }
 
@@ -108,11 +149,11 @@ fn refused<T>(number: u32, place: u32) -> Result<T, Refusal> {
 
 #[test]
 fn the_file_of_p1_gives_its_report_and_keeps_what_is_behind() {
-    let mut lent = Lent::new(LENT_CELLS, LENT_LOG, REPORT_ROOM);
+    let mut lent = Lent::for_file();
     let mut expected = lent.clone();
     expected.cells[..3].copy_from_slice(&[2, 1, 1]);
-    // Packed: behind the last mark the log is kept.
-    expected.log[..15].copy_from_slice(&P1_LOG.concat());
+    // Packed: behind its last word the log is kept. The global cells are not used.
+    expected.log[..24].copy_from_slice(&P1_LOG.concat());
     expected.records[..3].copy_from_slice(&P1_RECORDS);
     expected.output[..P1_REPORT.len()].copy_from_slice(P1_REPORT.as_bytes());
     assert_eq!(lent.check(P1_FILE), Ok(P1_REPORT.len()));
@@ -121,46 +162,86 @@ fn the_file_of_p1_gives_its_report_and_keeps_what_is_behind() {
 
 #[test]
 fn check_file_refuses_wrong_buffers_and_leaves_them() {
-    for (cells, log, records, output, number) in [
-        (1_023, 5_120, 3_075, 17_408, 20),
-        (1_025, 5_120, 3_075, 17_408, 20),
-        (1_023, 5_120, 3_074, 17_408, 20),
-        (1_023, 5_119, 3_075, 17_408, 20),
-        (0, 0, 0, 0, 20),
-        (1_024, 5_119, 3_075, 17_408, 21),
-        (1_024, 5_121, 3_075, 17_408, 21),
-        (1_024, 5_119, 3_074, 17_408, 21),
-        // So many words a cell: three were once enough.
-        (1_024, 3_072, 3_075, 17_408, 21),
-        (1_024, 4_096, 3_075, 17_408, 21),
-        (1_024, 6_144, 3_075, 17_408, 21),
-        // As this launch's three cells would have it.
-        (1_024, 15, 3_075, 17_408, 21),
-        (1_024, 3_075, 5_120, 17_408, 21),
-        (1_024, 0, 0, 0, 21),
-        (1_024, 5_120, 3_074, 17_408, 30),
-        (1_024, 5_120, 3_072, 17_408, 30),
-        (1_024, 5_120, 1_025, 17_408, 30),
-        (1_024, 5_120, 3, 17_408, 30),
-        (1_024, 5_120, 0, 17_408, 30),
-        (1_024, 5_120, 3_074, 17_407, 30),
-        (1_024, 5_120, 0, 0, 30),
-        (1_024, 5_120, 3_075, 17_407, 24),
-        (1_024, 5_120, 3_076, 17_407, 24),
-        (1_024, 5_120, 3_075, 0, 24),
+    for (cells, global, log, records, output, number) in [
+        (1_023, 1_024, 8_192, 3_075, 24_576, 20),
+        (1_025, 1_024, 8_192, 3_075, 24_576, 20),
+        (1_024, 1_023, 8_192, 3_075, 24_576, 20),
+        (1_024, 1_025, 8_192, 3_075, 24_576, 20),
+        // As this launch's three own cells and no global ones would have it.
+        (3, 1_024, 8_192, 3_075, 24_576, 20),
+        (1_024, 0, 8_192, 3_075, 24_576, 20),
+        // As many as there are together.
+        (2_048, 0, 8_192, 3_075, 24_576, 20),
+        (1_025, 1_023, 8_192, 3_075, 24_576, 20),
+        (1_023, 1_024, 8_192, 3_074, 24_576, 20),
+        (1_024, 1_023, 8_191, 3_075, 24_576, 20),
+        (1_024, 0, 0, 0, 0, 20),
+        (0, 0, 0, 0, 0, 20),
+        (1_024, 1_024, 8_191, 3_075, 24_576, 21),
+        (1_024, 1_024, 8_193, 3_075, 24_576, 21),
+        (1_024, 1_024, 8_191, 3_074, 24_576, 21),
+        // So many words a cell: three and five were once enough.
+        (1_024, 1_024, 3_072, 3_075, 24_576, 21),
+        (1_024, 1_024, 5_120, 3_075, 24_576, 21),
+        (1_024, 1_024, 7_168, 3_075, 24_576, 21),
+        (1_024, 1_024, 9_216, 3_075, 24_576, 21),
+        // As for all words that are lent, of which a launch uses half.
+        (1_024, 1_024, 16_384, 3_075, 24_576, 21),
+        (1_024, 1_024, 24, 3_075, 24_576, 21),
+        (1_024, 1_024, 3_075, 8_192, 24_576, 21),
+        (1_024, 1_024, 0, 0, 0, 21),
+        (1_024, 1_024, 8_192, 3_074, 24_576, 30),
+        (1_024, 1_024, 8_192, 3_072, 24_576, 30),
+        (1_024, 1_024, 8_192, 1_025, 24_576, 30),
+        (1_024, 1_024, 8_192, 3, 24_576, 30),
+        (1_024, 1_024, 8_192, 0, 24_576, 30),
+        (1_024, 1_024, 8_192, 3_074, 24_575, 30),
+        (1_024, 1_024, 8_192, 0, 0, 30),
+        (1_024, 1_024, 8_192, 3_075, 24_575, 24),
+        (1_024, 1_024, 8_192, 3_076, 24_575, 24),
+        // As was once enough.
+        (1_024, 1_024, 8_192, 3_075, 17_408, 24),
+        (1_024, 1_024, 8_192, 3_075, 0, 24),
     ] {
-        let mut lent = Lent::new(cells, log, output).with_records(records);
+        let mut lent = Lent::new(cells, log, output)
+            .with_global(global)
+            .with_records(records);
         let before = lent.clone();
         assert_eq!(lent.check(P1_FILE), refused(number, 0));
-        assert!(lent == before, "{cells}, {log}, {records}, {output}");
+        assert!(
+            lent == before,
+            "{cells}, {global}, {log}, {records}, {output}"
+        );
     }
 }
 
 #[test]
 fn a_refused_file_leaves_the_buffers() {
-    for (file, number, place) in [("", 11, 1), ("kernel=1\nthreads=33\n", 8, 2)] {
+    for (file, number, place) in [
+        ("", 11, 1),
+        ("kernel=1\nthreads=33\n", 8, 2),
+        ("kernel=1\nthreads=1\ncells=1\ngroups=0\n", 32, 4),
+        ("kernel=1\nthreads=1\ncells=1\ngroups=9\n", 32, 4),
+        (
+            "kernel=1\nthreads=1\ncells=128\ngroups=8\nglobal=1\n",
+            33,
+            5,
+        ),
+        // In the order of the lines.
+        ("kernel=1\nthreads=1\ncells=0\ngroups=9\n", 9, 3),
+        (
+            "kernel=1\nthreads=1\ncells=1\ngroups=1\nglobal=1024\nlimit=1000001\n",
+            33,
+            5,
+        ),
+        (
+            "kernel=1\nthreads=1\ncells=1\ngroups=1\nglobal=1023\nlimit=1000001\n",
+            10,
+            6,
+        ),
+    ] {
         for records in [LENT_RECORDS, 0] {
-            let mut lent = Lent::new(LENT_CELLS, LENT_LOG, REPORT_ROOM).with_records(records);
+            let mut lent = Lent::for_file().with_records(records);
             let before = lent.clone();
             assert_eq!(lent.check(file), refused(number, place));
             assert!(lent == before);
@@ -170,7 +251,7 @@ fn a_refused_file_leaves_the_buffers() {
 
 #[test]
 fn the_bare_launch_of_p1() {
-    let mut lent = Lent::new(3, 15, 0);
+    let mut lent = Lent::new(3, 24, 0);
     lent.cells.fill(1);
     assert_eq!(lent.launch(&P1_TABLE, [2, 3, 100]), Ok(P1_OUTCOME));
     assert_eq!(lent.cells, [2, 1, 1]);
@@ -196,7 +277,7 @@ const ROUNDS: [u8; 20] = [2, 0, 0, 0,  1, 1, 1, 0,  35, 0, 0, 0,  5, 0, 0, 1,  3
 #[test]
 fn each_thread_has_steps_of_its_own() {
     // WHILE once in each round and once more, SUB and ENDWHILE in each round.
-    let due: [u32; LENT_STEPS] = std::array::from_fn(|thread| 3 + 3 * thread as u32);
+    let due: [u32; 32] = std::array::from_fn(|thread| 3 + 3 * thread as u32);
     for threads in [1, 2, 3, 8, 9, 31, 32] {
         let steps = steps_of(&ROUNDS, [threads, 1, 1_000]);
         assert_eq!(steps, counted(&due[..threads as usize]), "{threads}");
@@ -353,14 +434,14 @@ fn a_file_leaves_its_records_too() {
         .map(|row| format!("row={},{},{},{}\n", row[0], row[1], row[2], row[3]))
         .collect();
     let cells = "cell=0\n".repeat(32);
-    let head = "kernel=1\nthreads=2\ncells=32\nlimit=100\nrows=6\n";
+    let head = "kernel=1\nthreads=2\ncells=32\ngroups=1\nglobal=0\nlimit=100\nrows=6\n";
     let file = format!("{head}{rows}{cells}end=kernel\n");
     let due = format!(
-        "verdict=passed\nrow=-\nthread=-\nother=-\nkind=-\nat=-\nrows=6\nsteps=5\nsteps=5\n\
+        "verdict=passed\nrow=-\ngroup=-\nothergroup=-\nthread=-\nother=-\nkind=-\nat=-\nrows=6\nsteps=5\nsteps=5\n\
          barriers=1\nconflicts=2\n{cells}end=report\n"
     );
     for words in [LENT_RECORDS, 3_076, 6_150] {
-        let mut lent = Lent::new(LENT_CELLS, LENT_LOG, REPORT_ROOM).with_records(words);
+        let mut lent = Lent::for_file().with_records(words);
         assert_eq!(lent.check(&file), Ok(due.len()));
         assert_eq!(&lent.output[..due.len()], due.as_bytes());
         let records = recorded(&[[0, 5, 1], [5, 1, 1]], words);
@@ -371,24 +452,37 @@ fn a_file_leaves_its_records_too() {
 #[test]
 fn every_refusal_of_a_bare_launch_leaves_the_buffers() {
     for (table, numbers, number) in [
-        (&P1_TABLE[..27], [2, 3, 100], 1),
-        (&[0; 1_028], [2, 3, 100], 2),
-        (&[0; 4], [2, 3, 100], 3),
-        (&[2, 16, 0, 0], [2, 3, 100], 4),
-        (&[34, 0, 0, 0], [2, 3, 100], 5),
-        (&[32, 0, 0, 0].repeat(9)[..], [2, 3, 100], 6),
-        (&[32, 0, 0, 0], [2, 3, 100], 7),
-        (&P1_TABLE, [0, 3, 100], 8),
-        (&P1_TABLE, [33, 3, 100], 8),
-        (&P1_TABLE, [2, 0, 100], 9),
-        (&P1_TABLE, [2, 1_025, 100], 9),
-        (&P1_TABLE, [2, 3, 1_000_001], 10),
+        (&P1_TABLE[..27], [2, 3, 1, 0, 100], 1),
+        (&[0; 1_028], [2, 3, 1, 0, 100], 2),
+        (&[0; 4], [2, 3, 1, 0, 100], 3),
+        (&[2, 16, 0, 0], [2, 3, 1, 0, 100], 4),
+        (&[34, 0, 0, 0], [2, 3, 1, 0, 100], 5),
+        (&[32, 0, 0, 0].repeat(9)[..], [2, 3, 1, 0, 100], 6),
+        (&[32, 0, 0, 0], [2, 3, 1, 0, 100], 7),
+        (&P1_TABLE, [0, 3, 1, 0, 100], 8),
+        (&P1_TABLE, [33, 3, 1, 0, 100], 8),
+        (&P1_TABLE, [2, 0, 1, 0, 100], 9),
+        (&P1_TABLE, [2, 1_025, 1, 0, 100], 9),
+        // Global cells alone are none of a group's own.
+        (&P1_TABLE, [2, 0, 1, 3, 100], 9),
+        (&P1_TABLE, [2, 3, 0, 0, 100], 32),
+        (&P1_TABLE, [2, 3, 9, 0, 100], 32),
+        (&P1_TABLE, [2, 3, u32::MAX, 0, 100], 32),
+        (&P1_TABLE, [2, 3, 9, 1_025, 100], 32),
+        (&P1_TABLE, [2, 3, 1, 1_022, 100], 33),
+        (&P1_TABLE, [2, 3, 1, 1_025, 100], 33),
+        (&P1_TABLE, [2, 3, 1, u32::MAX, 100], 33),
+        (&P1_TABLE, [2, 129, 8, 0, 100], 33),
+        (&P1_TABLE, [2, 128, 8, 1, 100], 33),
+        (&P1_TABLE, [2, 1_024, 8, u32::MAX, 1_000_001], 33),
+        (&P1_TABLE, [2, 3, 1, 0, 1_000_001], 10),
+        (&[0; 4], [2, 3, 1, 0, 1_000_001], 10),
     ] {
         // The input is told before what is lent.
         for records in [LENT_RECORDS, 0] {
-            let mut lent = Lent::new(3, 15, 0).with_records(records);
+            let mut lent = Lent::new(3, 24, 0).with_records(records);
             let before = lent.clone();
-            let answer = lent.launch(table, numbers);
+            let answer = lent.launch_groups(table, numbers);
             assert_eq!(answer.map_err(|refusal| refusal.number), Err(number));
             assert!(lent == before, "{number}");
         }
@@ -398,27 +492,28 @@ fn every_refusal_of_a_bare_launch_leaves_the_buffers() {
 #[test]
 fn bare_launch_refuses_wrong_buffers_and_leaves_them() {
     for (cells, log, records, number) in [
-        (2, 15, 3_075, 20),
-        (4, 15, 3_075, 20),
-        (4, 20, 3_075, 20),
-        (2, 15, 3_074, 20),
+        (2, 24, 3_075, 20),
+        (4, 24, 3_075, 20),
+        (4, 32, 3_075, 20),
+        (2, 24, 3_074, 20),
         (0, 0, 0, 20),
-        // Three, four and six words a cell.
+        // Three, five, seven and nine words a cell.
         (3, 9, 3_075, 21),
-        (3, 12, 3_075, 21),
-        (3, 18, 3_075, 21),
-        (3, 14, 3_075, 21),
-        (3, 16, 3_075, 21),
+        (3, 15, 3_075, 21),
+        (3, 21, 3_075, 21),
+        (3, 27, 3_075, 21),
+        (3, 23, 3_075, 21),
+        (3, 25, 3_075, 21),
         // As a file has it.
-        (3, 5_120, 3_075, 21),
-        (3, 14, 3_074, 21),
+        (3, 8_192, 3_075, 21),
+        (3, 23, 3_074, 21),
         (3, 0, 0, 21),
-        (3, 15, 3_074, 30),
-        (3, 15, 3_072, 30),
-        (3, 15, 1_025, 30),
+        (3, 24, 3_074, 30),
+        (3, 24, 3_072, 30),
+        (3, 24, 1_025, 30),
         // Room for the launch's own record.
-        (3, 15, 3, 30),
-        (3, 15, 0, 30),
+        (3, 24, 3, 30),
+        (3, 24, 0, 30),
     ] {
         let mut lent = Lent::new(cells, log, 0).with_records(records);
         let before = lent.clone();
@@ -427,11 +522,59 @@ fn bare_launch_refuses_wrong_buffers_and_leaves_them() {
     }
 }
 
+#[test]
+fn a_launch_of_groups_refuses_wrong_buffers_and_leaves_them() {
+    for (cells, global, log, records, number) in [
+        // Of one group alone, of a group more, by a word.
+        (3, 4, 80, 3_075, 20),
+        (9, 4, 80, 3_075, 20),
+        (5, 4, 80, 3_075, 20),
+        (7, 4, 80, 3_075, 20),
+        (6, 3, 80, 3_075, 20),
+        (6, 5, 80, 3_075, 20),
+        (6, 0, 80, 3_075, 20),
+        // All in one buffer, or in each other's.
+        (10, 0, 80, 3_075, 20),
+        (4, 6, 80, 3_075, 20),
+        (6, 5, 79, 3_074, 20),
+        // Without the global cells, for global cells alone, for one group.
+        (6, 4, 48, 3_075, 21),
+        (6, 4, 32, 3_075, 21),
+        (6, 4, 56, 3_075, 21),
+        (6, 4, 79, 3_075, 21),
+        (6, 4, 81, 3_075, 21),
+        (6, 4, 50, 3_075, 21),
+        (6, 4, 79, 3_074, 21),
+        (6, 4, 80, 3_074, 30),
+    ] {
+        let mut lent = Lent::new(cells, log, 0)
+            .with_global(global)
+            .with_records(records);
+        let before = lent.clone();
+        let answer = lent.launch_groups(&P1_TABLE, [2, 3, 2, 4, 100]);
+        assert_eq!(answer, refused(number, 0));
+        assert!(lent == before, "{cells}, {global}, {log}, {records}");
+    }
+}
+
 /// The outcome's words of a launch with two threads and one cell, and the two threads' steps.
 fn words(table: &[u8], limit: u32) -> (raw::OutcomeWords, [u32; 2]) {
     let (mut records, mut steps) = ([JUNK; LENT_RECORDS], [JUNK; LENT_STEPS]);
     let (cells, log) = (&mut [5], &mut [7; LOG_WORDS]);
-    let answer = raw::bare_launch(table, 2, 1, limit, cells, log, &mut records, &mut steps);
+    let (records, steps) = (&mut records, &mut steps);
+    let answer = raw::bare_launch(
+        table,
+        2,
+        1,
+        1,
+        0,
+        limit,
+        cells,
+        &mut [],
+        log,
+        records,
+        steps,
+    );
     assert!(answer.ran);
     assert_eq!(answer.refusal, [0, 0]);
     assert_eq!(steps[2..], [0; LENT_STEPS - 2]);
@@ -444,11 +587,20 @@ fn words_without_meaning_are_zero() {
     let (load_outside, begin_if) = ([16, 2, 1, 0], [32, 0, 0, 0]);
     let (barrier, end_if) = ([37, 0, 0, 0], [34, 0, 0, 0]);
     let outside = [tid, set, load_outside].concat();
-    assert_eq!(words(&outside, 9), ([3, 2, 0, 0, 0, 9, 2, 0, 0], [2, 2]));
+    assert_eq!(
+        words(&outside, 9),
+        ([3, 2, 0, 0, 0, 0, 0, 9, 2, 0, 0], [2, 2])
+    );
     let diverged = [tid, begin_if, barrier, end_if].concat();
-    assert_eq!(words(&diverged, 9), ([4, 2, 1, 0, 0, 0, 2, 0, 0], [2, 2]));
+    assert_eq!(
+        words(&diverged, 9),
+        ([4, 2, 0, 0, 1, 0, 0, 0, 2, 0, 0], [2, 2])
+    );
     let spent = [tid, set].concat();
-    assert_eq!(words(&spent, 1), ([5, 1, 0, 0, 0, 0, 1, 0, 0], [1, 1]));
+    assert_eq!(
+        words(&spent, 1),
+        ([5, 1, 0, 0, 0, 0, 0, 0, 1, 0, 0], [1, 1])
+    );
 }
 
 #[test]
@@ -459,7 +611,10 @@ fn threads_add_into_one_cell() {
     lent.cells.fill(u32::MAX);
     let answer = lent.launch(&table, [2, 1, 9]);
     assert!(answer.is_ok_and(|outcome| outcome.verdict == Verdict::Passed));
-    assert_eq!((lent.cells, lent.log), (vec![17], vec![0, 0, 3, 0, 0]));
+    assert_eq!(
+        (lent.cells, lent.log),
+        (vec![17], vec![0, 0, 3, 0, 0, 0, 0, 0])
+    );
     assert_eq!(lent.steps, counted(&[3, 3]));
 }
 
@@ -495,20 +650,20 @@ fn four_ways() -> Vec<Row> {
 
 /// What that leaves with such a mask of all threads: readers, writers, adders, first values, marks.
 fn four_logged(all: u32) -> [[u32; 4]; LOG_WORDS] {
-    [
+    log_of([
         [all, 0, 0, 0],
         [0, all, 2, 0],
         [0, 0, 0, all],
         [0, 7, 5, 0],
         [0, 0, 1, 0],
-    ]
+    ])
 }
 
 #[test]
 fn a_flag_is_set_by_many_threads_and_each_kind_of_word_is_in_its_place() {
     let table = four_ways().concat();
     for threads in [2, 3, 31, 32] {
-        let mut lent = Lent::new(4, 20, 0);
+        let mut lent = Lent::new(4, 32, 0);
         lent.cells.fill(0);
         let answer = lent.launch(&table, [threads, 4, 100]);
         assert!(answer.is_ok_and(|outcome| outcome.verdict == Verdict::Passed));
@@ -524,13 +679,13 @@ fn a_file_has_the_same_log_and_keeps_what_is_behind() {
         .map(|[op, d, a, b]| format!("row={op},{d},{a},{b}\n"))
         .collect();
     let head = format!(
-        "kernel=1\nthreads=32\ncells=4\nlimit=100\nrows={}\n",
+        "kernel=1\nthreads=32\ncells=4\ngroups=1\nglobal=0\nlimit=100\nrows={}\n",
         rows.len()
     );
     let file = format!("{head}{lines}{}end=kernel\n", "cell=0\n".repeat(4));
-    let mut lent = Lent::new(LENT_CELLS, LENT_LOG, REPORT_ROOM);
+    let mut lent = Lent::for_file();
     let mut expected = lent.log.clone();
-    expected[..20].copy_from_slice(&four_logged(u32::MAX).concat());
+    expected[..32].copy_from_slice(&four_logged(u32::MAX).concat());
     let written = lent.check(&file).expect("a sound file");
     assert!(lent.output[..written].starts_with(b"verdict=passed\n"));
     assert!(lent.log == expected);
@@ -542,17 +697,18 @@ fn a_barrier_clears_first_values_and_marks() {
     // Behind it another value is the first, and 0 is one too.
     for value in [8, 0] {
         let table = [&rows[..], &puts(2, &[value])].concat().concat();
-        let mut lent = Lent::new(4, 20, 0);
+        let mut lent = Lent::new(4, 32, 0);
         lent.cells.fill(0);
         let answer = lent.launch(&table, [3, 4, 100]);
         assert!(answer.is_ok_and(|outcome| outcome.verdict == Verdict::Passed));
         let [writers, firsts] = [[0, 0, 7, 0], [0, 0, value.into(), 0]];
-        assert_eq!(lent.log, [[0; 4], writers, [0; 4], firsts, [0; 4]].concat());
+        let due = log_of([[0; 4], writers, [0; 4], firsts, [0; 4]]);
+        assert_eq!(lent.log, due.concat());
     }
 }
 
 /// What threads do to cell 0 one after the other: the outcome's words of verdict, thread, other and kind, the cell, and its log.
-fn in_turn(turns: &[(u8, &[Row])]) -> ([u32; 4], u32, [u32; LOG_WORDS]) {
+fn in_turn(turns: &[(u8, &[Row])]) -> ([u32; 4], u32, [u32; 5]) {
     let table = (turns.iter()).flat_map(|(thread, rows)| only(*thread, rows));
     let table = table.collect::<Vec<Row>>().concat();
     let (mut records, mut steps) = ([JUNK; LENT_RECORDS], [JUNK; LENT_STEPS]);
@@ -561,15 +717,21 @@ fn in_turn(turns: &[(u8, &[Row])]) -> ([u32; 4], u32, [u32; LOG_WORDS]) {
         &table,
         4,
         1,
+        1,
+        0,
         100,
         &mut cells,
+        &mut [],
         &mut log,
         &mut records,
         &mut steps,
     );
-    let [verdict, _, thread, other, kind, at, ..] = answer.outcome;
-    assert_eq!((answer.ran, at), (true, 0));
-    ([verdict, thread, other, kind], cells[0], log)
+    let [verdict, _, group, other_group, thread, other, kind, at, ..] = answer.outcome;
+    assert_eq!((answer.ran, group, other_group, at), (true, 0, 0, 0));
+    let [threads @ .., 0, 0, 0] = log else {
+        panic!("masks of groups at an own cell: {log:?}");
+    };
+    ([verdict, thread, other, kind], cells[0], threads)
 }
 
 const PASSED: [u32; 4] = [1, 0, 0, 0];
@@ -642,23 +804,24 @@ fn a_load_or_an_add_beside_equal_stores_races() {
 
 #[test]
 fn a_launch_that_passed_has_no_row() {
-    assert_eq!(words(&[], 0), ([1, 0, 0, 0, 0, 0, 0, 0, 0], [0, 0]));
+    assert_eq!(words(&[], 0), ([1, 0, 0, 0, 0, 0, 0, 0, 0, 0, 0], [0, 0]));
     let tid = [2, 0, 0, 0];
-    assert_eq!(words(&tid, 9), ([1, 0, 0, 0, 0, 0, 1, 0, 0], [1, 1]));
+    assert_eq!(words(&tid, 9), ([1, 0, 0, 0, 0, 0, 0, 0, 1, 0, 0], [1, 1]));
 }
 
 #[test]
 fn the_answer_that_does_not_apply_is_zero() {
     let (mut records, mut steps) = ([JUNK; LENT_RECORDS], [JUNK; LENT_STEPS]);
     let (cells, log) = (&mut [5], &mut [7; LOG_WORDS]);
-    let answer = raw::bare_launch(&[], 33, 1, 0, cells, log, &mut records, &mut steps);
+    let lists = (&mut records, &mut steps);
+    let answer = raw::bare_launch(&[], 33, 1, 1, 0, 0, cells, &mut [], log, lists.0, lists.1);
     assert!(!answer.ran);
-    assert_eq!(answer.outcome, [0; 9]);
+    assert_eq!(answer.outcome, [0; 11]);
     assert_eq!(answer.refusal, [8, 0]);
     assert_eq!(records, [JUNK; LENT_RECORDS]);
     assert_eq!(steps, [JUNK; LENT_STEPS]);
     assert_eq!(raw::write_refusal(1, 2, &mut [0; 40]).1, [0, 0]);
-    let written = raw::write_report(&[1; 9], &[1], &[1], &mut [0; 200]);
+    let written = raw::write_report(&[1; 11], &[1], &[1], &[], &mut [0; 200]);
     assert_eq!(written.1, [0, 0]);
 }
 
@@ -667,7 +830,7 @@ fn the_report_of_p1_fits_a_buffer_of_its_length() {
     let mut output = [0; P1_REPORT.len()];
     let subject = Subject::Ran(P1_OUTCOME);
     assert_eq!(
-        write_report(subject, &P1_STEPS, &[2, 1, 1], &mut output),
+        write_report(subject, &P1_STEPS, &[2, 1, 1], &[], &mut output),
         Ok(P1_REPORT.len())
     );
     assert_eq!(output, P1_REPORT.as_bytes());
@@ -677,31 +840,40 @@ fn the_report_of_p1_fits_a_buffer_of_its_length() {
 fn write_report_refuses_wrong_buffers_and_leaves_them() {
     let needed = P1_REPORT.len() as u32;
     let subject = Subject::Ran(P1_OUTCOME);
-    for (steps, cells, output, number, place) in [
+    let three = &[2, 1, 1][..];
+    for (steps, cells, global, output, number, place) in [
         (
             &P1_STEPS[..],
-            &[2, 1, 1][..],
+            three,
+            &[][..],
             needed as usize - 1,
             22,
             needed,
         ),
-        (&P1_STEPS, &[2, 1, 1], 0, 22, needed),
-        (&P1_STEPS, &[], 17_408, 23, 0),
-        (&P1_STEPS, &[0; 1_025], 20_000, 23, 0),
-        (&[], &[2, 1, 1], 17_408, 23, 0),
-        (&[0; 33], &[2, 1, 1], 20_000, 23, 0),
-        (&[0; 64], &[2, 1, 1], 20_000, 23, 0),
-        (&[], &[], 17_408, 23, 0),
-        (&[0; 33], &[0; 1_025], 20_000, 23, 0),
+        (&P1_STEPS, three, &[], 0, 22, needed),
+        (&P1_STEPS, three, &[5], needed as usize, 22, needed + 8),
+        (&P1_STEPS, &[], &[], 24_576, 23, 0),
+        (&P1_STEPS, &[0; 1_025], &[], 30_000, 23, 0),
+        // Both together.
+        (&P1_STEPS, &[], &[0; 1_025], 30_000, 23, 0),
+        (&P1_STEPS, &[0; 1_024], &[0], 30_000, 23, 0),
+        (&P1_STEPS, &[0; 1], &[0; 1_024], 30_000, 23, 0),
+        (&P1_STEPS, &[0; 1_024], &[0; 1_024], 30_000, 23, 0),
+        (&[], three, &[], 24_576, 23, 0),
+        (&[0; 257], three, &[], 30_000, 23, 0),
+        (&[0; 512], three, &[], 30_000, 23, 0),
+        (&[], &[], &[], 24_576, 23, 0),
+        (&[0; 257], &[0; 1_025], &[], 30_000, 23, 0),
         // Told before the buffer.
-        (&[], &[2, 1, 1], 0, 23, 0),
-        (&[0; 33], &[2, 1, 1], 0, 23, 0),
-        (&P1_STEPS, &[], 0, 23, 0),
+        (&[], three, &[], 0, 23, 0),
+        (&[0; 257], three, &[], 0, 23, 0),
+        (&P1_STEPS, &[], &[], 0, 23, 0),
+        (&P1_STEPS, &[0; 1_024], &[0], 0, 23, 0),
     ] {
         let mut lent = Lent::new(0, 0, output);
         let before = lent.clone();
         assert_eq!(
-            write_report(subject, steps, cells, &mut lent.output),
+            write_report(subject, steps, cells, global, &mut lent.output),
             refused(number, place)
         );
         assert!(lent == before);
@@ -711,12 +883,12 @@ fn write_report_refuses_wrong_buffers_and_leaves_them() {
 #[test]
 fn a_report_has_a_line_for_each_count() {
     let subject = Subject::Ran(P1_OUTCOME);
-    for threads in [1, 2, 31, 32] {
+    for threads in [1, 2, 31, 32, 33, 255, 256] {
         let counts: Vec<u32> = (0..threads).map(|thread| u32::MAX - thread).collect();
         let lines: String = counts.iter().map(|n| format!("steps={n}\n")).collect();
         let due = P1_REPORT.replace("steps=7\nsteps=6\n", &lines);
         let mut output = vec![0; due.len()];
-        let answer = write_report(subject, &counts, &[2, 1, 1], &mut output);
+        let answer = write_report(subject, &counts, &[2, 1, 1], &[], &mut output);
         assert_eq!(answer, Ok(due.len()));
         assert_eq!(output, due.as_bytes());
     }
@@ -733,32 +905,93 @@ fn a_report_has_the_conflicts_behind_the_barriers() {
         let lines = format!("barriers=8\nconflicts={conflicts}\n");
         let due = P1_REPORT.replace("barriers=0\nconflicts=0\n", &lines);
         let mut output = vec![0; due.len()];
-        let answer = write_report(subject, &P1_STEPS, &[2, 1, 1], &mut output);
+        let answer = write_report(subject, &P1_STEPS, &[2, 1, 1], &[], &mut output);
         assert_eq!(answer, Ok(due.len()));
         assert_eq!(output, due.as_bytes());
     }
 }
 
 #[test]
+fn a_report_has_the_global_cells_behind_the_own_ones() {
+    let subject = Subject::Ran(P1_OUTCOME);
+    for (own, global) in [
+        (&[2, 1, 1][..], &[7, u32::MAX][..]),
+        (&[], &[7]),
+        (&[0; 1_000], &[1; 24]),
+        (&[], &[1; 1_024]),
+        (&[1; 1_024], &[]),
+    ] {
+        let lines = |key: &str, words: &[u32]| -> String {
+            words.iter().map(|n| format!("{key}={n}\n")).collect()
+        };
+        let cells = format!("{}{}", lines("cell", own), lines("gcell", global));
+        let due = P1_REPORT.replace("cell=2\ncell=1\ncell=1\n", &cells);
+        let mut output = vec![0; due.len()];
+        let answer = write_report(subject, &P1_STEPS, own, global, &mut output);
+        assert_eq!(answer, Ok(due.len()));
+        assert_eq!(output, due.as_bytes());
+    }
+}
+
+#[test]
+fn a_race_between_groups_has_no_other_thread() {
+    let verdict = Verdict::GroupRace {
+        row: 6,
+        group: 7,
+        other_group: 3,
+        thread: 1,
+        kind: AccessKind::Rw,
+        at: 1,
+    };
+    let outcome = Outcome {
+        verdict,
+        ..P1_OUTCOME
+    };
+    let due = P1_REPORT.replace(
+        "group=0\nothergroup=0\nthread=1\nother=0\n",
+        "group=7\nothergroup=3\nthread=1\nother=-\n",
+    );
+    let mut output = vec![0; due.len()];
+    let subject = Subject::Ran(outcome);
+    let answer = write_report(subject, &P1_STEPS, &[2, 1, 1], &[], &mut output);
+    assert_eq!(answer, Ok(due.len()));
+    assert_eq!(output, due.as_bytes());
+}
+
+#[test]
 fn the_longest_report_fits_the_room_for_every_report() {
     let most = u32::MAX;
-    let verdict = Verdict::Race {
+    let race = Verdict::Race {
         row: most,
+        group: most,
         thread: most,
         other: most,
         kind: AccessKind::Rw,
         at: most,
     };
-    let subject = Subject::Ran(Outcome {
-        verdict,
-        rows: most,
-        barriers: most,
-        conflicts: most,
-    });
-    let (steps, cells) = ([most; LENT_STEPS], [most; LENT_CELLS]);
-    let mut output = vec![0; REPORT_ROOM];
-    let answer = write_report(subject, &steps, &cells, &mut output);
-    assert!(answer.is_ok(), "{answer:?}");
+    let group_race = Verdict::GroupRace {
+        row: most,
+        group: most,
+        other_group: most,
+        thread: most,
+        kind: AccessKind::Rw,
+        at: most,
+    };
+    for verdict in [race, group_race] {
+        let subject = Subject::Ran(Outcome {
+            verdict,
+            rows: most,
+            barriers: most,
+            conflicts: most,
+        });
+        let (steps, cells) = ([most; LENT_STEPS], [most; LENT_CELLS]);
+        for own in [0, 1, 512, LENT_CELLS] {
+            let (own, global) = cells.split_at(own);
+            let mut output = vec![0; REPORT_ROOM];
+            let answer = write_report(subject, &steps, own, global, &mut output);
+            assert!(answer.is_ok(), "{answer:?}");
+        }
+    }
 }
 
 #[test]
@@ -770,29 +1003,39 @@ fn the_report_of_a_refusal() {
     let report = b"refused=11\nplace=4294967295\nend=report\n";
     let mut lent = Lent::new(0, 0, report.len() + 1);
     assert_eq!(
-        write_report(subject, &[], &[], &mut lent.output),
+        write_report(subject, &[], &[], &[], &mut lent.output),
         Ok(report.len())
     );
     assert_eq!(lent.output, [&report[..], &[0xff]].concat());
     let mut short = Lent::new(0, 0, report.len() - 1);
     let before = short.clone();
     assert_eq!(
-        write_report(subject, &[], &[], &mut short.output),
+        write_report(subject, &[], &[], &[], &mut short.output),
         refused(22, report.len() as u32)
     );
     assert!(short == before);
     let mut beside = [0; 60];
-    let answer = write_report(subject, &[1; 33], &[1; 1_025], &mut beside);
-    assert_eq!(answer, Ok(report.len()), "neither is looked at");
+    let answer = write_report(subject, &[1; 257], &[1; 1_025], &[1; 9], &mut beside);
+    assert_eq!(answer, Ok(report.len()), "none of them is looked at");
 }
 
 #[test]
 fn outcomes_come_back_from_their_words() {
     use AccessKind::{Ar, Aw, Ra, Rw, Wa, Wr, Ww};
-    let races = [Rw, Wr, Ww, Ra, Ar, Wa, Aw].map(|kind| Verdict::Race {
+    let kinds = [Rw, Wr, Ww, Ra, Ar, Wa, Aw];
+    let races = kinds.map(|kind| Verdict::Race {
         row: 1,
+        group: 5,
         thread: 2,
         other: 3,
+        kind,
+        at: 4,
+    });
+    let group_races = kinds.map(|kind| Verdict::GroupRace {
+        row: 1,
+        group: 5,
+        other_group: 3,
+        thread: 2,
         kind,
         at: 4,
     });
@@ -800,18 +1043,21 @@ fn outcomes_come_back_from_their_words() {
         Verdict::Passed,
         Verdict::Outside {
             row: 1,
+            group: 5,
             thread: 2,
             at: 3,
         },
         Verdict::Diverged {
             row: 1,
+            group: 5,
             thread: 2,
             other: 3,
         },
-        Verdict::Spent { row: 1 },
+        Verdict::Spent { row: 1, group: 5 },
     ]
     .into_iter()
     .chain(races)
+    .chain(group_races)
     {
         let outcome = Outcome {
             verdict,
@@ -821,4 +1067,219 @@ fn outcomes_come_back_from_their_words() {
         };
         assert_eq!(Outcome::from_words(outcome.words()), outcome);
     }
+}
+
+/// R0 is the launch number, R1 the thread's number and R2 the number of threads; then the rows.
+fn numbered(rows: &[Row]) -> Vec<u8> {
+    let head = [[19, 0, 0, 0], [2, 1, 0, 0], [3, 2, 0, 0]];
+    [&head, rows].concat().concat()
+}
+
+/// The words of an outcome that a launch over cells of 0 comes to, and the buffers that it leaves.
+fn launched(table: &[u8], numbers: [u32; 5]) -> (raw::OutcomeWords, Lent) {
+    let mut lent = Lent::for_groups(numbers);
+    let Lent {
+        cells,
+        global,
+        log,
+        records,
+        steps,
+        ..
+    } = &mut lent;
+    let [threads, own, groups, shared, limit] = numbers;
+    let answer = raw::bare_launch(
+        table, threads, own, groups, shared, limit, cells, global, log, records, steps,
+    );
+    assert!(answer.ran, "{:?}", answer.refusal);
+    (answer.outcome, lent)
+}
+
+#[test]
+fn a_thread_has_a_number_in_the_launch_and_one_in_its_group() {
+    // The launch number to the own cell of the thread's number, and the thread's number to the global cell of the launch number.
+    let table = numbered(&[[17, 1, 0, 0], [21, 0, 1, 0]]);
+    for (threads, groups) in [(1, 1), (1, 8), (3, 2), (2, 8), (32, 8), (31, 8), (32, 1)] {
+        let all = threads * groups;
+        let (outcome, lent) = launched(&table, [threads, threads, groups, all, 1_000]);
+        assert_eq!(outcome[0], 1);
+        assert_eq!(lent.cells, (0..all).collect::<Vec<u32>>());
+        let due: Vec<u32> = (0..all).map(|number| number % threads).collect();
+        assert_eq!(lent.global, due);
+        assert_eq!(lent.steps, counted(&vec![5; all as usize]));
+    }
+}
+
+#[test]
+fn a_group_start_opens_a_record_and_barriers_are_a_groups_own() {
+    let (outcome, lent) = launched(&numbered(&[BARRIER]), [2, 1, 3, 0, 100]);
+    assert_eq!(outcome, [1, 0, 0, 0, 0, 0, 0, 0, 12, 3, 0]);
+    let due = [[0, 4, 0], [4, 0, 0]].repeat(3);
+    assert_eq!(lent.records, recorded(&due, LENT_RECORDS));
+    assert_eq!(lent.steps, counted(&[3; 6]));
+}
+
+#[test]
+fn one_limit_is_for_all_groups() {
+    for (limit, words, steps) in [
+        (2, [5, 2, 0, 0, 0, 0, 0, 0, 2, 0, 0], [2, 2, 0, 0, 0, 0]),
+        // The next group has started when the limit is found reached.
+        (3, [5, 0, 1, 0, 0, 0, 0, 0, 3, 0, 0], [3, 3, 0, 0, 0, 0]),
+        (7, [5, 1, 2, 0, 0, 0, 0, 0, 7, 0, 0], [3, 3, 3, 3, 1, 1]),
+        (9, [1, 0, 0, 0, 0, 0, 0, 0, 9, 0, 0], [3, 3, 3, 3, 3, 3]),
+    ] {
+        let (outcome, lent) = launched(&numbered(&[]), [2, 1, 3, 0, limit]);
+        assert_eq!((outcome, lent.steps), (words, counted(&steps)), "{limit}");
+        let begun = limit.min(8) / 3 + 1;
+        let due: Vec<[u32; 3]> = (0..begun)
+            .map(|group| [0, (limit - 3 * group).min(3), 0])
+            .collect();
+        assert_eq!(lent.records, recorded(&due, LENT_RECORDS), "{limit}");
+    }
+}
+
+#[test]
+fn each_kind_of_word_has_own_cells_before_global_ones() {
+    // Own cell 0 is read, own cell 1 added to. Global cell 0 is added to by all; another for each group is stored to twice. Groups are of
+    // one thread, so that the launch number is the group.
+    let rows = [
+        LOAD_0,
+        [1, 7, 1, 0],
+        [18, 7, 7, 0],
+        [22, 15, 7, 0],
+        [4, 4, 0, 7],
+        [21, 4, 7, 0],
+        [21, 4, 2, 0],
+    ];
+    let (outcome, lent) = launched(&numbered(&rows), [1, 2, 2, 3, 100]);
+    assert_eq!(outcome[0], 1);
+    assert_eq!(lent.cells, [0, 1, 0, 1]);
+    assert_eq!(lent.global, [2, 1, 1]);
+    let due = [
+        [1, 0, 1, 0, 0, 0, 0], // readers
+        [0, 0, 0, 0, 0, 0, 1], // writers: group 0's at global cell 1 are cleared by group 1's start
+        [0, 1, 0, 1, 1, 0, 0], // adders
+        [0, 0, 0, 0, 0, 0, 1], // first values
+        [0, 0, 0, 0, 0, 0, 0], // marks
+        [0, 0, 0, 0, 0, 0, 0], // groups that read
+        [0, 0, 0, 0, 0, 1, 2], // that wrote
+        [0, 0, 0, 0, 3, 0, 0], // that added
+    ];
+    assert_eq!(lent.log, due.concat());
+}
+
+#[test]
+fn a_barrier_keeps_the_masks_of_groups() {
+    // Group 1 stops at a global cell that group 0 used, though both had a barrier.
+    for (first, second, kind) in [
+        ([20, 3, 15, 0], [21, 15, 7, 0], RW),
+        ([21, 15, 7, 0], [20, 3, 15, 0], 2),
+        // Equal stores of two groups conflict.
+        ([21, 15, 7, 0], [21, 15, 7, 0], WW),
+        ([20, 3, 15, 0], [22, 15, 7, 0], 4),
+        ([22, 15, 7, 0], [20, 3, 15, 0], 5),
+        ([21, 15, 7, 0], [22, 15, 7, 0], 6),
+        ([22, 15, 7, 0], [21, 15, 7, 0], AW),
+    ] {
+        let (begin_if, otherwise, end_if) = ([32, 0, 0, 0], [33, 0, 0, 0], [34, 0, 0, 0]);
+        // One thread a group: the launch number is the group.
+        let rows = [
+            [1, 7, 5, 0],
+            begin_if,
+            second,
+            otherwise,
+            first,
+            end_if,
+            BARRIER,
+        ];
+        let (outcome, lent) = launched(&numbered(&rows), [1, 1, 3, 1, 100]);
+        assert_eq!(outcome, [6, 5, 1, 0, 0, 0, kind, 0, 15, 1, 0]);
+        // Of the global cell, behind three own ones in each kind, only the group's access is left.
+        let of_global: Vec<u32> = lent.log.chunks(4).map(|kind| kind[3]).collect();
+        let which = match first[0] {
+            20 => 5,
+            21 => 6,
+            _ => 7,
+        };
+        let mut due = [0; LOG_WORDS];
+        due[which] = 1;
+        assert_eq!(of_global, due);
+    }
+}
+
+#[test]
+fn two_loads_or_two_adds_of_two_groups_do_not_conflict() {
+    for (access, left) in [([20, 3, 15, 0], 0), ([22, 15, 7, 0], 8 * 32 * 5)] {
+        let (outcome, lent) = launched(&numbered(&[[1, 7, 5, 0], access]), [32, 1, 8, 1, 1_000]);
+        assert_eq!((outcome[0], &lent.global[..]), (1, &[left][..]));
+    }
+}
+
+#[test]
+fn a_race_in_the_own_group_is_told_before_one_with_another() {
+    // All threads store their launch number, so each group has unequal stores and group 0's thread 1 stops.
+    let (outcome, _) = launched(&numbered(&[[21, 15, 0, 0]]), [2, 1, 2, 1, 100]);
+    assert_eq!(outcome, [2, 3, 0, 0, 1, 0, WW, 0, 3, 0, 0]);
+    // Group 0 loads. In group 1 thread 0 stops alone, since it is the first to store.
+    let rows = [
+        [12, 3, 0, 1],
+        [32, 0, 3, 0],
+        [20, 5, 15, 0],
+        [33, 0, 0, 0],
+        [21, 15, 0, 0],
+        [34, 0, 0, 0],
+    ];
+    let (outcome, lent) = launched(&numbered(&rows), [2, 1, 2, 1, 100]);
+    assert_eq!(outcome, [6, 7, 1, 0, 0, 0, RW, 0, 16, 0, 0]);
+    assert_eq!(lent.steps, counted(&[8, 8, 5, 5]));
+}
+
+#[test]
+fn a_global_access_outside_is_by_the_number_of_global_cells() {
+    // More own cells than global ones, and the other way round.
+    for (own, global, access, ends) in [
+        (4, 2, [20, 3, 7, 0], 3),
+        (2, 4, [20, 3, 7, 0], 1),
+        (2, 4, [16, 3, 7, 0], 3),
+        (4, 2, [16, 3, 7, 0], 1),
+        (4, 0, [22, 7, 15, 0], 3),
+        (4, 0, [21, 7, 15, 0], 3),
+    ] {
+        let (outcome, _) = launched(&numbered(&[[1, 7, 2, 0], access]), [1, own, 2, global, 100]);
+        assert_eq!(outcome[0], ends, "{own}, {global}, {access:?}");
+    }
+}
+
+#[test]
+fn a_file_leaves_global_cells_and_keeps_what_is_behind() {
+    let table = numbered(&[[1, 7, 5, 0], [22, 15, 7, 0], [17, 1, 0, 0]]);
+    let rows: String = (table.chunks(4))
+        .map(|row| format!("row={},{},{},{}\n", row[0], row[1], row[2], row[3]))
+        .collect();
+    let head = "kernel=1\nthreads=2\ncells=2\ngroups=3\nglobal=2\nlimit=100\nrows=6\n";
+    let cells = "cell=9\n".repeat(6);
+    let file = format!("{head}{rows}{cells}gcell=4294967295\ngcell=8\nend=kernel\n");
+    let steps = "steps=6\n".repeat(6);
+    let due = format!(
+        "verdict=passed\nrow=-\ngroup=-\nothergroup=-\nthread=-\nother=-\nkind=-\nat=-\nrows=18\n{steps}\
+         barriers=0\nconflicts=0\ncell=0\ncell=1\ncell=2\ncell=3\ncell=4\ncell=5\ngcell=29\ngcell=8\nend=report\n"
+    );
+    let mut lent = Lent::for_file();
+    let mut expected = lent.clone();
+    expected.cells[..6].copy_from_slice(&[0, 1, 2, 3, 4, 5]);
+    expected.global[..2].copy_from_slice(&[29, 8]);
+    let log = [
+        [0; 8],
+        [1, 2, 1, 2, 1, 2, 0, 0],
+        [0, 0, 0, 0, 0, 0, 3, 0],
+        [0, 1, 2, 3, 4, 5, 0, 0],
+        [0; 8],
+        [0; 8],
+        [0; 8],
+        [0, 0, 0, 0, 0, 0, 7, 0],
+    ];
+    expected.log[..64].copy_from_slice(&log.concat());
+    expected.records[..9].copy_from_slice(&[[0, 6, 0]; 3].concat());
+    expected.output[..due.len()].copy_from_slice(due.as_bytes());
+    assert_eq!(lent.check(&file), Ok(due.len()));
+    assert!(lent == expected);
 }

@@ -26,8 +26,28 @@ returns-4 c =
 returns-5 : tie.Need-returns-5
 unfolding verdictFrom
 returns-5 c =
-    let test = c .before .before .before .if1 in
-    rw (ne-eqb _ 1 (test .left), ne-eqb _ 2 (c .before .before .if2 .left), ne-eqb _ 3 (c .before .if3 .left), ne-eqb _ 4 (c .if4 .left))
+    let test2 = c .before .before .before .before .if2 in
+    let test = c .before .before .before .before .before .if1 in
+    rw (
+      ne-eqb _ 1 (test .left),
+      ne-eqb _ 2 (test2 .left),
+      ne-eqb _ 3 (c .before .before .before .if3 .left),
+      ne-eqb _ 4 (c .before .before .if4 .left),
+      eq-eqb _ 6 (c .before .if5 .taken),
+      c .kind-from2 .ensures,
+    )
+
+returns-6 : tie.Need-returns-6
+unfolding verdictFrom
+returns-6 c =
+    let test = c .before .before .before .before .if1 in
+    rw (
+      ne-eqb _ 1 (test .left),
+      ne-eqb _ 2 (c .before .before .before .if2 .left),
+      ne-eqb _ 3 (c .before .before .if3 .left),
+      ne-eqb _ 4 (c .before .if4 .left),
+      ne-eqb _ 6 (c .if5 .left),
+    )
 
 pub verdict-from-spec : {M : Type 1} → statement M
 verdict-from-spec =
@@ -38,4 +58,6 @@ verdict-from-spec =
     returns-2
     returns-3
     returns-4
-    returns-5)
+    (λ c κs. search needs)
+    returns-5
+    returns-6)

@@ -1,101 +1,196 @@
 -- `checkfile::run_launch` meets its contract. The fronts of the lent buffers are the run's. Assumes nothing.
-use Rattle.spec.specs.Limits.{logPerCell}
-use Prim.Native.Nat.{_*_}
+use mathlib.Core.Path.{_≡_, ap, sym, _∙_}
+use Prim.Native.Nat.{_+_, _*_, _≤_}
 use native.Mathlib.Omega.{arith}
 use borrow.Author.Needs.{needs}
 use lib.ListN.{length, take}
-use Rattle.checkfile.proofs.Front.{front-length, as-long}
-use Rattle.checkfile.proofs.Running.{placed-length, counts-long, reported}
+use Rattle.checkfile.proofs.Front.{front-length, as-long, placed-over}
+use Rattle.checkfile.proofs.Running.{placed-room, threads-few, counts-long, run, reported}
 use Rattle.checkfile.proofs.run_launch.Statement.{statement}
 use Rattle.checkfile.proofs.run_launch.Tie as tie
 
-slice-aggregate-run : tie.Need-slice-aggregate-run
-slice-aggregate-run c =
-    let place = c .before .before .before .place in
-    let start = c .before .before .before .before .before .before .before .before .before .before .before in
-    let pre = start .pre in
-    front-length (length (start .args .words .now)) _ (omega (arith, placed-length _ _ _ _ _ _ _ _ _ pre _ (place .ensures), pre .fewCells, pre .cellsLent))
+-- Own cells, global cells and the log have room for the launch's.
+own-few : (c : tie.Start) → length (c .args .words .now) ≤ 1024
+own-few c = omega (arith, c .pre .fewCells)
 
-slice-aggregate-run-2 : tie.Need-slice-aggregate-run-2
-slice-aggregate-run-2 c =
-    let start = c .before .before .before .before .before .before .before .before .before .before .before .before in
-    let pre = start .pre in
-    front-length (logPerCell * length (start .args .words .now)) _ (omega (arith, pre .fewCells, pre .logLent))
+global-few : (c : tie.Start) → length (c .args .shared .now) ≤ 1024
+global-few c = omega (arith, c .pre .fewCells)
 
-run-requires : tie.Need-run-requires
-run-requires c κs =
-    let place = c .before .before .before .before .before .before .place in
-    let start = c .before .before .before .before .before .before .before .before .before .before .before .before .before .before in
+log-room : (c : tie.Start) → 8 * (length (c .args .words .now) + length (c .args .shared .now)) ≤ length (c .args .log .now)
+log-room c = omega (arith, c .pre .fewCells, c .pre .logLent)
+
+all-few : (c : tie.Start) → c .args .groups * c .args .threads ≤ 256
+all-few c = threads-few (c .args .groups) (c .args .threads) (c .pre .fewGroups) (c .pre .fewThreads)
+
+own-front : tie.Need-slice-aggregate-run-launch
+own-front c =
+    let start = c .before .before .before .before .before .before .before .before .before .before .before .before .before .before .before .before .before .before in
+    front-length (length (start .args .words .now)) _ (placed-room _ _ _ (c .before .before .before .before .before .before .before .place .ensures) (own-few start) (start .pre .cellsLent))
+
+global-front : tie.Need-slice-aggregate-run-launch-2
+global-front c =
+    let start = c .before .before .before .before .before .before .before .before .before .before .before .before .before .before .before .before .before .before .before in
+    front-length (length (start .args .shared .now)) _ (placed-room _ _ _ (c .before .before .before .before .place2 .ensures) (global-few start) (start .pre .globalLent))
+
+log-front : tie.Need-slice-aggregate-run-launch-3
+log-front c = let start = c .before .before .before .before .before .before .before .before .before .before .before .before .before .before .before .before .before .before .before .before
+    in front-length (8 * (length (start .args .words .now) + length (start .args .shared .now))) _ (log-room start)
+
+run-launch-requires : tie.Need-run-launch-requires
+run-launch-requires c κs =
+    let start = c .before .before .before .before .before .before .before .before .before .before .before .before .before .before .before .before .before .before .before .before .before .before in
     let args = start .args in
-    let words = args .words .now in
     let pre = start .pre in
-    let cells-front = front-length (length words) (place .last .1 .0)
-    (omega (arith, placed-length _ _ _ _ _ _ _ _ _ pre _ (place .ensures), pre .fewCells, pre .cellsLent)) in
-    let log-front = front-length (logPerCell * length words) (args .log .now) (omega (arith, pre .fewCells, pre .logLent)) in
-    (pre .checked, pre .someThread, pre .fewThreads, pre .fewRuns, omega (arith, cells-front, log-front), omega (arith, cells-front, pre .fewCells), pre .recordsLent)
+    let own = front-length (length (args .words .now)) (c .before .before .before .before .before .before .before .before .before .before .before .place .last .1 .1 .0)
+    (placed-room _ _ _ (c .before .before .before .before .before .before .before .before .before .before .before .place .ensures) (own-few start) (pre .cellsLent)) in
+    let global = front-length (length (args .shared .now)) (c .before .before .before .before .before .before .before .place2 .last .1 .1 .0) (placed-room _ _ _
+    (c .before .before .before .before .before .before .before .place2 .ensures) (global-few start) (pre .globalLent)) in
+    let log = front-length (8 * (length (args .words .now) + length (args .shared .now))) (args .log .now) (log-room start) in
+    record {
+      runnable = pre .checked;
+      some-threads = pre .someThread;
+      few-threads = pre .fewThreads;
+      some-groups = pre .someGroup;
+      few-groups = pre .fewGroups;
+      few-rows = pre .fewRuns;
+      cells-are = sym own ∙ pre .own;
+      total-few = omega (arith, own, global, pre .own, pre .fewCells);
+      log-sized = omega (arith, own, global, log, pre .own);
+      lent = pre .recordsLent;
+    }
 
--- The counts of the launch's threads are some of 32.
-share-steps : tie.Need-array-share-prefix-steps
-share-steps c =
-    let run = c .before .before .before .before .before .before .run in
-    let at-place = c .before .before .before .before .before .before .before .before .before .before .before .before .before in
-    let start = at-place .before .before .before .before .before .before .before .before in
-    let pre = start .pre in
-    omega (arith, counts-long _ _ _ _ _ _ _ _ _ pre (take (length (start .args .words .now)) (at-place .place .last .1 .0)) (run .ensures), pre .fewThreads)
+steps-room : tie.Need-array-share-prefix-steps
+steps-room c =
+    let at-run = c .before .before .before .before .before .before .before .before in
+    let start = at-run .before .before .before .before .before .before .before .before .before .before .before .before .before .before .before .before .before .before .before .before
+    .before .before .before in
+    let args = start .args in
+    let own = placed-over _ _ _ (at-run .before .before .before .before .before .before .before .before .before .before .before .before .place .ensures) in
+    let global = placed-over _ _ _ (at-run .before .before .before .before .before .before .before .before .place2 .ensures) in
+    let left = run (args .table .now) (args .ends .now) (args .threads) (args .groups) (args .each) (args .limit) (args .words .now) (args .shared .now)
+    (args .cells .now) (args .global .now) (args .log .now) (args .records .now) (args .output .now) (start .pre) _ _ own global _ _ _ _ _ _ (at-run .run-launch .ensures) in
+    omega (
+      arith,
+      at-run .before .before .before .before .before .before .before .before .before .before .before .before .before .before .all-threads .ensures,
+      all-few start,
+      counts-long
+          _ _ _ _ _ _ _ _ _ _ _ _ _ (start .pre) _ (left .steps-are),
+    )
 
 steps-shared : tie.Need-slice-aggregate-write-report
 steps-shared c =
-    let run = c .before .before .before .before .before .before .before .run in
-    let at-place = c .before .before .before .before .before .before .before .before .before .before .before .before .before .before in
-    let start = at-place .before .before .before .before .before .before .before .before in
-    let pre = start .pre in
-    front-length (start .args .threads) _
-    (omega (arith, counts-long _ _ _ _ _ _ _ _ _ pre (take (length (start .args .words .now)) (at-place .place .last .1 .0)) (run .ensures), pre .fewThreads))
+    let at-run = c .before .before .before .before .before .before .before .before .before in
+    let start = at-run .before .before .before .before .before .before .before .before .before .before .before .before .before .before .before .before .before .before .before .before
+    .before .before .before in
+    let args = start .args in
+    let own = placed-over _ _ _ (at-run .before .before .before .before .before .before .before .before .before .before .before .before .place .ensures) in
+    let global = placed-over _ _ _ (at-run .before .before .before .before .before .before .before .before .place2 .ensures) in
+    let left = run (args .table .now) (args .ends .now) (args .threads) (args .groups) (args .each) (args .limit) (args .words .now) (args .shared .now)
+    (args .cells .now) (args .global .now) (args .log .now) (args .records .now) (args .output .now) (start .pre) _ _ own global _ _ _ _ _ _ (at-run .run-launch .ensures) in
+    front-length _ _ (omega (
+      arith,
+      at-run .before .before .before .before .before .before .before .before .before .before .before .before .before .before .all-threads .ensures,
+      all-few
+          start,
+      counts-long _ _ _ _ _ _ _ _ _ _ _ _ _ (start .pre) _ (left .steps-are),
+    ))
 
-cells-shared : tie.Need-slice-aggregate-write-report-2
-cells-shared c =
-    let at-cells2 = c .before .before .before .before .before .before .before in
-    let at-place = c .before .before .before .before .before .before .before .before .before .before .before .before .before .before .before in
-    let place = at-place .place in
-    let start = at-place .before .before .before .before .before .before .before .before in
-    let pre = start .pre in
-    front-length (length (start .args .words .now)) _
-    (omega (arith, at-cells2 .cells2 .given .1, placed-length _ _ _ _ _ _ _ _ _ pre _ (place .ensures), pre .fewCells, pre .cellsLent))
+own-reshared : tie.Need-slice-reshare-prefix-write-report
+own-reshared c =
+    let start = c .before .before .before .before .before .before .before .before .before .before .before .before .before .before .before .before .before .before .before .before .before
+    .before .before .before .before .before .before .before .before .before .before .before in
+    omega (
+      arith,
+      c .before .before .before .before .before .before .before .before .cells2 .given .1,
+      placed-room _ _ _
+          (c .before .before .before .before .before .before .before .before .before .before .before .before .before .before .before .before .before .before .before .before .before .place
+          .ensures) (own-few start) (start .pre .cellsLent),
+    )
+
+own-shared : tie.Need-slice-aggregate-write-report-2
+own-shared c =
+    let start = c .before .before .before .before .before .before .before .before .before .before .before .before .before .before .before .before .before .before .before .before .before
+    .before .before .before .before .before .before .before .before .before .before .before .before in
+    front-length _ _ (omega (
+      arith,
+      c .before .before .before .before .before .before .before .before .before .cells2 .given .1,
+      placed-room _ _ _
+          (c .before .before .before .before .before .before .before .before .before .before .before .before .before .before .before .before .before .before .before .before .before .before
+          .place .ensures) (own-few start) (start .pre .cellsLent),
+    ))
+
+global-reshared : tie.Need-slice-reshare-prefix-write-report-2
+global-reshared c =
+    let start = c .before .before .before .before .before .before .before .before .before .before .before .before .before .before .before .before .before .before .before .before .before
+    .before .before .before .before .before .before .before .before .before .before .before .before in
+    omega (
+      arith,
+      c .before .before .before .before .before .before .before .global2 .given .1,
+      placed-room _ _ _
+          (c .before .before .before .before .before .before .before .before .before .before .before .before .before .before .before .before .before .before .place2 .ensures)
+          (global-few start) (start .pre .globalLent),
+    )
+
+global-shared : tie.Need-slice-aggregate-write-report-3
+global-shared c =
+    let start = c .before .before .before .before .before .before .before .before .before .before .before .before .before .before .before .before .before .before .before .before .before
+    .before .before .before .before .before .before .before .before .before .before .before .before .before in
+    front-length _ _ (omega (
+      arith,
+      c .before .before .before .before .before .before .before .before .global2 .given .1,
+      placed-room _ _ _
+          (c .before .before .before .before .before .before .before .before .before .before .before .before .before .before .before .before .before .before .before .place2 .ensures)
+          (global-few start) (start .pre .globalLent),
+    ))
+
+same-length : tie.Need-same-length
+same-length c = c .before .before .before .before .before .before .before .before .before .before .before .before .before .before .cells2 .given .1 ∙ c .before .before .before .before
+    .before .before .before
+    .before .before .before .before .before .before .before .before .before .before .before .before .before .before .before .before .before .before .before .before .place .kept .1 .1 .0
 
 returns : tie.Need-returns
 returns c =
     let write-report = c .before .before .write-report in
-    let at-log = c .before .before .before .before .before .before .before .before .before in
-    let cells2 = at-log .before .before .cells2 in
-    let at-run = at-log .before .before .before in
-    let run = at-run .run in
-    let at-place = at-run .before .before .before .before .before .before .before in
-    let place = at-place .place in
-    let start = at-place .before .before .before .before .before .before .before .before in
-    let pre = start .pre in
+    let at-run = c .before .before .before .before .before .before .before .before .before .before .before .before .before .before .before in
+    let start = at-run .before .before .before .before .before .before .before .before .before .before .before .before .before .before .before .before .before .before .before .before
+    .before .before .before in
     let args = start .args in
-    let words = args .words .now in
-    let log = args .log .now in
-    let long = placed-length _ _ _ _ _ _ _ _ _ pre (place .last .1 .0) (place .ensures) in
-    reported (args .table .now) (args .ends .now) (args .threads) (args .limit) words (args .cells .now) log (args .records .now) (args .output .now) pre
-    (place .last .1 .0) (run .last .1 .1 .1 .1 .0) (run .last .1 .1 .1 .1 .1 .0) (run .last .1 .1 .1 .1 .1 .1 .0)
-    (run .last .1 .1 .1 .1 .1 .1 .1 .0) _ _ _ (place .ensures)
-    (as-long (length words) (run .last .1 .1 .1 .1 .0) (place .last .1 .0) (cells2 .given .0) (omega (arith, long, pre .fewCells, pre .cellsLent)))
-    (as-long (logPerCell * length words) (run .last .1 .1 .1 .1 .1 .0) log (at-log .log .given .0) (omega (arith, pre .fewCells, pre .logLent)))
-    (run .ensures) (write-report .ensures .0) (write-report .ensures .1 .0) (write-report .ensures .1 .1 .0)
+    let pre = start .pre in
+    let placed = at-run .before .before .before .before .before .before .before .before .before .before .before .before .place in
+    let placed-global = at-run .before .before .before .before .before .before .before .before .place2 in
+    let ran = at-run .run-launch in
+    reported (args .table .now) (args .ends .now) (args .threads) (args .groups) (args .each) (args .limit) (args .words .now) (args .shared .now)
+    (args .cells .now) (args .global .now) (args .log .now) (args .records .now) (args .output .now) pre _ _ (placed-over _ _ _ (placed .ensures))
+    (placed-over _ _ _ (placed-global .ensures)) _ _ _ _ _ _ (ran .ensures) _ (at-run .before .before .before .before .before .before .before .before .before .before .before .before
+    .before .before .all-threads .ensures) _ _
+    (as-long (length (args .words .now)) (ran .last .1 .1 .1 .1 .1 .1 .0) (placed .last .1 .1 .0)
+    (c .before .before .before .before .before .before .before .before .before .before .before .before .before .before .cells2 .given .0)
+    (placed-room _ _ _ (placed .ensures) (own-few start) (pre .cellsLent)))
+    (as-long (length (args .shared .now)) (ran .last .1 .1 .1 .1 .1 .1 .1 .0) (placed-global .last .1 .1 .0)
+    (c .before .before .before .before .before .before .before .before .before .before .before .before .global2 .given .0)
+    (placed-room _ _ _ (placed-global .ensures) (global-few start) (pre .globalLent)))
+    (as-long (8 * (length (args .words .now) + length (args .shared .now))) (ran .last .1 .1 .1 .1 .1 .1 .1 .1 .0) (args .log .now)
+    (c .before .before .before .before .before .before .before .before .before .before .log .given .0) (log-room start))
+    (write-report .ensures .0) (write-report .ensures .1 .0) (write-report .ensures .1 .1 .0)
 
 pub run-launch-spec : {M : Type 1} → statement M
 run-launch-spec =
     tie.close
     (tie.spec
-    (λ c. search needs) (λ c κs. search needs) (λ c. search needs)
-    slice-aggregate-run
+    (λ c. search needs) (λ c. search needs) (λ c κs. search needs) (λ c κs. search needs) (λ c κs. search needs) (λ c. search needs)
+    own-front
     (λ c. search needs)
-    slice-aggregate-run-2
-    run-requires
-    share-steps
+    global-front
+    (λ c. search needs)
+    log-front
+    run-launch-requires
+    steps-room
     steps-shared
-    (λ c. search needs)
-    cells-shared
-    (λ c κs. search needs) (λ c. search needs) (λ c. search needs) (λ c. search needs) (λ c. search needs)
+    own-reshared
+    own-shared
+    global-reshared
+    global-shared
+    (λ c κs. search needs)
+    same-length
+    (λ c. search needs) (λ c. search needs) (λ c. search needs) (λ c. search needs)
     returns)

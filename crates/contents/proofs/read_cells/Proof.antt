@@ -9,20 +9,20 @@ use Rattle.contents.proofs.read_cells.Statement.{statement}
 use Rattle.contents.proofs.read_cells.Tie as tie
 
 abbrev Inv-loop : tie.InvT-loop
-Inv-loop file n cells₀ good₀ rest₀ k₀ cells good rest k = CellsGoing file n cells₀ cells rest k
+Inv-loop file key n cells₀ good₀ rest₀ k₀ cells good rest k = CellsGoing key file n cells₀ cells rest k
 
 abbrev μ-loop : tie.MeasureT-loop
-μ-loop file n cells₀ good₀ rest₀ k₀ cells good rest k = n - k
+μ-loop file key n cells₀ good₀ rest₀ k₀ cells good rest k = n - k
 
 loop-holds : tie.Need-loop-holds Inv-loop μ-loop
-loop-holds c = cells-start _ _ _ (c .before .pre .1)
+loop-holds c = cells-start _ _ _ _ (c .before .before .pre .1)
 
 returns : tie.Need-returns Inv-loop μ-loop
 returns c =
-    let at-cell-line = c .before .before in
-    let in-loop = at-cell-line .before in
+    let at-number = c .before .before in
+    let in-loop = at-number .before in
     let at-loop = in-loop .before in
-    cells-stop (at-loop .loop .inv) (in-loop .loop-test .taken) (at-cell-line .cell-line .ensures ∙ ap numberOf (c .enum-told .given .1))
+    cells-stop (at-loop .loop .inv) (in-loop .loop-test .taken) (at-number .number-line .ensures ∙ ap numberOf (c .enum-told .given .1))
 
 mul-cells : tie.Need-mul-cells Inv-loop μ-loop
 mul-cells c = omega arith
@@ -39,12 +39,12 @@ loop-less c = omega arith
 loop-again : tie.Need-loop-again Inv-loop μ-loop
 loop-again c =
     let at-word = c .before .before in
-    let at-cell-line = at-word .before .before in
-    let in-loop = at-cell-line .before in
+    let at-number = at-word .before .before in
+    let in-loop = at-number .before in
     let at-loop = in-loop .before in
-    let start = at-loop .before .before in
+    let start = at-loop .before .before .before in
     cells-more (at-loop .loop .inv) (start .pre .0) (in-loop .loop-test .taken)
-    (at-cell-line .cell-line .ensures ∙ ap numberOf (at-word .word .given .1)) (c .next .ensures)
+    (at-number .number-line .ensures ∙ ap numberOf (at-word .word .given .1)) (c .next .ensures)
 
 returns-2 : tie.Need-returns-2 Inv-loop μ-loop
 returns-2 c = cells-end (c .before .loop .inv) (c .loop-test .left)

@@ -18,10 +18,10 @@ returns c =
     record {
       log-is = masks .ensures ∙ ap (kindsPlaced 5 (args .total) (args .at) (args .k) 3 (args .masks .now)) (shared .ensures);
       records-are = finish .ensures .0;
-      group-is = refl;
       outcome-is = λ i. record {
         verdict = args .r .verdict;
         row = args .r .row;
+        group = args .group;
         rows = args .r .rows;
         barriers = args .r .barriers;
         conflicts = finish .ensures .1 i;

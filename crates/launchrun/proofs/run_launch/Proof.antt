@@ -1,11 +1,14 @@
 -- `launchrun::run_launch` meets its contract. Assumes nothing.
 use mathlib.Core.Path.{_≡_, refl, sym, ap, _∙_}
+use mathlib.Core.List.{_++_}
 use Prim.Native.Nat.{ℕ, _+_, _*_, _≤_}
 use native.Mathlib.Omega.{arith}
 use lib.ListN.{length, replicate, take, length-replicate, getD-replicate}
 use Rattle.banks.proofs.Memory.{memo-start}
 use Rattle.intervals.proofs.Ledger.{begun-once}
+use Rattle.launchrun.specs.Launches.{sizesBy}
 use Rattle.launchrun.proofs.LaunchStart.{zeros-long, zeros-front, own-few, lent-is}
+use Rattle.launchrun.proofs.Results.{run-is}
 use borrow.Author.Needs.{needs}
 use Rattle.launchrun.proofs.run_launch.Statement.{statement}
 use Rattle.launchrun.proofs.run_launch.Tie as tie
@@ -80,9 +83,16 @@ returns c =
     let run = c .before .before .before .before .before .before .before .before .before .before .before .run-groups in
     let launch = c .before .before .before .before .before .before .before .before .before .before .before .before .before .before .before .before .before .before .before .before .before
     .before .before .before .before .before .launch in
-    let args = c .before .before .before .before .before .before .before .before .before .before .before .before .before .before .before .before .before .before .before .before .before
-    .before .before .before .before .before .before .before .before .before .before .before .before .before .before .before .before .args in
-    lent-is (args .table .now) _ (args .limit) _ (args .records .now) (launch .last .0) (run .result) _ _ _ _ _ (launch .ensures) (run .ensures)
+    let start = c .before .before .before .before .before .before .before .before .before .before .before .before .before .before .before .before .before .before .before .before .before
+    .before .before .before .before .before .before .before .before .before .before .before .before .before .before .before .before in
+    let args = start .args in
+    let left = run .last .1 .1 .1 .1 .1 .1 in
+    let Z = sizesBy (args .n) (args .groups) (args .k) (args .global .now) in
+    run-is (args .table .now) Z (args .limit) (args .cells .now) (args .global .now) (args .records .now) (run .result)
+    (left .0) (left .1 .0) (left .1 .1 .0) (left .1 .1 .1 .1 .1 .1 .0) (left .1 .1 .1 .1 .1 .1 .1 .1 .0) (run .kept .1 .1 .1 .1 .1 .1 .0 ∙ start .pre .cells-are)
+    (lent-is (args .table .now) Z (args .limit) (args .cells .now ++ args .global .now)
+    (args .records .now) (launch .last .0) (run .result) (left .0) (left .1 .0) (left .1 .1 .0) (left .1 .1 .1 .1 .1 .1 .0) (left .1 .1 .1 .1 .1 .1 .1 .1 .0)
+    (launch .ensures) (run .ensures))
 
 pub run-launch-spec : {M : Type 1} → statement M
 run-launch-spec =

@@ -16,7 +16,7 @@ use Rattle.optable.proofs.form_of.Tie as tie
 abbrev forms : List ℕ
 forms =
     (0 ∷ 1 ∷ 2 ∷ 2 ∷ replicate 11 3)
-    ++ (0 ∷ 4 ∷ 4 ∷ 4 ∷ replicate 13 0)
+    ++ (0 ∷ 4 ∷ 4 ∷ 4 ∷ 2 ∷ 4 ∷ 4 ∷ 4 ∷ replicate 9 0)
     ++ (5 ∷ 6 ∷ 6 ∷ 5 ∷ 6 ∷ 6 ∷ replicate 218 0)
 
 codeOf : Form → ℕ

@@ -18,8 +18,8 @@ returns c =
     let size = c .before .lines-length .ensures in
     let needed = size .0 ∙ ap length (refusal-part (args .number) (args .place) _ (c .before .before .refusal-values .ensures)) in
     let out = args .out .now in
-    turned-back what [] [] out _ (too-long what [] [] out _ (no-lines-asked _ _ [] []) needed (c .if1 .taken))
-    (fits what [] [] out _ needed (omega (arith, size .1)))
+    turned-back what [] [] [] out _ (too-long what [] [] [] out _ (no-lines-asked _ _ [] [] []) needed (c .if1 .taken))
+    (fits what [] [] [] out _ needed (omega (arith, size .1)))
 
 returns-2 : tie.Need-returns-2
 returns-2 c =
@@ -34,8 +34,8 @@ returns-2 c =
     let part = refusal-part (args .number) (args .place) _ (refusal-values .ensures) in
     let needed = size .0 ∙ ap length part in
     let written = finished _ (next _ _ (nothing out) (omega (arith, size .0, test .left)) (wrote .ensures .0) (wrote .ensures .1)) part in
-    taken what [] [] out _ _ (fitting what [] [] out _ (no-lines-asked _ _ [] []) needed (omega (arith, test .left)))
-    (written .0) (written .1) (fits what [] [] out _ needed (omega (arith, size .1)))
+    taken what [] [] [] out _ _ (fitting what [] [] [] out _ (no-lines-asked _ _ [] [] []) needed (omega (arith, test .left)))
+    (written .0) (written .1) (fits what [] [] [] out _ needed (omega (arith, size .1)))
 
 pub report-refusal-spec : {M : Type 1} → statement M
 report-refusal-spec =

@@ -1,19 +1,12 @@
--- `reportvalues::details` meets its contract. Each verdict has its row. Assumes nothing.
-use Rattle.spec.specs.Report.{detailsOf}
+-- `reportvalues::details` meets its contract. Assumes nothing.
+use mathlib.Core.Path.{refl}
 use Rattle.spec.specs.Report as report
-use borrow.Author.Needs.{needs}
 use Rattle.reportvalues.proofs.details.Statement.{statement}
 use Rattle.reportvalues.proofs.details.Tie as tie
 
+returns : tie.Need-returns
+unfolding report.details
+returns c = refl
+
 pub details-spec : {M : Type 1} → statement M
-unfolding detailsOf report.details
-details-spec =
-    tie.close
-    (tie.spec
-    (λ c. search needs) (λ c. search needs) (λ c. search needs) (λ c. search needs) (λ c. search needs) (λ c. search needs)
-    (λ c. rw (c .enum-told .given .1))
-    (λ c. rw (c .before .verdict .given .1))
-    (λ c. rw (c .before .verdict2 .given .1))
-    (λ c. rw (c .before .verdict3 .given .1))
-    (λ c. rw (c .before .verdict4 .given .1))
-    (λ c. rw (c .enum-told2 .given .1)))
+details-spec = tie.close (tie.spec returns)

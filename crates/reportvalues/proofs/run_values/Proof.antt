@@ -10,14 +10,14 @@ use borrow.Author.Needs.{needs}
 use Rattle.reportvalues.proofs.run_values.Statement.{statement}
 use Rattle.reportvalues.proofs.run_values.Tie as tie
 
-details-requires : tie.Need-details-requires
-details-requires c κs = search needs
+details-of-requires : tie.Need-details-of-requires
+details-of-requires c κs = search needs
 
 returns : tie.Need-returns
 unfolding listed
 returns c =
     let o = c .before .args .outcome in
-    ap (λ (d : Details). valuesOf (headWith o d ++ intervalLines o) ++ (value.Hyphen ∷ value.Hyphen ∷ value.Report ∷ [])) (c .details .ensures)
+    ap (λ (d : Details). valuesOf (headWith o d ++ intervalLines o) ++ (value.Hyphen ∷ value.Hyphen ∷ value.Report ∷ [])) (c .details-of .ensures)
 
 pub run-values-spec : {M : Type 1} → statement M
-run-values-spec = tie.close (tie.spec details-requires returns)
+run-values-spec = tie.close (tie.spec details-of-requires returns)

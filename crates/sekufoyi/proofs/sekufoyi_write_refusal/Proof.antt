@@ -20,5 +20,5 @@ pub sekufoyi-write-refusal-spec : {M : Type 1} → statement M
 sekufoyi-write-refusal-spec =
     tie.close
     (tie.spec
-    (λ c. search needs) (λ c. search needs) (λ c κs. search needs) (λ c κs. search needs) (λ c. search needs)
+    (λ c. search needs) (λ c. search needs) (λ c. search needs) (λ c κs. search needs) (λ c κs. search needs) (λ c. search needs)
     returns)

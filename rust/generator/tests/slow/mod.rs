@@ -1,15 +1,49 @@
 //! A slow lock-step run: thread by thread, the costs cell by cell, the records
-//! as item 5 tells them, and of each cell all values stored, as item 6 does. It
-//! can also make one of the mistakes that are likely with equal stores.
+//! as item 5 tells them, of each cell all values stored, as item 6 does, and of
+//! each global cell all accesses of all groups, as item 7 does. It can also make
+//! one of the mistakes that are likely.
 #![allow(dead_code)]
+
+mod cells;
+mod rule;
 
 use std::collections::BTreeSet;
 
 use checker::{op, INTERVAL_RECORDS};
 
+use cells::{Cells, Uses};
+pub use rule::Rule;
+
+/// A launch that isn't refused.
+#[derive(Clone, Copy)]
+pub struct Launch<'a> {
+    pub rows: &'a [[u8; 4]],
+    pub threads: usize,
+    pub groups: usize,
+    pub limit: u32,
+    pub cells: &'a [u32],
+    pub global: &'a [u32],
+}
+
+impl<'a> From<&'a generator::Plan> for Launch<'a> {
+    fn from(plan: &'a generator::Plan) -> Self {
+        Self {
+            rows: &plan.rows,
+            threads: plan.threads as usize,
+            groups: plan.groups as usize,
+            limit: plan.limit,
+            cells: &plan.cells,
+            global: &plan.global,
+        }
+    }
+}
+
 /// An access row that was run, or the one that stopped the run.
 pub struct Access {
     pub row: usize,
+    pub group: usize,
+    /// To global cells.
+    pub global: bool,
     /// Each thread that acted, with its cell.
     pub used: Vec<(usize, usize)>,
     /// What each of them stored, loaded or added.
@@ -27,151 +61,229 @@ impl Access {
     }
 }
 
-/// What a launch came to, as far as items 5 and 6 go, and how it ended.
+/// Where and how the run ended, as the report has it; none for a hyphen.
+#[derive(Clone, Debug, Default, PartialEq)]
+pub struct Stop {
+    pub row: Option<usize>,
+    pub group: Option<usize>,
+    pub other_group: Option<usize>,
+    pub thread: Option<usize>,
+    pub other: Option<usize>,
+    pub kind: Option<String>,
+    pub at: Option<u32>,
+}
+
+/// What a launch came to.
 #[derive(Debug, PartialEq)]
 pub struct Told {
     pub verdict: &'static str,
-    /// Thread, other, kind and cell.
-    pub race: Option<(usize, usize, String, usize)>,
+    pub stop: Stop,
     pub rows: u32,
     pub barriers: u32,
+    /// By launch number.
+    pub steps: Vec<u32>,
     pub records: Vec<[u32; 3]>,
     pub cells: Vec<u32>,
+    pub global: Vec<u32>,
     pub log: Vec<u32>,
 }
 
-/// Item 6 as it is, or with one mistake.
-#[derive(Clone, Copy, Debug, PartialEq, Eq)]
-pub enum Rule {
-    Right,
-    /// As before item 6.
-    EqualRefused,
-    /// The last value is kept in place of the first.
-    LastKept,
-    /// A store is compared with the last one only.
-    LastCompared,
-    /// A store is compared with what the cell holds.
-    CellCompared,
-    /// One thread's unequal stores leave no mark.
-    Unmarked,
-    /// Every second store leaves a mark.
-    EqualMarked,
-    /// A first value of 0 is taken for none.
-    ZeroIsNone,
-    /// A barrier leaves the marks.
-    MarkStays,
-    /// A barrier leaves the first values.
-    ValueStays,
-    /// A load beside another's equal stores is let through.
-    LoadLetThrough,
-    /// An add beside another's equal stores is let through.
-    AddLetThrough,
-    /// Readers and adders that stored the same value are let through.
-    BesidesLetThrough,
-    /// Another that stored is always shown as one.
-    ShownAsStore,
-    /// A refused store becomes the first value.
-    RefusedIsFirst,
-    /// A refused store leaves a mark.
-    RefusedMarks,
-    /// Only so many low bits are compared.
-    LowBits(u32),
-    /// A store by another takes the place of the writers before.
-    OneWriter,
-    /// The value counts for the thread that stored first, not for others.
-    FirstThreadOnly,
-}
-
-/// The values stored to a cell, in their order.
-#[derive(Clone, Default)]
-struct Stores {
-    values: Vec<u32>,
-    /// Of earlier intervals: the first value and whether there was a mark.
-    earlier: Option<u32>,
-    was_marked: bool,
-}
-
-impl Stores {
-    fn first(&self, rule: Rule) -> u32 {
-        let mut all = self.values.iter().copied();
-        match rule {
-            Rule::LastKept => all.next_back(),
-            Rule::ZeroIsNone => all.find(|&value| value != 0),
-            Rule::ValueStays => self.earlier.or(all.next()),
-            _ => all.next(),
-        }
-        .unwrap_or(0)
+impl Told {
+    /// The report, line by line.
+    pub fn report(&self) -> String {
+        let shown = |number: Option<u32>| number.map_or("-".to_string(), |n| n.to_string());
+        let place = |number: Option<usize>| shown(number.map(|n| n as u32));
+        let stop = &self.stop;
+        let conflicts: u32 = self.records.iter().map(|record| record[2]).sum();
+        let mut lines = vec![
+            format!("verdict={}", self.verdict),
+            format!("row={}", place(stop.row)),
+            format!("group={}", place(stop.group)),
+            format!("othergroup={}", place(stop.other_group)),
+            format!("thread={}", place(stop.thread)),
+            format!("other={}", place(stop.other)),
+            format!("kind={}", stop.kind.as_deref().unwrap_or("-")),
+            format!("at={}", shown(stop.at)),
+            format!("rows={}", self.rows),
+        ];
+        lines.extend(self.steps.iter().map(|steps| format!("steps={steps}")));
+        lines.push(format!("barriers={}", self.barriers));
+        lines.push(format!("conflicts={conflicts}"));
+        lines.extend(self.cells.iter().map(|cell| format!("cell={cell}")));
+        lines.extend(self.global.iter().map(|cell| format!("gcell={cell}")));
+        lines.push("end=report\n".to_string());
+        lines.join("\n")
     }
+}
 
-    fn marked(&self, rule: Rule) -> bool {
-        let first = self.first(rule);
-        let unequal = |compared: u32| self.values.iter().any(|&value| value != compared);
-        match rule {
-            Rule::Unmarked | Rule::LastCompared => false,
-            Rule::EqualMarked => self.values.len() > 1,
-            Rule::MarkStays => self.was_marked || unequal(first),
-            Rule::ZeroIsNone => self
-                .values
-                .iter()
-                .any(|&value| value != first && first != 0),
-            Rule::LowBits(bits) => self
-                .values
-                .iter()
-                .any(|&value| (value ^ first) << (32 - bits) != 0),
-            Rule::LastKept => unequal(self.values.first().copied().unwrap_or(0)),
-            _ => unequal(first),
+/// The largest number of different cells in one bank, less one.
+pub fn cost(used: &BTreeSet<usize>) -> u32 {
+    let in_bank = |bank| used.iter().filter(|&cell| cell % 16 == bank).count() as u32;
+    let most = (0..16).map(in_bank).max().unwrap_or(0);
+    most.max(1) - 1
+}
+
+/// A run of a launch that isn't refused. `see` is shown each access row.
+pub fn slow_run<'a>(launch: impl Into<Launch<'a>>, see: impl FnMut(Access)) -> Told {
+    run_by(Rule::Right, launch, see)
+}
+
+/// As [`slow_run`], with a mistake.
+pub fn run_by<'a>(rule: Rule, launch: impl Into<Launch<'a>>, mut see: impl FnMut(Access)) -> Told {
+    let launch = launch.into();
+    let mut machine = Machine::new(rule, launch);
+    let mut verdict = "passed";
+    for group in 0..launch.groups {
+        machine.start(group);
+        verdict = machine.run_group(&mut see);
+        let follows = group + 1 < launch.groups;
+        if rule == Rule::SpentAtEnd && follows && machine.rows == launch.limit {
+            verdict = "spent";
+        }
+        if verdict != "passed" {
+            machine.stop.group = Some(group);
+            break;
         }
     }
-
-    /// Whether a store of this value conflicts with those of others.
-    fn meet(&self, rule: Rule, value: u32, cell: u32) -> bool {
-        let first = self.first(rule);
-        let differs = match rule {
-            Rule::EqualRefused => true,
-            Rule::CellCompared => return cell != value,
-            Rule::LastCompared => self.values.last() != Some(&value),
-            Rule::ZeroIsNone => first != 0 && first != value,
-            Rule::LowBits(bits) => (first ^ value) << (32 - bits) != 0,
-            _ => first != value,
-        };
-        differs || self.marked(rule)
-    }
-
-    fn forget(&mut self) {
-        self.was_marked |= self.marked(Rule::Right);
-        self.earlier = self.earlier.or(self.values.first().copied());
-        self.values.clear();
-    }
+    machine.told(verdict)
 }
 
-type Acted = (Vec<(usize, usize)>, Vec<u32>, Option<&'static str>);
+/// The constructs around a row.
+#[derive(Default)]
+struct Flow {
+    /// Saved masks, those of an IF with what it enabled, of a WHILE with its row.
+    open: Vec<(BTreeSet<usize>, BTreeSet<usize>, usize)>,
+    /// The row before was an ENDWHILE.
+    from_end: bool,
+}
 
-struct Threads {
+/// A row that was finished.
+struct Done {
+    /// The row due then.
+    next: usize,
+    /// Its cost.
+    paid: u32,
+    /// It was a counted barrier.
+    released: bool,
+}
+
+struct Machine<'a> {
     rule: Rule,
+    launch: Launch<'a>,
+    group: usize,
     registers: Vec<[u32; 16]>,
     enabled: BTreeSet<usize>,
-    cells: Vec<u32>,
-    readers: Vec<BTreeSet<usize>>,
-    writers: Vec<BTreeSet<usize>>,
-    adders: Vec<BTreeSet<usize>>,
-    stores: Vec<Stores>,
-    race: Option<(usize, usize, String, usize)>,
+    own: Vec<Cells>,
+    global: Cells,
+    uses: Uses,
+    stop: Stop,
+    rows: u32,
+    /// Rows before this group.
+    rows_before: u32,
+    barriers: u32,
+    /// Barriers of this group.
+    own_barriers: usize,
+    steps: Vec<u32>,
+    records: Vec<[u32; 3]>,
 }
 
-impl Threads {
-    fn new(rule: Rule, threads: usize, cells: &[u32]) -> Self {
-        let nobody = vec![BTreeSet::new(); cells.len()];
+impl<'a> Machine<'a> {
+    fn new(rule: Rule, launch: Launch<'a>) -> Self {
+        let each = launch.cells.len() / launch.groups;
+        let first = if rule == Rule::StartOpensTwo { 2 } else { 1 };
         Self {
             rule,
-            registers: vec![[0; 16]; threads],
-            enabled: (0..threads).collect(),
-            cells: cells.to_vec(),
-            readers: nobody.clone(),
-            writers: nobody.clone(),
-            adders: nobody,
-            stores: vec![Stores::default(); cells.len()],
-            race: None,
+            launch,
+            group: 0,
+            registers: vec![[0; 16]; launch.threads],
+            enabled: BTreeSet::new(),
+            own: launch.cells.chunks(each).map(Cells::new).collect(),
+            global: Cells::new(launch.global),
+            uses: Uses::new(launch.global.len()),
+            stop: Stop::default(),
+            rows: 0,
+            rows_before: 0,
+            barriers: 0,
+            own_barriers: 0,
+            steps: vec![0; launch.groups * launch.threads],
+            records: vec![[0, 0, 0]; first],
         }
+    }
+
+    fn start(&mut self, group: usize) {
+        self.group = group;
+        self.enabled = (0..self.launch.threads).collect();
+        self.rows_before = self.rows;
+        self.own_barriers = 0;
+        if group == 0 {
+            return;
+        }
+        if self.rule != Rule::RegistersStay {
+            self.registers.fill([0; 16]);
+        }
+        if self.rule != Rule::StartKeepsGlobal {
+            self.global.forget();
+        }
+        match self.rule {
+            Rule::StartClearsGroups => self.uses.forget(),
+            Rule::StartClearsOwn => self.own.iter_mut().for_each(Cells::forget),
+            Rule::CellsHandedOn => self.own[group].words = self.own[group - 1].words.clone(),
+            _ => {}
+        }
+        let past_cap = self.rule == Rule::StartPastCap;
+        if self.rule != Rule::StartOpensNone && (past_cap || self.has_room()) {
+            self.records.push([0, 0, 0]);
+        }
+    }
+
+    fn has_room(&self) -> bool {
+        self.records.len() < INTERVAL_RECORDS
+    }
+
+    fn release(&mut self, next: usize) {
+        self.barriers += 1;
+        self.own_barriers += 1;
+        self.own_cells().forget();
+        match self.rule {
+            Rule::BarrierClearsGroups => self.uses.forget(),
+            Rule::BarrierClearsOthers => self.own.iter_mut().for_each(Cells::forget),
+            _ => {}
+        }
+        if self.rule != Rule::BarrierKeepsGlobal {
+            self.global.forget();
+        }
+        if self.has_room() {
+            self.records.push([next as u32, 0, 0]);
+        }
+    }
+
+    fn own_cells(&mut self) -> &mut Cells {
+        let group = match self.rule {
+            Rule::OneGroupsCells => 0,
+            _ => self.group,
+        };
+        &mut self.own[group]
+    }
+
+    fn spent(&self) -> bool {
+        match self.rule {
+            Rule::LimitAnew => self.rows - self.rows_before == self.launch.limit,
+            _ => self.rows == self.launch.limit,
+        }
+    }
+
+    fn step(&mut self, threads: impl IntoIterator<Item = usize>) {
+        for thread in threads {
+            let at = match self.rule {
+                Rule::StepsInGroup => thread,
+                _ => self.launch_number(thread),
+            };
+            self.steps[at] += 1;
+        }
+    }
+
+    fn launch_number(&self, thread: usize) -> usize {
+        self.group * self.launch.threads + thread
     }
 
     fn truth(&self, a: u8) -> BTreeSet<usize> {
@@ -179,119 +291,289 @@ impl Threads {
         self.enabled.iter().copied().filter(is_true).collect()
     }
 
-    /// An access row: who acted and where, by which words, and how it stops if it
-    /// does.
-    fn access(&mut self, row: [u8; 4]) -> Acted {
-        let [code, d, a, _] = row.map(usize::from);
-        let (mut used, mut words) = (vec![], vec![]);
+    /// Runs a group to its end and gives the verdict.
+    fn run_group(&mut self, see: &mut impl FnMut(Access)) -> &'static str {
+        let mut flow = Flow::default();
+        let mut row = 0;
+        loop {
+            if row == self.launch.rows.len() {
+                return "passed";
+            }
+            if self.spent() {
+                self.stop.row = Some(row);
+                return "spent";
+            }
+            let done = match self.do_row(row, &mut flow, see) {
+                Ok(done) => done,
+                Err(verdict) => return verdict,
+            };
+            self.rows += 1;
+            row = done.next;
+            let last = self.records.last_mut().unwrap();
+            last[1] += 1;
+            last[2] += done.paid;
+            if done.released {
+                self.release(row);
+            }
+        }
+    }
+
+    /// One row, or the verdict where it stops the run.
+    fn do_row(
+        &mut self,
+        row: usize,
+        flow: &mut Flow,
+        see: &mut impl FnMut(Access),
+    ) -> Result<Done, &'static str> {
+        let mut done = Done {
+            next: row + 1,
+            paid: 0,
+            released: false,
+        };
+        let present = self.enabled.len();
+        match self.launch.rows[row] {
+            access @ [op::LOAD..=op::ATOMIC_ADD | op::GLOBAL_LOAD..=op::GLOBAL_ADD, ..] => {
+                let (seen, stop) = self.access(row, access);
+                if !seen.global || self.rule == Rule::GlobalBanked {
+                    done.paid = cost(&seen.cells());
+                }
+                self.step(seen.used.iter().map(|&(thread, _)| thread));
+                see(seen);
+                stop.map_or(Ok(()), Err)?;
+            }
+            [op::BARRIER, ..] if present == 0 => {}
+            [op::BARRIER, ..] if present == self.launch.threads => done.released = true,
+            [op::BARRIER, ..] => {
+                self.diverge(row);
+                return Err("diverged");
+            }
+            [op::IF..=op::ENDWHILE, ..] => done.next = self.construct(row, flow),
+            plain => {
+                self.plain(plain);
+                self.step(self.enabled.clone());
+            }
+        }
+        Ok(done)
+    }
+
+    /// A row of a construct; gives the row due then.
+    fn construct(&mut self, row: usize, flow: &mut Flow) -> usize {
+        let stepping = self.enabled.clone();
+        let from_end = std::mem::take(&mut flow.from_end);
+        let open = &mut flow.open;
+        let mut next = row + 1;
+        match self.launch.rows[row] {
+            [op::IF, _, a, _] => {
+                self.enabled = self.truth(a);
+                open.push((stepping.clone(), self.enabled.clone(), row));
+            }
+            [op::ELSE, ..] => {
+                let (all, then, _) = open.last().unwrap();
+                self.enabled = all.difference(then).copied().collect();
+            }
+            [op::ENDIF, ..] => {
+                self.enabled = open.pop().unwrap().0;
+                self.step(self.enabled.clone());
+                return next;
+            }
+            [op::WHILE, _, a, _] => {
+                if !from_end {
+                    open.push((stepping.clone(), BTreeSet::new(), row));
+                }
+                self.enabled = self.truth(a);
+                if self.enabled.is_empty() {
+                    self.enabled = open.pop().unwrap().0;
+                    next = behind(self.launch.rows, row);
+                }
+            }
+            _ => {
+                next = open.last().unwrap().2;
+                flow.from_end = true;
+            }
+        }
+        self.step(stepping);
+        next
+    }
+
+    fn diverge(&mut self, row: usize) {
+        let absent = (0..self.launch.threads).find(|thread| !self.enabled.contains(thread));
+        self.stop = Stop {
+            row: Some(row),
+            thread: self.enabled.first().map(|&thread| self.shown(thread)),
+            other: absent,
+            ..Stop::default()
+        };
+    }
+
+    /// A thread's number as the report has it.
+    fn shown(&self, thread: usize) -> usize {
+        match self.rule {
+            Rule::ThreadByLaunch => self.launch_number(thread),
+            _ => thread,
+        }
+    }
+
+    /// An access row, and how it stops if it does.
+    fn access(&mut self, row: usize, bytes: [u8; 4]) -> (Access, Option<&'static str>) {
+        let [code, d, a, _] = bytes;
+        let global = code >= op::GLOBAL_LOAD;
+        let code = if global { code - 4 } else { code };
+        let mut seen = Access {
+            row,
+            group: self.group,
+            global,
+            used: vec![],
+            words: vec![],
+            finished: false,
+            interval: self.barriers as usize,
+        };
         for t in self.enabled.clone() {
-            let word = self.registers[t][a];
-            let at = if code == usize::from(op::LOAD) {
-                word
-            } else {
-                self.registers[t][d]
-            } as usize;
-            if at >= self.cells.len() {
-                return (used, words, Some("outside"));
+            let word = self.registers[t][a as usize];
+            let at = match code {
+                op::LOAD => word,
+                _ => self.registers[t][d as usize],
+            };
+            if let Some((verdict, stop)) = self.one_access(global, code, (t, at, word), d) {
+                let (row, thread) = (Some(row), Some(self.shown(t)));
+                self.stop = Stop {
+                    row,
+                    thread,
+                    at: Some(at),
+                    ..stop
+                };
+                return (seen, Some(verdict));
             }
-            if let Some((other, kind)) = self.conflict(row[0], t, at, word) {
-                self.race = Some((t, other, kind, at));
-                self.refuse(row[0], at, word);
-                return (used, words, Some("race"));
-            }
-            match row[0] {
-                op::LOAD => {
-                    self.readers[at].insert(t);
-                    self.registers[t][d] = self.cells[at];
-                }
-                op::STORE => {
-                    if self.rule == Rule::OneWriter {
-                        self.writers[at].clear();
-                    }
-                    self.writers[at].insert(t);
-                    self.stores[at].values.push(word);
-                    self.cells[at] = word;
-                }
-                _ => {
-                    self.adders[at].insert(t);
-                    self.cells[at] = self.cells[at].wrapping_add(word);
-                }
-            }
-            used.push((t, at));
-            words.push(if row[0] == op::LOAD {
-                self.cells[at]
-            } else {
-                word
+            seen.used.push((t, at as usize));
+            seen.words.push(match code {
+                op::LOAD => self.registers[t][d as usize],
+                _ => word,
             });
         }
-        (used, words, None)
+        seen.finished = true;
+        (seen, None)
     }
 
-    /// The lowest thread with which an access conflicts, and the kind.
-    fn conflict(&self, code: u8, t: usize, at: usize, word: u32) -> Option<(usize, String)> {
-        let others = |them: &BTreeSet<usize>| -> BTreeSet<usize> {
-            them.iter().copied().filter(|&other| other != t).collect()
+    /// One thread's access: the thread, the cell's number, and Ra. Gives how it
+    /// stops the run, if it does.
+    fn one_access(
+        &mut self,
+        global: bool,
+        code: u8,
+        (t, at, word): (usize, u32, u32),
+        d: u8,
+    ) -> Option<(&'static str, Stop)> {
+        let cell = at as usize;
+        if cell >= self.bound(global) {
+            return Some(("outside", Stop::default()));
+        }
+        let there = if global {
+            self.global.words.len()
+        } else {
+            self.own_cells().words.len()
         };
-        let (read, added) = (others(&self.readers[at]), others(&self.adders[at]));
-        let (wrote, stores) = (others(&self.writers[at]), &self.stores[at]);
-        let mut met = wrote.clone();
-        let let_through = match code {
-            op::STORE => {
-                let first = self.writers[at].first() == Some(&t);
-                let apart = self.rule == Rule::FirstThreadOnly && !first;
-                !apart && !stores.meet(self.rule, word, self.cells[at])
+        if cell >= there {
+            return None; // only by mistake
+        }
+        if let Some(stop) = self.conflict(global, code, (t, cell, word)) {
+            let rule = self.rule;
+            let cells = if global {
+                &mut self.global
+            } else {
+                self.own_cells()
+            };
+            cells.refuse(rule, code, cell, word);
+            if global && rule == Rule::RefusedEnters {
+                self.uses
+                    .enter(self.group, self.own_barriers, code, cell, word);
             }
-            op::LOAD => self.rule == Rule::LoadLetThrough && !stores.marked(self.rule),
-            _ => self.rule == Rule::AddLetThrough && !stores.marked(self.rule),
+            return Some(("race", stop));
+        }
+        if global {
+            self.uses
+                .enter(self.group, self.own_barriers, code, cell, word);
+        }
+        let rule = self.rule;
+        let cells = if global {
+            &mut self.global
+        } else {
+            self.own_cells()
         };
-        if let_through {
-            met.clear();
+        cells.act(rule, code, t, cell, word);
+        if code == op::LOAD {
+            self.registers[t][d as usize] = cells.words[cell];
         }
-        if let_through && self.rule == Rule::BesidesLetThrough && !wrote.is_empty() {
-            return None;
-        }
-        let (shown, mine): (Vec<(char, &BTreeSet<usize>)>, char) = match code {
-            op::LOAD => (vec![('w', &met), ('a', &added)], 'r'),
-            op::STORE => (vec![('w', &met), ('a', &added), ('r', &read)], 'w'),
-            _ => (vec![('w', &met), ('r', &read)], 'a'),
-        };
-        let other = *shown.iter().filter_map(|(_, them)| them.first()).min()?;
-        let (mut letter, _) = *shown.iter().find(|(_, them)| them.contains(&other))?;
-        if self.rule == Rule::ShownAsStore && wrote.contains(&other) {
-            letter = 'w';
-        }
-        Some((other, format!("{letter}{mine}")))
+        None
     }
 
-    /// A store that is refused sets nothing, unless by mistake.
-    fn refuse(&mut self, code: u8, at: usize, word: u32) {
-        let stores = &mut self.stores[at].values;
+    /// Numbers of cells are below this.
+    fn bound(&mut self, global: bool) -> usize {
+        let (all, groups) = (self.launch.cells.len(), self.launch.groups);
         match self.rule {
-            Rule::RefusedIsFirst if code == op::STORE => *stores = vec![word],
-            Rule::RefusedMarks if code == op::STORE => stores.push(word),
-            _ => {}
+            Rule::GlobalByOwnCount if global => all / groups,
+            Rule::OwnByGlobalCount if !global => self.global.words.len(),
+            Rule::OwnByAllGroups if !global => all,
+            _ if global => self.global.words.len(),
+            _ => all / groups,
         }
     }
 
-    /// All reader masks, writer masks, adder masks, first values and marks.
-    fn log(&self) -> Vec<u32> {
-        let mask = |them: &BTreeSet<usize>| them.iter().fold(0, |mask, &t| mask | 1 << t);
-        let masks = [&self.readers, &self.writers, &self.adders];
-        let firsts = self.stores.iter().map(|stores| stores.first(self.rule));
-        let marks = (self.stores.iter()).map(|stores| u32::from(stores.marked(self.rule)));
-        let masks = masks.into_iter().flatten().map(mask);
-        masks.chain(firsts).chain(marks).collect()
+    /// What an access conflicts with: in the own group first, then in others.
+    fn conflict(
+        &mut self,
+        global: bool,
+        code: u8,
+        (t, cell, word): (usize, usize, u32),
+    ) -> Option<Stop> {
+        let rule = match self.rule {
+            Rule::EqualGlobalRefused if global => Rule::EqualRefused,
+            rule => rule,
+        };
+        let group = self.group;
+        let cells = if global {
+            &self.global
+        } else {
+            self.own_cells()
+        };
+        let inside = cells
+            .conflict(rule, code, t, cell, word)
+            .map(|(other, kind)| Stop {
+                other_group: Some(group),
+                other: Some(other),
+                kind: Some(kind),
+                ..Stop::default()
+            });
+        if !global {
+            return inside;
+        }
+        let acting = (group, self.own_barriers, code);
+        let across = self.uses.conflict(rule, acting, cell, word);
+        let across = across.map(|(other_group, kind)| Stop {
+            other_group: Some(other_group),
+            other: (rule == Rule::OtherAcross).then_some(0),
+            kind: Some(kind),
+            ..Stop::default()
+        });
+        match rule {
+            Rule::OthersFirst => across.or(inside),
+            _ => inside.or(across),
+        }
     }
 
     fn plain(&mut self, [code, d, a, b]: [u8; 4]) {
-        let count = self.registers.len() as u32;
-        for &t in &self.enabled {
+        let threads = self.launch.threads as u32;
+        for t in self.enabled.clone() {
+            let (number, launch_number) = (t as u32, self.launch_number(t) as u32);
+            let rule = self.rule;
             let words = &mut self.registers[t];
             let (x, y) = (words[a as usize % 16], words[b as usize % 16]);
             words[d as usize] = match code {
                 op::SET => u32::from(a) + 256 * u32::from(b),
-                op::TID => t as u32,
-                op::COUNT => count,
+                op::TID if rule == Rule::TidIsLaunchNumber => launch_number,
+                op::LAUNCH_NUMBER if rule == Rule::LaunchNumberIsTid => number,
+                op::TID => number,
+                op::LAUNCH_NUMBER => launch_number,
+                op::COUNT if rule == Rule::CountOfAll => threads * self.launch.groups as u32,
+                op::COUNT => threads,
                 op::ADD => x.wrapping_add(y),
                 op::SUB => x.wrapping_sub(y),
                 op::MUL => x.wrapping_mul(y),
@@ -307,19 +589,50 @@ impl Threads {
         }
     }
 
-    fn forget(&mut self) {
-        for log in [&mut self.readers, &mut self.writers, &mut self.adders] {
-            log.iter_mut().for_each(BTreeSet::clear);
+    fn told(self, verdict: &'static str) -> Told {
+        let log = self.log();
+        let words = |cells: &Cells| cells.words.clone();
+        Told {
+            verdict,
+            stop: self.stop,
+            rows: self.rows,
+            barriers: self.barriers,
+            steps: self.steps,
+            records: self.records,
+            cells: self.own.iter().flat_map(words).collect(),
+            global: self.global.words,
+            log,
         }
-        self.stores.iter_mut().for_each(Stores::forget);
     }
-}
 
-/// The largest number of different cells in one bank, less one.
-pub fn cost(used: &BTreeSet<usize>) -> u32 {
-    let in_bank = |bank| used.iter().filter(|&cell| cell % 16 == bank).count() as u32;
-    let most = (0..16).map(in_bank).max().unwrap_or(0);
-    most.max(1) - 1
+    /// The eight kinds, each with the own cells of all groups and then the
+    /// global ones.
+    fn log(&self) -> Vec<u32> {
+        let own: Vec<[Vec<u32>; 5]> = self.own.iter().map(|cells| cells.log(self.rule)).collect();
+        let global = self.global.log(self.rule);
+        let masks = self.uses.masks();
+        let mut own_words: Vec<Vec<u32>> = (0..5)
+            .map(|kind| own.iter().flat_map(|log| log[kind].clone()).collect())
+            .collect();
+        for kind in 0..3 {
+            let group_masks = match self.rule {
+                Rule::OwnGroupMasks => own_words[kind].iter().map(|&m| u32::from(m != 0)).collect(),
+                _ => vec![0; self.launch.cells.len()],
+            };
+            own_words.push(group_masks);
+        }
+        let global_words = global.into_iter().chain(masks);
+        if self.rule == Rule::LogOwnFirst {
+            return own_words
+                .into_iter()
+                .chain(global_words)
+                .flatten()
+                .collect();
+        }
+        let both = own_words.into_iter().zip(global_words);
+        both.flat_map(|(own, global)| [own, global].concat())
+            .collect()
+    }
 }
 
 /// The row after a construct's end, from a row inside it.
@@ -335,111 +648,4 @@ fn behind(rows: &[[u8; 4]], from: usize) -> usize {
         };
     }
     row + 1
-}
-
-/// A run of a launch that isn't refused. `see` is shown each access row.
-pub fn slow_run(
-    rows: &[[u8; 4]],
-    threads: usize,
-    limit: u32,
-    cells: &[u32],
-    see: impl FnMut(Access),
-) -> Told {
-    run_by(Rule::Right, rows, threads, limit, cells, see)
-}
-
-/// As [`slow_run`], with a mistake.
-pub fn run_by(
-    rule: Rule,
-    rows: &[[u8; 4]],
-    threads: usize,
-    limit: u32,
-    cells: &[u32],
-    mut see: impl FnMut(Access),
-) -> Told {
-    let mut group = Threads::new(rule, threads, cells);
-    let mut records = vec![[0, 0, 0]];
-    // Saved masks, those of an IF with what it enabled, of a WHILE with its row.
-    let mut open: Vec<(BTreeSet<usize>, BTreeSet<usize>, usize)> = vec![];
-    let (mut row, mut run, mut barriers, mut from_end) = (0, 0, 0, false);
-    let verdict = loop {
-        if row == rows.len() {
-            break "passed";
-        }
-        if run == limit {
-            break "spent";
-        }
-        let (mut next, mut paid, mut released) = (row + 1, 0, false);
-        match rows[row] {
-            access @ [op::LOAD | op::STORE | op::ATOMIC_ADD, ..] => {
-                let (used, words, stop) = group.access(access);
-                let seen = Access {
-                    row,
-                    used,
-                    words,
-                    finished: stop.is_none(),
-                    interval: barriers as usize,
-                };
-                paid = cost(&seen.cells());
-                see(seen);
-                if let Some(verdict) = stop {
-                    break verdict;
-                }
-            }
-            [op::IF, _, a, _] => {
-                let then = group.truth(a);
-                open.push((group.enabled.clone(), then.clone(), row));
-                group.enabled = then;
-            }
-            [op::ELSE, ..] => {
-                let (all, then, _) = open.last().unwrap();
-                group.enabled = all.difference(then).copied().collect();
-            }
-            [op::ENDIF, ..] => group.enabled = open.pop().unwrap().0,
-            [op::WHILE, _, a, _] => {
-                if !from_end {
-                    open.push((group.enabled.clone(), BTreeSet::new(), row));
-                }
-                from_end = false;
-                group.enabled = group.truth(a);
-                if group.enabled.is_empty() {
-                    group.enabled = open.pop().unwrap().0;
-                    next = behind(rows, row);
-                }
-            }
-            [op::ENDWHILE, ..] => {
-                next = open.last().unwrap().2;
-                from_end = true;
-            }
-            [op::BARRIER, ..] => {
-                if group.enabled.len() == threads {
-                    released = true;
-                } else if !group.enabled.is_empty() {
-                    break "diverged";
-                }
-            }
-            plain => group.plain(plain),
-        }
-        run += 1;
-        row = next;
-        let last = records.last_mut().unwrap();
-        last[1] += 1;
-        last[2] += paid;
-        if released {
-            barriers += 1;
-            group.forget();
-            if records.len() < INTERVAL_RECORDS {
-                records.push([row as u32, 0, 0]);
-            }
-        }
-    };
-    Told {
-        verdict,
-        rows: run,
-        barriers,
-        records,
-        log: group.log(),
-        race: group.race,
-        cells: group.cells,
-    }
 }
