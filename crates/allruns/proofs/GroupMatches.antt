@@ -249,12 +249,3 @@ none-met groups k i g x l j =
   where
     none : (h : ℕ) (m : Mode) → (not (agree false m (mode x)) && has (getD (groupMasksOf (emptyGroupLog groups k) m) i []) h) ≡ false
     none h m = ap (λ b. not (agree false m (mode x)) && b) (none-in groups k m i h l) ∙ and-false (not (agree false m (mode x)))
-
-pub groups-empty : (L : Shape) (k : ℕ) → L .group < L .groups → GroupMatches L k emptyRecord (λ a. false) (emptyGroupLog (L .groups) k)
-unfolding emptyRecord holds anyOf
-groups-empty L k g =
-    record {
-      sized = empty-groups-sized (L .groups) k;
-      own = λ m i l r. none-in (L .groups) k m i (L .group) l ∙ sym (below-none (L .threads) (λ t. false) .1 (λ t j. refl));
-      others = λ i x l. sym (ap (λ b. isGlobal L i && b) (none-met (L .groups) k i (L .group) x l g) ∙ and-false (isGlobal L i));
-    }

@@ -8,13 +8,11 @@ use native.Mathlib.Omega.{arith}
 use lib.Dec.{leb}
 use borrow.Author.Tests.{leb-true, leb-false, le-leb}
 use lib.ListN.{getD-replicate, length, getD, replicate, length-replicate, List·getD-eq-default}
-use Rattle.spec.specs.GroupLog.{emptyGroupLog}
 use Rattle.spec.specs.Limits.{registers}
-use Rattle.spec.specs.Log.{emptyLog}
-use Rattle.spec.specs.LockStep.{LockResult, LockState, Step, continues, countedAfter, countedFrom, initialState, resultOf, runFrom, runRow, stops}
+use Rattle.spec.specs.LockStep.{LockResult, LockState, Step, continues, countedAfter, countedFrom, resultOf, runFrom, runRow, stops}
 use Rattle.spec.specs.Mask.{has}
 use Rattle.spec.specs.Runs.{Run, after, many, shownTo}
-use Rattle.spec.specs.Shape.{Shape, Sizes, oneGroup, reaches, shapeOf, total}
+use Rattle.spec.specs.Shape.{Shape, reaches, total}
 use Rattle.spec.specs.Table.{Table, WellFormed, noRow, openBefore, rowAt}
 use Rattle.spec.specs.Threads.{Group, Move, atEnd, emptyRecord, initialThreads, machine, noThread, released, row}
 use Rattle.spec.specs.declared.Verdict.{Verdict}
@@ -22,8 +20,8 @@ use Rattle.spec.specs.declared.Verdict.the-variants.{Diverged, GroupRace, Outsi
 use Rattle.allruns.proofs.Counts.{passedAt, counted-is}
 use Rattle.allruns.proofs.Descent.{many-append, run-append, after-append, seen-append}
 use Rattle.allruns.proofs.LogMatches.{BlankAt, LogMatches, LogSized}
-use Rattle.allruns.proofs.LogRecord.{empty-blank, empty-sized, log-blank}
-use Rattle.allruns.proofs.GroupMatches.{GroupMatches, groups-empty}
+use Rattle.allruns.proofs.LogRecord.{log-blank}
+use Rattle.allruns.proofs.GroupMatches.{GroupMatches}
 use Rattle.allruns.proofs.Bools.{and-make}
 use Rattle.allruns.proofs.Blocked.{Blocked}
 use Rattle.allruns.proofs.BarrierRow.{row-done, every-make}
@@ -221,30 +219,3 @@ group-sim T w L s g h =
 
     spot : (t : ℕ) → place T (s .row) (s .enabled) [] t ≡ record { row = 0; loops = replicate (length T) 0 }
     spot t = unfold place loopsOf in (ap (λ r. record { row = r; loops = replicate (length T) 0 }) (h .first))
-
--- Group 0, before anyone has moved: nothing is barred to it.
-unfoldable pub firstGroup : Table → Shape → (cells : List ℕ) → Group
-firstGroup T L cells =
-    record { threads = initialThreads T (L .threads); cells = cells; made = emptyRecord; ever = emptyRecord; barred = λ a. false; bad = false }
-
-pub first-sim : (T : Table) → WellFormed T → (Z : Sizes) (cells : List ℕ) → 0 < Z .groups → length cells ≡ total (shapeOf Z 0)
-    → Sim T (shapeOf Z 0) (initialState Z cells) [] (firstGroup T (shapeOf Z 0) cells)
-unfolding initialState firstGroup
-first-sim T w Z cells g e =
-    group-sim T w (shapeOf Z 0) (initialState Z cells) (firstGroup T (shapeOf Z 0) cells)
-    (record {
-      numbered = g;
-      first = refl;
-      enabled = refl;
-      saved = refl;
-      regs = refl;
-      threads = refl;
-      cells = refl;
-      celled = e;
-      made = refl;
-      good = refl;
-      sized = subst (λ k. LogSized (Z .threads) k (emptyLog (Z .threads) (length cells))) e (empty-sized (Z .threads) (length cells));
-      blank = λ i l r. empty-blank (Z .threads) (length cells) i (omega (arith, e, l));
-      groups = subst (λ k. GroupMatches (shapeOf Z 0) k emptyRecord (λ a. false) (emptyGroupLog (Z .groups) (length cells))) e
-          (groups-empty (shapeOf Z 0) (length cells) g);
-    })
