@@ -3,13 +3,14 @@ use mathlib.Core.Path.{_≡_, refl, sym, _∙_, ap, ap₂, subst, subst₂}
 use mathlib.Core.Logic.{_⊎_, inl, inr}
 use mathlib.Core.List.{List, []}
 use mathlib.Core.Bool.{Bool, true, false, cond, not, and-false}
-use Prim.Native.Nat.{ℕ, _+_, _-_, _*_, _^_, _<_, _≤_}
+use Prim.Native.Nat.{ℕ, zero, suc, _+_, _-_, _*_, _/_, _%_, _^_, _<_, _≤_}
 use native.Mathlib.Omega.{arith}
 use native.Mathlib.Decide.{ℕ-discrete}
 use borrow.Author.Tests.{eq-eqb, ne-eqb}
-use lib.Bits.{bitAnd, bitOr, or-zero-l, or-zero-r, or-self}
+use lib.Bits.{bitAnd, bitOr, or-zero-l, or-zero-r, or-add-and, and-high}
 use lib.Dec.{eqb}
 use lib.ListN.{length, getD, set}
+use lib.Pow.{pow-add}
 use lib.Seq.{set-getD, getD-set-other}
 use Rattle.spec.specs.declared.AccessKind.the-variants.{ReadWrite, WriteRead, WriteWrite, ReadAdd, AddRead, WriteAdd, AddWrite}
 use Rattle.spec.specs.Access.{Kind, load, store, atomicAdd, Mode, reads, writes, adds, mode, agree}
@@ -73,6 +74,21 @@ module _ (op k i : ℕ) where
       by writes e = (omega (arith, A .inside, A .sized), omega (arith, A .inside, A .few))
       by adds e = (omega (arith, A .inside, A .sized), omega (arith, A .inside, A .few))
 
+-- A word that has a bit is the same with it.
+pub bit-among : (w t : ℕ) → (bitAnd w (2 ^ t) ≡ 0 → ⊥) → bitOr w (2 ^ t) ≡ w
+bit-among w t f = let e = or-add-and w (2 ^ t) in let b = by (w / 2 ^ t % 2) (omega arith) digit in omega (arith, e, b)
+  where
+    bit-alone : 2 ^ (1 + t) - 2 ^ t ≡ 2 ^ t
+    bit-alone = let e : 2 ^ (1 + t) ≡ 2 * 2 ^ t = pow-add 2 1 t in omega (arith, e)
+
+    digit : bitAnd w (2 ^ t) ≡ (w / 2 ^ t % 2) * 2 ^ t
+    digit = ap (bitAnd w) (sym bit-alone) ∙ and-high w 1 t
+
+    by : (m : ℕ) → m < 2 → bitAnd w (2 ^ t) ≡ m * 2 ^ t → bitAnd w (2 ^ t) ≡ 2 ^ t
+    by zero l e = absurd (f (omega (arith, e)))
+    by (suc zero) l e = omega (arith, e)
+    by (suc (suc m)) l e = omega (arith, l)
+
 -- The words, where the code multiplies by no 0 and no 1, and a store's value among them.
 module _ (k i : ℕ) (log : List ℕ) where
   pub word-reads : wordOf (rank reads) k i log ≡ getD log i 0
@@ -110,22 +126,37 @@ module _ (k i : ℕ) (log : List ℕ) where
       by false true = refl
       by false false = getD-set-other log (4 * k + i) (1 * k + i) 1 0 (λ z. omega arith)
 
-  -- A store by a thread that is alone among the writers, and any other.
-  pub stored-alone : (bit v : ℕ) → i < k → 0 < bit → getD log (k + i) 0 ≡ bit → markEntered v k i log ≡ enteredWords 17 v k i bit log
+  -- A store by a thread that is among the writers already, the first one to a cell, and any later one.
+  pub stored-among : (bit v : ℕ) → i < k → 0 < getD log (k + i) 0 → bitOr (getD log (k + i) 0) bit ≡ getD log (k + i) 0
+      → markEntered v k i log ≡ enteredWords 17 v k i bit log
   unfolding enteredWords maskEntered modeOf
-  stored-alone bit v h p e =
-      value-later bit v (sym (word-writes ∙ e)) (λ z. omega (arith, z))
-      ∙ sym (ap (set after (placeOf (rank writes) k i)) (ap (λ (z : ℕ). bitOr z bit) (writers-stay v h ∙ word-writes ∙ e) ∙ or-self bit ∙ sym (writers-stay v h ∙ word-writes ∙ e))
+  stored-among bit v h p e =
+      value-later (getD log (k + i) 0) v (sym word-writes) (λ z. omega (arith, z, p))
+      ∙ sym (ap (set after (placeOf (rank writes) k i)) (ap (λ (z : ℕ). bitOr z bit) stay ∙ e ∙ sym stay)
       ∙ unfold wordOf in (set-getD after (placeOf (rank writes) k i) 0))
     where
       after : List ℕ
       after = valueEntered v k i log
 
-  pub stored-beside : (bit v : ℕ) → i < k → set (valueEntered v k i log) (k + i) (bitOr (getD log (k + i) 0) bit) ≡ enteredWords 17 v k i bit log
+      stay : wordOf (rank writes) k i after ≡ getD log (k + i) 0
+      stay = writers-stay v h ∙ word-writes
+
+  stored-beside : (bit v : ℕ) → i < k → set (valueEntered v k i log) (k + i) (bitOr (getD log (k + i) 0) bit) ≡ enteredWords 17 v k i bit log
   unfolding enteredWords maskEntered modeOf
   stored-beside bit v h =
       ap₂ (λ (y z : ℕ). set (valueEntered v k i log) y (bitOr z bit)) (unfold placeOf rank in (let e : k + i ≡ 1 * k + i = omega arith in e))
       (sym (writers-stay v h ∙ word-writes))
+
+  pub stored-first : (bit v : ℕ) → i < k → getD log (k + i) 0 ≡ 0 → set (set log (3 * k + i) v) (k + i) bit ≡ enteredWords 17 v k i bit log
+  stored-first bit v h e =
+      ap₂ (λ l (z : ℕ). set l (k + i) z) (value-first 0 v (sym (word-writes ∙ e)) refl) (sym (ap (λ (z : ℕ). bitOr z bit) e ∙ or-zero-l bit))
+      ∙ stored-beside bit v h
+
+  pub stored-later : (bit v : ℕ) → i < k → 0 < getD log (k + i) 0
+      → set (markEntered v k i log) (k + i) (bitOr (getD log (k + i) 0) bit) ≡ enteredWords 17 v k i bit log
+  stored-later bit v h p =
+      ap (λ l. set l (k + i) (bitOr (getD log (k + i) 0) bit)) (value-later (getD log (k + i) 0) v (sym word-writes) (λ z. omega (arith, z, p)))
+      ∙ stored-beside bit v h
 
 -- What an access meets beside the writers.
 module _ (op k i : ℕ) (log : List ℕ) where

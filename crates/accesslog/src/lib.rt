@@ -2,14 +2,14 @@
 // test, the log's reading and writing, and the walk that clears it.
 ghost use mathlib.Core.Path.{_≡_};
 ghost use mathlib.Core.Bool.{not};
-ghost use Prim.Native.Nat.{_*_, _<_, _≤_};
+ghost use Prim.Native.Nat.{_+_, _*_, _<_, _≤_};
 ghost use lib.Bits.{bitOr};
 ghost use lib.Dec.{eqb};
-ghost use lib.ListN.{length, replicate};
+ghost use lib.ListN.{length, replicate, getD};
 ghost use Rattle.spec.specs.Limits.{logPerCell};
 ghost use Rattle.spec.specs.Log.{cellCleared, cellsCleared, shownKind};
 ghost use Rattle.spec.specs.Access.{writes};
-ghost use Rattle.layout.specs.Logging.{LogAsks, modeOf, rank, placeOf, conflictingWord, testedWord, besideWriters, kindWord, wordOf, markEntered, valueEntered, enteredWords};
+ghost use Rattle.layout.specs.Logging.{LogAsks, OneBit, modeOf, rank, placeOf, conflictingWord, testedWord, besideWriters, kindWord, markEntered, enteredWords};
 
 // The writers of cell i that an access by op conflicts with: none where it stores v, as all stores to the cell did.
 fn writers_met(log: &[u32], cells: usize, i: usize, v: u32, op: u8) -> u32
@@ -116,21 +116,20 @@ fn enter_mark(log: &mut [u32], cells: usize, i: usize, v: u32)
     log[4 * cells + i] = 1;
 }
 
-// A store of v to a cell with the writers w: the first leaves its value.
-fn enter_value(log: &mut [u32], cells: usize, i: usize, w: u32, v: u32)
-    requires { ⌜ LogAsks 17 cells i (now log) × (w ≡ wordOf (rank writes) cells i (now log)) ⌝ }
-    ensures { λ _. ⌜ now (log .exit) ≡ valueEntered v cells i (now (log .entry)) ⌝ }
+// A store of v by the thread of this bit to a cell that has been stored to. A thread that is among the writers already is not put there again.
+fn enter_later_store(log: &mut [u32], cells: usize, i: usize, bit: u32, w: u32, v: u32)
+    requires { ⌜ LogAsks 17 cells i (now log) × OneBit bit × (w ≡ getD (now log) (cells + i) 0) × (0 < w) ⌝ }
+    ensures { λ _. ⌜ now (log .exit) ≡ enteredWords 17 v cells i bit (now (log .entry)) ⌝ }
 {
-    if w == 0 {
-        log[3 * cells + i] = v;
-        return;
-    }
     enter_mark(log, cells, i, v);
+    if w & bit == 0 {
+        log[cells + i] = w | bit;
+    }
 }
 
-// A store of v by the thread of this bit. Where it alone has stored to the cell, the writers stay as they are.
+// A store of v by the thread of this bit: the first to a cell leaves its value. Where the thread alone has stored there, the writers stay as they are.
 fn enter_store(log: &mut [u32], cells: usize, i: usize, bit: u32, v: u32)
-    requires { ⌜ LogAsks 17 cells i (now log) × (0 < bit) ⌝ }
+    requires { ⌜ LogAsks 17 cells i (now log) × OneBit bit ⌝ }
     ensures { λ _. ⌜ now (log .exit) ≡ enteredWords 17 v cells i bit (now (log .entry)) ⌝ }
 {
     let w = log[cells + i];
@@ -138,13 +137,17 @@ fn enter_store(log: &mut [u32], cells: usize, i: usize, bit: u32, v: u32)
         enter_mark(log, cells, i, v);
         return;
     }
-    enter_value(log, cells, i, w, v);
-    log[cells + i] = w | bit;
+    if w == 0 {
+        log[3 * cells + i] = v;
+        log[cells + i] = bit;
+        return;
+    }
+    enter_later_store(log, cells, i, bit, w, v);
 }
 
 // The thread of this bit enters the mask of cell i, and of a STORE the value v.
 pub fn enter(log: &mut [u32], cells: usize, i: usize, bit: u32, v: u32, op: u8)
-    requires { ⌜ LogAsks op cells i (now log) × (0 < bit) ⌝ }
+    requires { ⌜ LogAsks op cells i (now log) × OneBit bit ⌝ }
     ensures { λ _. ⌜ now (log .exit) ≡ enteredWords op v cells i bit (now (log .entry)) ⌝ }
 {
     if op == 17 {

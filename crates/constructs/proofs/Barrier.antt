@@ -91,7 +91,7 @@ module _ (n : ℕ) (z : LockState) (s : State) (regs cells log saved openers : L
       let first : trailingZeros 32 (s .mask) ≡ lowest (z .enabled) = ap (trailingZeros 32) (R .enabled-is) ∙ lowest-is (z .enabled) 32 few yes-any in
       let other : trailingZeros 32 (bitAnd (2 ^ n - 1) (4294967295 - s .mask)) ≡ lowest (map not (z .enabled)) = ap (trailingZeros 32) others
       ∙ lowest-is (map not (z .enabled)) 32 (omega (arith, rest-size (z .enabled))) (rest-any (z .enabled) part) in
-      rw (yes-any, part) (s, ap₂ (λ x y. next.Stop (Diverged x y) s) first other, R)
+      rw (yes-any, part) (s, ap₂ (λ x y. next.Stop s (Diverged x y)) first other, R)
 
   pub barrier-means : 1 ≤ n → After n (barrierRow (shapeBy n cells) z) (barrierNext n s) regs cells (barrierLog n s (length cells) log) saved openers
   unfolding barrierNext barrierLog

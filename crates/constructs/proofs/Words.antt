@@ -75,8 +75,8 @@ module _ (n : ℕ) (s : State) (k : ℕ) (log : List ℕ) where
   barrier-none ne z er = rw (ne-eqb (s .mask) (2 ^ n - 1) ne, eq-eqb (s .mask) 0 z) (ap next.Go er, refl)
 
   pub barrier-some : (all t w o : ℕ) → (s .mask ≡ 2 ^ n - 1 → ⊥) → (s .mask ≡ 0 → ⊥) → all ≡ 2 ^ n - 1 → t ≡ trailingZeros 32 (s .mask)
-      → w ≡ bitAnd all (4294967295 - s .mask) → o ≡ trailingZeros 32 w → (next.Stop (Diverged t o) s ≡ barrierNext n s) × (log ≡ barrierLog n s k log)
+      → w ≡ bitAnd all (4294967295 - s .mask) → o ≡ trailingZeros 32 w → (next.Stop s (Diverged t o) ≡ barrierNext n s) × (log ≡ barrierLog n s k log)
   unfolding barrierNext barrierLog
   barrier-some all t w o ne nz ea et ew eo =
       rw (ne-eqb (s .mask) (2 ^ n - 1) ne, ne-eqb (s .mask) 0 nz)
-      (ap₂ (λ x y. next.Stop (Diverged x y) s) et (eo ∙ ap (trailingZeros 32) (ew ∙ ap (λ (x : ℕ). bitAnd x (4294967295 - s .mask)) ea)), refl)
+      (ap₂ (λ x y. next.Stop s (Diverged x y)) et (eo ∙ ap (trailingZeros 32) (ew ∙ ap (λ (x : ℕ). bitAnd x (4294967295 - s .mask)) ea)), refl)

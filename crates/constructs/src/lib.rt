@@ -207,7 +207,7 @@ pub fn barrier_row(log: &mut [u32], cells: usize, n: u32, s: layout::State) -> l
         return layout::Next::Go(moved(s));
     }
     layout::Next::Stop(
-        spec::Verdict::Diverged(masks::lowest(mask), masks::lowest(masks::minus(all, mask))),
         s,
+        spec::Verdict::Diverged(masks::lowest(mask), masks::lowest(masks::minus(all, mask))),
     )
 }

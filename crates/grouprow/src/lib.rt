@@ -18,7 +18,7 @@ fn after_access(c: layout::Access, s: layout::State) -> layout::Next
 {
     match c {
         layout::Access::Done => layout::Next::Go(constructs::moved(s)),
-        layout::Access::Stop(v) => layout::Next::Stop(v, s),
+        layout::Access::Stop(v) => layout::Next::Stop(s, v),
     }
 }
 
@@ -53,7 +53,7 @@ fn global_row(
     after_access(c, s)
 }
 
-// The op is told apart once, outside the loops over the threads; what most rows do comes first.
+// The op is told apart once, outside the loops over the threads; the shorter a row of an op is, the sooner it is told apart.
 pub fn group_row(
     table: &[u8],
     ends: &[u8; 256],
@@ -92,6 +92,12 @@ pub fn group_row(
     if op < 16 {
         return step::compute_row(regs, n, op, d, a, x.b, s);
     }
+    if 31 < op {
+        if op < 37 {
+            return step::construct_row(regs, saved, openers, counts, ends, op, a, s);
+        }
+        return step::barrier_row(log, shared, records, cells.len(), global.len(), n, group, s);
+    }
     if op < 19 {
         return step::access_row(
             regs,
@@ -108,14 +114,8 @@ pub fn group_row(
             s,
         );
     }
-    if op < 32 {
-        if op == 19 {
-            return launch_row(regs, n, group, d, s);
-        }
-        return global_row(regs, global, shared, masks, n, group, op, d, a, s);
+    if op == 19 {
+        return launch_row(regs, n, group, d, s);
     }
-    if op < 37 {
-        return step::construct_row(regs, saved, openers, counts, ends, op, a, s);
-    }
-    step::barrier_row(log, shared, records, cells.len(), global.len(), n, group, s)
+    global_row(regs, global, shared, masks, n, group, op, d, a, s)
 }

@@ -660,7 +660,7 @@ module _ (table ends : List ℕ) (n group limit : ℕ) (L : Shape) (o : LockResu
               }
 
       -- a row that stops
-      module _ (v : Verdict) (s′ : State) (e : r ≡ next.Stop v s′) where
+      module _ (v : Verdict) (s′ : State) (e : r ≡ next.Stop s′ v) where
         -- its number still fits
         go-stop-row : s′ .row ≤ 256
         go-stop-row = let q : s′ .row ≡ s .row = subst (Counts s) e (S .counts) in omega (arith, go-row)

@@ -110,7 +110,7 @@ pub fn run_group(
             layout::Next::Go(z) => {
                 s = z;
             }
-            layout::Next::Stop(v, z) => {
+            layout::Next::Stop(z, v) => {
                 stepcounts::stop(counts, v, z.mask);
                 return finish(counts, v, z);
             }

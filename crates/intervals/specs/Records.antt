@@ -51,7 +51,7 @@ unfoldable pub recordsAfter : (group cost : ℕ) → State → Next → List ℕ
 recordsAfter group cost s (next.Go r) records =
     let earlier = s .barriers + group in
     cond (ltb (s .barriers) (r .barriers)) (released earlier (r .row) (r .rows) records) (charged earlier cost records)
-recordsAfter group cost s (next.Stop v r) records = records
+recordsAfter group cost s (next.Stop r v) records = records
 
 -- Intervals whose first one has begun before: it has another start, and rows and a cost already.
 abbrev pub goesOn : (start rows cost : ℕ) → Intervals → Intervals

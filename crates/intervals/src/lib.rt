@@ -47,6 +47,10 @@ pub fn charge(records: &mut [u32], earlier: u32, cost: u32)
     requires { ⌜ (recordsLent ≤ length (now records)) × (getD (now records) (inUse earlier * 3 + 2) 0 + cost < 4294967296) ⌝ }
     ensures { λ _. ⌜ now (records .exit) ≡ charged earlier cost (now (records .entry)) ⌝ }
 {
+    // Most rows cost nothing.
+    if cost == 0 {
+        return;
+    }
     let p = in_use(earlier) * 3 + 2;
     records[p] = records[p] + cost;
 }

@@ -137,7 +137,8 @@ pub fn run_launch(
     let m = global.len();
     let mut own: [u32; 5120] = [0; 5120];
     let mut shared: [u32; 5120] = [0; 5120];
-    let mut masks: [u32; 3072] = [0; 3072];
+    // Two words more than are used: with them the arrays above and below lie at places of vectors in the run's frame.
+    let mut masks: [u32; 3074] = [0; 3074];
     let mut counts: [u32; 32] = [0; 32];
     let mut stamps: [u32; 1024] = [0; 1024];
     let mut memo: [u32; 544] = [0; 544];

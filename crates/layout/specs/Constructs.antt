@@ -91,7 +91,7 @@ passedState s =
     record { reach = 0; row = s .row + 1; mask = s .mask; depth = s .depth; rows = s .rows + 1; since = s .since; barriers = s .barriers + 1 }
 
 abbrev pub divergedNext : ℕ → State → Next
-divergedNext n s = next.Stop (Diverged (trailingZeros 32 (s .mask)) (trailingZeros 32 (bitAnd (2 ^ n - 1) (4294967295 - s .mask)))) s
+divergedNext n s = next.Stop s (Diverged (trailingZeros 32 (s .mask)) (trailingZeros 32 (bitAnd (2 ^ n - 1) (4294967295 - s .mask))))
 
 unfoldable pub barrierNext : ℕ → State → Next
 barrierNext n s = cond (eqb (s .mask) (2 ^ n - 1)) (next.Go (passedState s)) (cond (eqb (s .mask) 0) (next.Go (movedOn s)) (divergedNext n s))

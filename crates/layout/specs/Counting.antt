@@ -46,7 +46,7 @@ stepping op s r = cond (eqb op 37) 0 (cond (eqb op 34) (r .mask) (s .mask))
 -- One more step under the same mask; none where the row stopped.
 abbrev pub StepsOn : State → Next → Type 0
 StepsOn s (next.Go r) = (r .mask ≡ s .mask) × (r .since ≡ s .since + 1)
-StepsOn s (next.Stop v r) = (r .mask ≡ s .mask) × (r .since ≡ s .since)
+StepsOn s (next.Stop r v) = (r .mask ≡ s .mask) × (r .since ≡ s .since)
 
 -- Each of them has one step more after it. A row that stops leaves the counting to the run.
 pub record RowCounted (op : ℕ) (s r : State) (counts counts′ : List ℕ) : Type 0 where
@@ -55,7 +55,7 @@ pub record RowCounted (op : ℕ) (s r : State) (counts counts′ : List ℕ) : T
 
 abbrev pub NextCounted : (op : ℕ) → State → Next → (counts counts′ : List ℕ) → Type 0
 NextCounted op s (next.Go r) counts counts′ = RowCounted op s r counts counts′
-NextCounted op s (next.Stop v r) counts counts′ = (r .mask ≡ s .mask) × (r .since ≡ s .since) × (counts′ ≡ counts)
+NextCounted op s (next.Stop r v) counts counts′ = (r .mask ≡ s .mask) × (r .since ≡ s .since) × (counts′ ≡ counts)
 
 -- Those that have stepped in a row that stopped: the enabled threads below the one that stopped it; nobody at a BARRIER.
 unfoldable pub actedBefore : Verdict → (mask : ℕ) → ℕ

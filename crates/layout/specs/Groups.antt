@@ -25,12 +25,12 @@ abbrev pub GroupAfter : Shape → Step → Next → (regs cells log saved opener
 GroupAfter L (continues z) r regs cells log saved openers global shared masks =
     (s : State) × (r ≡ next.Go s) × GroupStands L z s regs cells log saved openers global shared masks
 GroupAfter L (stops v z) r regs cells log saved openers global shared masks =
-    (s : State) × (r ≡ next.Stop v s) × GroupStands L z s regs cells log saved openers global shared masks
+    (s : State) × (r ≡ next.Stop s v) × GroupStands L z s regs cells log saved openers global shared masks
 
 -- The global log after a row that is come to in state s: where a BARRIER is passed, it is cleared.
 abbrev pub SharedAfter : State → Next → (shared shared′ : List ℕ) → Type 0
 SharedAfter s (next.Go r) shared shared′ = shared′ ≡ cond (ltb (s .barriers) (r .barriers)) (replicate (length shared) 0) shared
-SharedAfter s (next.Stop v r) shared shared′ = shared′ ≡ shared
+SharedAfter s (next.Stop r v) shared shared′ = shared′ ≡ shared
 
 -- By the row's op: only a BARRIER touches it.
 abbrev pub SharedLeft : (op : ℕ) → State → Next → (shared shared′ : List ℕ) → Type 0

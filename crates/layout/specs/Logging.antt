@@ -92,3 +92,7 @@ pub record LogAsks (op k i : ℕ) (log : List ℕ) : Type 0 where
   pub sized : length log ≡ logPerCell * k
   pub inside : i < k
   pub few : k ≤ 1024
+
+-- One thread's bit.
+abbrev pub OneBit : (bit : ℕ) → Type 0
+OneBit bit = (t : ℕ) × (bit ≡ 2 ^ t)

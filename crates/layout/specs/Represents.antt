@@ -53,7 +53,7 @@ pub record Counted (s r : State) : Type 0 where
 
 abbrev pub Counts : State → Next → Type 0
 Counts s (next.Go r) = Counted s r
-Counts s (next.Stop v r) = r .row ≡ s .row
+Counts s (next.Stop r v) = r .row ≡ s .row
 
 -- On at another row, with another mask and depth, after one more step.
 abbrev pub goneOn : State → (row mask depth : ℕ) → State
@@ -84,12 +84,12 @@ reached s h =
 
 abbrev pub accessed : State → Access → Next
 accessed s Done = next.Go (movedOn s)
-accessed s (Stop v) = next.Stop v s
+accessed s (Stop v) = next.Stop s v
 
 -- What a row comes to in the code is what it comes to by the definition.
 abbrev pub After : ℕ → Step → Next → (regs cells log saved openers : List ℕ) → Type 0
 After n (continues z) r regs cells log saved openers = (s : State) × (r ≡ next.Go s) × Represents n z s regs cells log saved openers
-After n (stops v z) r regs cells log saved openers = (s : State) × (r ≡ next.Stop v s) × Represents n z s regs cells log saved openers
+After n (stops v z) r regs cells log saved openers = (s : State) × (r ≡ next.Stop s v) × Represents n z s regs cells log saved openers
 
 -- A WHILE has room for its mask, or has it on top already.
 abbrev pub RoomForWhile : State → List ℕ → Type 0

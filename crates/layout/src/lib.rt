@@ -26,7 +26,6 @@ pub struct Turns {
 
 // The small part of the state, which goes by value. Above the cell numbered `reach` nothing has been logged since the log was cleared.
 // `since` is how many steps each enabled thread has made under the present mask that are not in the step counts yet.
-// The order of the words is one of the fastest that were tried: where four small ones stand side by side, a row takes half as long again.
 pub struct State {
     pub mask: u32,
     pub reach: u32,
@@ -37,8 +36,9 @@ pub struct State {
     pub depth: usize,
 }
 
-// What a row comes to.
+// What a row comes to. The state comes first in both, so that its words have the same places: otherwise two of them share a register in the run's
+// loop, and have to be told apart in every row.
 pub enum Next {
     Go(State),
-    Stop(spec::Verdict, State),
+    Stop(State, spec::Verdict),
 }

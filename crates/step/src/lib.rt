@@ -91,7 +91,7 @@ fn after_access(
             intervals::charge(records, s.barriers + group, cost);
             layout::Next::Go(constructs::moved(z))
         }
-        layout::Access::Stop(v) => layout::Next::Stop(v, z),
+        layout::Access::Stop(v) => layout::Next::Stop(z, v),
     }
 }
 
@@ -202,6 +202,6 @@ pub fn barrier_row(
             next_interval(records, shared, global, group, s, z);
             layout::Next::Go(z)
         }
-        layout::Next::Stop(v, z) => layout::Next::Stop(v, z),
+        layout::Next::Stop(z, v) => layout::Next::Stop(z, v),
     }
 }

@@ -38,7 +38,7 @@ counts-on op s (next.Go r) counts h l (em, es) =
       each = λ t q. ap₂ (λ (m k : ℕ). stepsOf m k counts t) em es ∙ one-more (s .mask) (s .since) counts t
           ∙ ap (λ (m : ℕ). stepsOf (s .mask) (s .since) counts t + bitOf m t) (sym (step-by op s r (λ e. omega arith) (λ e. omega arith)));
     }
-counts-on op s (next.Stop v r) counts h l (em, es) = (em, es, refl)
+counts-on op s (next.Stop r v) counts h l (em, es) = (em, es, refl)
 
 pub moved-on : (s r : State) → r ≡ movedOn s → StepsOn s (next.Go r)
 moved-on s r e = (ap (λ x. x .mask) e, ap (λ x. x .since) e)

@@ -3,7 +3,6 @@ use mathlib.Core.Path.{refl, sym, ap₂, _∙_, subst}
 use Prim.Native.Nat.{ℕ, _+_, _*_}
 use native.Mathlib.Omega.{arith}
 use lib.ListN.{length, getD}
-use lib.Pow.{pow-pos}
 use Rattle.layout.specs.Memory.{CellNumber, goesOn}
 use Rattle.layout.specs.Logging.{SameBut}
 use Rattle.layout.proofs.Reach.{entered-but}
@@ -20,7 +19,7 @@ enter-requires c κs =
     let pre = start .pre .1 in
     let alone = goes-alone _ _ _ _ _ _ (start .pre .4) in (
       record { known = pre .known; small = pre .small; sized = pre .sized; inside = omega (arith, alone .0, cell .ensures); few = pre .cells-few },
-      omega (arith, start .pre .2, pow-pos (args .t)),
+      (args .t, start .pre .2),
     )
 
 transfer-requires : tie.Need-transfer-requires

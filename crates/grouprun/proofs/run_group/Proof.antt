@@ -186,7 +186,7 @@ loop-again c =
     )
 
 -- A row that stops, from every state that the buffers stood for at the start.
-stops : (c : tie.After-group-row Inv-loop μ-loop) (v : Verdict) (s′ : State) → c .group-row .result ≡ next.Stop v s′
+stops : (c : tie.After-group-row Inv-loop μ-loop) (v : Verdict) (s′ : State) → c .group-row .result ≡ next.Stop s′ v
     → let at-turn = c .before .before .before .before .before .before .before .before .before .before .before .before .before .before .before .before .before in
     let start = start-of at-turn in
     let args = start .args in
@@ -211,7 +211,7 @@ stop-requires : tie.Need-stop-requires Inv-loop μ-loop
 stop-requires c κs =
     let S = start-of (c .before .before .before .before .before .before .before .before .before .before .before .before .before .before .before .before .before .before .before .before
     .before .before .before .before .before .before .before .before .before .before .before .before .before) .pre .11 in
-    let T = stops (c .before .before .before .before .before .before .before .before .before .before .before .before .before .before .before .before) _ _ (c .before .before .v .given .1) (S
+    let T = stops (c .before .before .before .before .before .before .before .before .before .before .before .before .before .before .before .before) _ _ (c .before .before .z2 .given .1) (S
     .shape) (S .state) (S .start) (S .whole) (S .lent) (S .more) (S .ledger) in
     (T .fits, T .room)
 
@@ -221,7 +221,7 @@ finish-requires-2 c κs =
     let S = start-of (c .before .before .before .before .before .before .before .before .before .before .before .before .before .before .before .before .before .before .before .before
     .before .before .before .before .before .before .before .before .before .before .before .before .before .before .before) .pre .11 in
     stops (c .before .before .before .before .before .before .before .before .before .before .before .before .before .before .before .before .before .before) _ _ (c .before .before .before
-    .before .v .given .1) (S .shape) (S .state) (S .start) (S .whole) (S .lent) (S .more) (S .ledger) .rest (stop .last .0) (stop .ensures)
+    .before .z2 .given .1) (S .shape) (S .state) (S .start) (S .whole) (S .lent) (S .more) (S .ledger) .rest (stop .last .0) (stop .ensures)
 
 same-length-7 : tie.Need-same-length-7 Inv-loop μ-loop
 same-length-7 c = let at-turn = c .before .before .before .before .before .before .before .before .before .before .before .before .before .before .before .before .before .before .before
@@ -260,7 +260,7 @@ returns-2 c =
     let stop = c .before .before .stop in
     λ L z S whole lent more B.
     stops (c .before .before .before .before .before .before .before .before .before .before .before .before .before .before .before .before .before .before .before) _ _ (c .before .before
-    .before .before .before .v .given .1) L z S whole lent more B .ran (stop .last .0) (finish .last .0) (finish .result) (stop .ensures) (finish .ensures .0)
+    .before .before .before .z2 .given .1) L z S whole lent more B .ran (stop .last .0) (finish .last .0) (finish .result) (stop .ensures) (finish .ensures .0)
     (finish .ensures .1)
 
 finish-requires-3 : tie.Need-finish-requires-3 Inv-loop μ-loop

@@ -36,7 +36,7 @@ shared-long c = let start = c .before .before .before .before .before .before .b
 
 masks-long : tie.Need-slice-aggregate-run-groups-3
 masks-long c = let start = c .before .before .before .before .before .before .before .before .before .before .before .before .before .before .before .before .before .before .before .before
-    in zeros-long (3 * length (start .args .global .now)) 3072 (omega (arith, few-global start))
+    in zeros-long (3 * length (start .args .global .now)) 3074 (omega (arith, few-global start))
 
 run-groups-requires : tie.Need-run-groups-requires
 run-groups-requires c κs =
@@ -64,8 +64,8 @@ run-groups-requires c κs =
         log-empty = zero .ensures ∙ ap (λ i. replicate i 0) (sym (zero .kept .0));
         own-sized = sym (zeros-long (5 * args .k) 5120 (omega (arith, few start)));
         shared-sized = sym (zeros-long (5 * m) 5120 (omega (arith, few-global start)));
-        masks-sized = sym (zeros-long (3 * m) 3072 (omega (arith, few-global start)));
-        masks-empty = zeros-front (3 * m) 3072;
+        masks-sized = sym (zeros-long (3 * m) 3074 (omega (arith, few-global start)));
+        masks-empty = zeros-front (3 * m) 3074;
         begun-once = begun-once (args .records .now) (launch .last .0) some (launch .ensures);
         steps-empty = refl;
         older = record { size = length-replicate {A = ℕ} 1024 0; below = λ i h. let z = getD-replicate {A = ℕ} 1024 i 0 0 h in omega arith };

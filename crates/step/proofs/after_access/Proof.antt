@@ -34,7 +34,7 @@ returns-2 c =
     let args = c .before .before .before .before .before .args in
     let stopped = c .before .c .given in
     let state = c .before .before .before .reached in (
-      ap (next.Stop (stopped .0 .0)) (state .ensures .1) ∙ sym (ap (accessed (reached (args .s) (args .r .reach))) (stopped .1)),
+      ap (λ z. next.Stop z (stopped .0 .0)) (state .ensures .1) ∙ sym (ap (accessed (reached (args .s) (args .r .reach))) (stopped .1)),
       sym (ap (λ a. paid a (args .s .barriers + args .group) (args .cost) (args .records .now)) (stopped .1)),
     )
 

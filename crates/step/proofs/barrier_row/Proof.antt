@@ -26,7 +26,7 @@ returns c =
 returns-2 : tie.Need-returns-2
 unfolding recordsAfter
 returns-2 c =
-    let stopped = c .before .v .given in
+    let stopped = c .before .z2 .given in
     let barrier-row = c .before .before .before .before .before .barrier-row in
     (sym (stopped .1) ∙ barrier-row .ensures .0, barrier-row .ensures .1, refl, refl)
 
