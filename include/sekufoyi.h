@@ -96,7 +96,8 @@ bool sekufoyi_bare_launch(const uint8_t *table, size_t table_length, uint32_t th
 
 /* Writes the report of an outcome, or of a refusal, and answers its length, or 0 with a refusal as above. An outcome's report has a line
  * for each of the steps, 1 to 256, and for each of the cells, own and global ones, 1 to 1,024 together. So steps_length is groups *
- * threads of the launch, not the 256 words that sekufoyi_bare_launch was lent. */
+ * threads of the launch, not the 256 words that sekufoyi_bare_launch was lent. It writes what it is handed: whether a launch came to that
+ * outcome it can't tell. */
 size_t sekufoyi_write_report(const uint32_t outcome[11], const uint32_t *steps, size_t steps_length, const uint32_t *cells,
                              size_t cells_length, const uint32_t *global, size_t global_length, uint8_t *output, size_t output_length,
                              uint32_t refusal[2]);

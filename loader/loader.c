@@ -39,8 +39,8 @@ static bool is(struct line line, const char *text)
 }
 
 /* The whole decision, by the reading that the promises go by (crates/spec/specs/Reading.antt, `installs`): a line is what a newline ends, the
- * first line is `verdict=passed`, and lines are read until `end=report`. Of every report it is proved that this installs what has
- * passed, and nothing by a part of one. Beyond it, what is no report of one run is refused: bytes behind the end, and a verdict in a
+ * first line is `verdict=passed`, and lines are read until `end=report`. Of every report of a launch file it is proved that this installs
+ * what has passed, and nothing by a part of one. Beyond it, what is no report of one run is refused: bytes behind the end, and a verdict in a
  * line but the first, so that the pieces of two reports are not taken for one. */
 static bool installs(const uint8_t *report, size_t length)
 {

@@ -132,7 +132,7 @@ fn put_numbers(regs: &mut [u32; 512], group: u32, n: u32, d: usize, on: u32)
     }
 }
 
-// A row of the launch number, whose byte no table has yet. It stores as every computing row does.
+// A row of op 19, the launch number. It stores as every computing row does.
 pub fn launch_row(regs: &mut [u32; 512], group: u32, n: u32, mask: u32, d: usize)
     requires { ⌜ (group < 8) × (n ≤ 32) × (d < 16) × (length (now regs) ≡ 512) ⌝ }
     ensures { λ _. ⌜ Puts d (computedLane LAUNCHTID group n mask d 0 0 (now (regs .entry))) (now (regs .entry)) (now (regs .exit)) 32 ⌝ }
