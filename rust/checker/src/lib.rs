@@ -1,6 +1,7 @@
 //! A checker of barrier kernels in lock step, written from document 01, items 1
-//! to 7 of document 02 and their readings alone. Every entry answers every
-//! input: none of them panics.
+//! to 7 of document 02 and their readings, without sight of the verified one
+//! (`rust/README.md`, 'Independence'). Every entry answers every input: none of
+//! them panics.
 
 mod banks;
 mod file;

@@ -58,7 +58,7 @@ pub struct Numbers {
     pub limit: u32,
 }
 
-/// The checker that was written from the specification alone.
+/// The checker that was written without sight of the verified one.
 pub struct Independent;
 
 impl Checker for Independent {
