@@ -38,7 +38,7 @@ class Checked:
     def errors(self):
         """Place and message of each error, in the order told. Where the prover looks for a proof by itself and finds none, it says so in a note."""
         place = r"\S*?((?:specs|proofs|src)/\S+?:\d+:\d+)"
-        found = re.finditer(rf"^(?:{place}: error: (.*(?:\n  .*)?)|note: {place}: (it is not proved that .*))", self.said, re.M)
+        found = re.finditer(rf"^(?:{place}: error: (.*(?:\n  .*)*)|note: {place}: (it is not proved that .*))", self.said, re.M)
         return [(each[1] or each[3], each[2] or each[4]) for each in found]
 
 
