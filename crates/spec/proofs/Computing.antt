@@ -40,15 +40,8 @@ use Rattle.spec.specs.Entries.{bareLog, bareRecords, bareSteps}
 use Rattle.spec.specs.Entries.{linesReported, writerRefusal, writtenOf, writerAnswer, writerBuffer, fileLent, andState, fileChecked}
 use Rattle.spec.specs.Entries.{launchReport, reportLength, fileAnswer, ifAccepted, fileCellsAfter, fileGlobalAfter, fileLogAfter, fileRecordsAfter, fileOutputAfter, printed}
 use Rattle.spec.specs.Entries.{checkedRefusal, checkPrints, subjectOf}
-use Rattle.spec.specs.Examples.{withNewlines, lines, examples}
-use Rattle.spec.specs.RunExamples.{runExamples}
-use Rattle.spec.specs.AddExamples.{addExamples}
-use Rattle.spec.specs.ShiftExamples.{shiftExamples}
-use Rattle.spec.specs.StepExamples.{stepExamples, stepSums}
-use Rattle.spec.specs.ConflictExamples.{conflictExamples, conflictRecords}
-use Rattle.spec.specs.StoreExamples.{storeExamples}
-use Rattle.spec.specs.GroupExamples.{globalLoad, globalStore, globalAdd, launchTid, growing, numbering, groupExamples}
-use Rattle.spec.specs.GroupFiles.{groupFiles, groupFileRecords}
+use Rattle.spec.proofs.Lines.{withNewlines, lines}
+use Rattle.spec.proofs.GlobalRows.{globalLoad, globalStore, globalAdd, launchTid, growing, numbering}
 
 -- Whoever unfolds this unfolds them all.
 unfoldable pub computing : Unit {0}
@@ -86,6 +79,5 @@ unfolding refusalNumber refusalPlace named told toldBy toldIn unless orElse firs
     over bareNumbers bareLent bareRefusal bareLaunch answerOf keptIf bareAnswer bareCells bareGlobal bareLog bareRecords bareSteps linesReported writerRefusal
     writtenOf writerAnswer writerBuffer fileLent andState fileChecked launchReport reportLength fileAnswer ifAccepted fileCellsAfter fileGlobalAfter
     fileLogAfter fileRecordsAfter fileOutputAfter printed checkPrints checkedRefusal subjectOf
-    withNewlines lines examples runExamples addExamples shiftExamples stepExamples stepSums conflictExamples conflictRecords storeExamples
-    globalLoad globalStore globalAdd launchTid growing numbering groupExamples groupFiles groupFileRecords
+    withNewlines lines globalLoad globalStore globalAdd launchTid growing numbering
 computing = tt

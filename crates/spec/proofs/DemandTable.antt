@@ -13,7 +13,7 @@ use Rattle.spec.specs.Threads as own
 use Rattle.spec.specs.LaunchThreads.{Move, ofGroup}
 use Rattle.spec.specs.AllRuns.{CompleteRun, PassedSays, Demand3}
 use Rattle.spec.specs.Launch.{Launch}
-use Rattle.spec.specs.Examples.{lines}
+use Rattle.spec.proofs.Lines.{lines}
 use Rattle.spec.specs.Demands.{BareDemand3, PassedReport}
 use Rattle.spec.proofs.MachineRuns.{row, release}
 use Rattle.spec.proofs.Computing.{computing}

@@ -16,7 +16,7 @@ use Rattle.spec.specs.Entries.{writerAnswer, writerBuffer}
 use Rattle.spec.specs.Entries.{fileLent, fileAnswer, fileCellsAfter, fileGlobalAfter, fileLogAfter, fileRecordsAfter, fileOutputAfter, checkPrints, subjectOf}
 use Rattle.spec.specs.LaunchFile.{fileLaunch}
 use Rattle.spec.specs.Text.{text}
-use Rattle.spec.specs.Examples.{lines}
+use Rattle.spec.proofs.Lines.{lines}
 use Rattle.spec.proofs.RefusalTable.{orZero, toldAs}
 use Rattle.spec.proofs.Computing.{computing}
 

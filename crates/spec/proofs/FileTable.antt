@@ -1,16 +1,15 @@
 -- Launch files: which are refused, with number and place, and what an accepted one says. `/` stands between the lines. Assumes nothing.
 use mathlib.Core.Path.{_≡_, refl}
 use mathlib.Core.List.{List, [], _∷_, _++_, map}
-use Prim.Native.Nat.{ℕ, zero, suc}
+use Prim.Native.Nat.{ℕ}
 use Prim.Native.String.{String}
-use lib.ListN.{length}
 use Rattle.spec.specs.Table.{rowOf}
 use Rattle.spec.specs.Shape.{sizes}
 use Rattle.spec.specs.Launch.{Launch}
-use Rattle.spec.specs.LaunchFile.{Checked, refused, accepted, fileLaunch}
+use Rattle.spec.specs.LaunchFile.{Checked, accepted, fileLaunch}
 use Rattle.spec.specs.Entries.{checkedRefusal}
 use Rattle.spec.specs.Text.{text}
-use Rattle.spec.specs.Examples.{lines}
+use Rattle.spec.proofs.Lines.{lines}
 use Rattle.spec.proofs.RefusalTable.{orZero, toldAs}
 use Rattle.spec.proofs.Computing.{computing}
 
@@ -180,31 +179,3 @@ pub what-it-says :
     })
 unfolding computing
 what-it-says = refl
-
--- The most of everything: 32 threads, 1,024 cells, limit 1,000,000, 256 rows; and 8 groups with 127 cells each and 8 global ones.
-unfoldable pub copies : ℕ → List ℕ → List ℕ
-copies zero bs = []
-copies (suc n) bs = bs ++ copies n bs
-
-unfoldable pub numbersIn : Checked Launch → List ℕ
-numbersIn (refused r) = []
-numbersIn (accepted launch) =
-    launch .sizes .threads
-    ∷ launch .sizes .cells
-    ∷ launch .sizes .groups
-    ∷ launch .sizes .global
-    ∷ length (launch .cells)
-    ∷ launch .limit
-    ∷ length (launch .table)
-    ∷ []
-
-pub the-most :
-    map (λ f. numbersIn (fileLaunch f))
-    ((lines "kernel=1/threads=32/cells=1024/groups=1/global=0/limit=1000000/rows=256"
-    ++ (copies 256 (lines "row=2,0,0,0") ++ (copies 1024 (lines "cell=0") ++ lines "end=kernel")))
-    ∷ (lines "kernel=1/threads=32/cells=127/groups=8/global=8/limit=1000000/rows=256"
-    ++ (copies 256 (lines "row=22,0,0,0") ++ (copies 1016 (lines "cell=0") ++ (copies 8 (lines "gcell=0") ++ lines "end=kernel"))))
-    ∷ [])
-    ≡ (32 ∷ 1024 ∷ 1 ∷ 0 ∷ 1024 ∷ 1000000 ∷ 256 ∷ []) ∷ (32 ∷ 127 ∷ 8 ∷ 8 ∷ 1024 ∷ 1000000 ∷ 256 ∷ []) ∷ []
-unfolding computing copies numbersIn
-the-most = refl

@@ -15,7 +15,7 @@ use Rattle.spec.specs.LaunchThreads.{Part, Groups, noPart, hasMet, barre
 use Rattle.spec.specs.Runs.{many}
 use Rattle.spec.specs.LaunchRun.{stepsByLaunch, countedBarriers}
 use Rattle.spec.specs.AllRuns.{CompleteRun, leaves, cellsAtReleases, isMoveOf, isReleaseOf, isRelease, PassedSays}
-use Rattle.spec.specs.GroupExamples.{globalLoad, globalStore, globalAdd, numbering}
+use Rattle.spec.proofs.GlobalRows.{globalLoad, globalStore, globalAdd, numbering}
 use Rattle.spec.proofs.MachineRuns.{isRun}
 use Rattle.spec.proofs.Computing.{computing}
 

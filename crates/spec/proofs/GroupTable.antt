@@ -1,5 +1,4 @@
--- Launches of several groups: the worked ones come out of the definitions, in one computation; the group masks, the start of a group and what the groups
--- show at their barriers. Assumes nothing.
+-- Launches of several groups: the letters of their races, the group masks, the start of a group and what the groups show at their barriers. Assumes nothing.
 use mathlib.Core.Path.{_≡_, refl}
 use mathlib.Core.List.{List, [], _∷_, _++_, map}
 use mathlib.Core.Bool.{true, false}
@@ -19,37 +18,13 @@ use Rattle.spec.specs.LaunchRun.{rowsLeft, nextStart, groupRuns, lockste
 use Rattle.spec.specs.Launch.{ownPart, globalPart, allLogWords}
 use Rattle.spec.specs.Intervals.{intervalRecords, recordWords}
 use Rattle.spec.specs.AllRuns.{countedInAll}
-use Rattle.spec.specs.GroupExamples.{Ending, GroupLaunch, globalLoad, globalStore, globalAdd, growing, groupExamples}
+use Rattle.spec.proofs.GlobalRows.{globalLoad, globalStore, globalAdd, growing}
 use Rattle.spec.proofs.LogTable.{ofThree, everyMarked, someKinds}
-use Rattle.spec.proofs.IntervalTable.{interval, repeated}
 use Rattle.spec.proofs.OpTable.{bytesFrom}
 use Rattle.spec.proofs.Computing.{computing}
 
 unfoldable pub maskWords : GroupLog → List (List ℕ)
 maskWords H = map (λ m. map maskWord (groupMasksOf H m)) (reads ∷ writes ∷ adds ∷ [])
-
-unfoldable pub ending : GroupLaunch → Ending
-ending x =
-    let T = x .table in
-    let Z = x .sizes in
-    let o = lockstep T Z (x .cells) (x .limit) in
-    let s = o .state in
-    record {
-      verdict = o .verdict;
-      group = lastGroup T Z (x .cells) (x .limit);
-      row = s .row;
-      rows = s .rows;
-      barriers = s .barriers;
-      steps = stepsByLaunch T Z (x .cells) (x .limit);
-      cells = s .cells;
-      log = logKinds (s .log);
-      groupMasks = maskWords (s .groupLog);
-      records = recordWords (intervalRecords T Z (x .cells) (x .limit));
-    }
-
-pub worked-groups : map ending groupExamples ≡ map (λ x. x .ends) groupExamples
-unfolding computing maskWords ending
-worked-groups = refl
 
 -- Three groups of four threads: the launch numbers of threads 0, 1 and 3 of each.
 pub launch-numbers : map (λ g. map (launchNumber (shapeOf (sizes 4 5 3 7) g)) (0 ∷ 1 ∷ 3 ∷ [])) (0 ∷ 1 ∷ 2 ∷ []) ≡
@@ -263,17 +238,3 @@ shown-at-barriers = refl
 pub barriers-in-all : map (λ k. countedInAll (shownUnder k)) (100 ∷ 11 ∷ 6 ∷ 5 ∷ 0 ∷ []) ≡ 4 ∷ 3 ∷ 2 ∷ 1 ∷ 0 ∷ []
 unfolding computing depositing shownUnder
 barriers-in-all = refl
-
--- A loop of 32 rounds with 16 BARRIERs, by three groups: 513 intervals each. The 1,025th record is group 1's last but one. It goes on through that group's
--- last interval, 3 rows, and through all 611 rows of group 2, whose start opens no other.
-unfoldable pub turning : Table
-turning =
-    rowOf 1 3 32 0 ∷ rowOf 1 4 1 0 ∷ rowOf 35 0 3 0 ∷ (replicate 16 (rowOf 37 0 0 0) ++ (rowOf 5 3 3 4 ∷ rowOf 36 0 0 0 ∷ []))
-
-pub cap-for-starts :
-    recordWords (intervalRecords turning (sizes 1 1 3 0) (7 ∷ 8 ∷ 9 ∷ []) 10000)
-    ≡ (let round = recordWords (map (λ r. interval r 1 0) (bytesFrom 4 15)) in
-    let most = (0 ∷ 4 ∷ 0 ∷ round) ++ repeated 30 (19 ∷ 4 ∷ 0 ∷ round) in
-    most ++ ((19 ∷ 4 ∷ 0 ∷ round) ++ (19 ∷ 3 ∷ 0 ∷ most) ++ (19 ∷ 4 ∷ 0 ∷ recordWords (map (λ r. interval r 1 0) (bytesFrom 4 14))) ++ (18 ∷ 615 ∷ 0 ∷ [])))
-unfolding computing bytesFrom interval repeated turning
-cap-for-starts = refl

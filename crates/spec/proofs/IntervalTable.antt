@@ -2,8 +2,8 @@
 use mathlib.Core.Path.{_≡_, refl}
 use mathlib.Core.List.{List, [], _∷_, _++_, map}
 use mathlib.Core.Bool.{true, false}
-use Prim.Native.Nat.{ℕ, zero, suc, _-_, _*_}
-use lib.ListN.{length, take, drop, replicate}
+use Prim.Native.Nat.{ℕ, _-_, _*_}
+use lib.ListN.{length, drop, replicate}
 use Rattle.spec.specs.Answers.{Answer, Passed, Race, WriteWrite, Outside, Diverged, Spent, LogLength, RecordsLength}
 use Rattle.spec.specs.declared.Answer.the-variants as answer
 use Rattle.spec.specs.declared.Subject.the-variants as subject
@@ -18,9 +18,8 @@ use Rattle.spec.specs.Banks.{different, inBank, mostInBank, conflictCost
 use Rattle.spec.specs.Intervals.{Interval, usedCells, rowCost, together, recordsOf, intervalRecords, recordWords, conflictsOf}
 use Rattle.spec.specs.LaunchFile.{fileLaunch}
 use Rattle.spec.specs.Entries.{bareAnswer, bareRecords, fileRecordsAfter, subjectOf}
-use Rattle.spec.specs.Examples.{lines, examples}
+use Rattle.spec.proofs.Lines.{lines}
 use Rattle.spec.proofs.OpTable.{bytesFrom}
-use Rattle.spec.proofs.Worked.{finalRecords}
 use Rattle.spec.proofs.Computing.{computing}
 
 -- How many different cells: each counts once, wherever it stands again.
@@ -144,21 +143,6 @@ pub record-by-record : map (λ k. recordWords (intervalRecords threeApart (oneGr
 unfolding computing bytesFrom threeApart
 record-by-record = refl
 
--- P1 to P8 of document 01: an empty table and limit 0 have their record too.
-pub records-of-p : map (λ x. finalRecords (fileLaunch (x .file))) (take 9 examples) ≡
-    (0 ∷ 6 ∷ 0 ∷ [])
-    ∷ (0 ∷ 5 ∷ 0 ∷ 5 ∷ 3 ∷ 0 ∷ [])
-    ∷ (0 ∷ 0 ∷ 0 ∷ [])
-    ∷ (0 ∷ 0 ∷ 0 ∷ [])
-    ∷ (0 ∷ 1 ∷ 0 ∷ [])
-    ∷ (0 ∷ 2 ∷ 0 ∷ [])
-    ∷ (0 ∷ 3 ∷ 0 ∷ [])
-    ∷ (0 ∷ 10 ∷ 0 ∷ [])
-    ∷ (0 ∷ 9 ∷ 0 ∷ [])
-    ∷ []
-unfolding computing finalRecords
-records-of-p = refl
-
 -- Four intervals with 0 to 4 records of their own: the last record goes on, with the start that it had.
 unfoldable pub interval : (start rows cost : ℕ) → Interval
 interval s r c = record { start = s; rows = r; cost = c }
@@ -243,29 +227,6 @@ pub records-kept :
     ≡ (answer.Refused LogLength, replicate 3075 9) ∷ (answer.Refused LogLength, replicate 3074 9) ∷ (answer.Refused RecordsLength, replicate 3074 9) ∷ []
 unfolding computing twoApart twoIntervals launched
 records-kept = refl
-
--- A loop of 64 rounds with 16 BARRIERs, then LOAD, BARRIER, LOAD, BARRIER: 1,026 releases. The 1,025th record starts behind the loop's last BARRIER and takes
--- in what follows: two rows of the loop, its WHILE, two LOADs that cost 1 and two BARRIERs. The two words lent behind it are kept.
-unfoldable pub repeated : (k : ℕ) → List ℕ → List ℕ
-repeated zero w = []
-repeated (suc k) w = w ++ repeated k w
-
-unfoldable pub longTable : List ℕ
-longTable =
-    twoApart
-    ++ (1 ∷ 3 ∷ 64 ∷ 0 ∷ 1 ∷ 4 ∷ 1 ∷ 0 ∷ 35 ∷ 0 ∷ 3 ∷ 0 ∷ [])
-    ++ repeated 16 (37 ∷ 0 ∷ 0 ∷ 0 ∷ [])
-    ++ (5 ∷ 3 ∷ 3 ∷ 4 ∷ 36 ∷ 0 ∷ 0 ∷ 0 ∷ [])
-    ++ repeated 2 (16 ∷ 5 ∷ 2 ∷ 0 ∷ 37 ∷ 0 ∷ 0 ∷ 0 ∷ [])
-
--- The fifteen intervals between the BARRIERs of a round, each with one row.
-unfoldable pub withinRound : List ℕ
-withinRound = recordWords (map (λ r. interval r 1 0) (bytesFrom 7 15))
-
-pub the-last-goes-on : bareRecords longTable (sizes 2 17 1 0) 10000 (replicate 17 7) [] (replicate 136 9) (replicate 3077 9) ≡
-    (0 ∷ 7 ∷ 0 ∷ withinRound) ++ (repeated 63 (22 ∷ 4 ∷ 0 ∷ withinRound) ++ (22 ∷ 7 ∷ 2 ∷ 9 ∷ 9 ∷ []))
-unfolding computing bytesFrom interval twoApart repeated longTable withinRound
-the-last-goes-on = refl
 
 -- A file: the records that it leaves, and what its report is made of.
 unfoldable pub itsFile : List ℕ

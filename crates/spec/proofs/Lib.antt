@@ -5,6 +5,8 @@ pub mod ClearingLaws
 pub mod BankLaws
 pub mod IntervalLaws
 pub mod UsedCells
+pub mod Lines
+pub mod GlobalRows
 pub mod Computing
 pub mod OpTable
 pub mod RefusalTable
@@ -14,7 +16,6 @@ pub mod WordTable
 pub mod MaskTable
 pub mod ConflictTable
 pub mod LogTable
-pub mod Worked
 pub mod IntervalTable
 pub mod LockStepTable
 pub mod GroupTable

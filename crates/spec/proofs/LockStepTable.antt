@@ -3,6 +3,7 @@ use mathlib.Core.Path.{_≡_, refl}
 use mathlib.Core.List.{List, [], _∷_, _++_, map}
 use Prim.Native.Nat.{ℕ}
 use lib.ListN.{take}
+use Rattle.spec.specs.Answers.{Race, ReadWrite}
 use Rattle.spec.specs.Table.{Table, rowOf}
 use Rattle.spec.specs.Mask.{maskWord}
 use Rattle.spec.specs.Steps.{stepped, allStepped, sum}
@@ -139,3 +140,11 @@ pub barriers-not-counted :
     ≡ ([] ∷ []) ∷ ([] ∷ []) ∷ (((9 ∷ []) ∷ []) ∷ []) ∷ []
 unfolding computing
 barriers-not-counted = refl
+
+-- Both threads load; a BARRIER in an IF that nobody enters forgets nothing, and thread 0's store behind it meets the load of thread 1.
+unfoldable pub skipping : Table
+skipping = rowOf 2 0 0 0 ∷ rowOf 16 1 2 0 ∷ rowOf 32 0 2 0 ∷ rowOf 37 0 0 0 ∷ rowOf 34 0 0 0 ∷ rowOf 17 2 0 0 ∷ []
+
+pub skipped-barrier : lockstep skipping (oneGroup 2 (4 ∷ [])) (4 ∷ []) 100 .verdict ≡ Race 0 1 ReadWrite 0
+unfolding computing skipping
+skipped-barrier = refl

@@ -8,7 +8,7 @@ use lib.ListN.{take}
 use Rattle.spec.specs.Answers.{Verdict, Passed, Race, GroupRace, Outside, Diverged, Spent, WriteWrite, Subject}
 use Rattle.spec.specs.declared.Subject.the-variants as subject
 use Rattle.spec.specs.Text.{text}
-use Rattle.spec.specs.Examples.{lines}
+use Rattle.spec.proofs.Lines.{lines}
 use Rattle.spec.specs.Reading.{linesIn, hasLine, beginsWith, numbersAt, hasPassed, installs}
 use Rattle.spec.proofs.Computing.{computing}
 

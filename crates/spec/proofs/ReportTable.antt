@@ -8,7 +8,7 @@ use Rattle.spec.specs.Answers.{ReadWrite, WriteRead, WriteWrite, ReadAdd
 use Rattle.spec.specs.declared.Subject.the-variants as subject
 use Rattle.spec.specs.Report.{kindText, reportOf, refusalReport}
 use Rattle.spec.specs.Text.{text}
-use Rattle.spec.specs.Examples.{lines}
+use Rattle.spec.proofs.Lines.{lines}
 use Rattle.spec.proofs.Computing.{computing}
 
 -- A run that stopped at row 11 of group 4 after 12 rows, 14 barriers and 105 conflicts, with 130, 0 and 12 steps, own cells 256, 0 and 2 ^ 32 - 1, and

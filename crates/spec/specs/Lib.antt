@@ -26,13 +26,4 @@ pub mod LaunchFile
 pub mod Report
 pub mod Reading
 pub mod Entries
-pub mod Examples
-pub mod RunExamples
-pub mod AddExamples
-pub mod ShiftExamples
-pub mod StepExamples
-pub mod ConflictExamples
-pub mod StoreExamples
-pub mod GroupExamples
-pub mod GroupFiles
 pub mod Demands

@@ -1,8 +1,11 @@
 -- More worked launches: every op and every row kind in runs of several threads, each with the report and the log that document 01 gives it.
 -- Worked out from the paper alone, before they were computed. Assumes nothing.
-use mathlib.Core.List.{List, [], _∷_, _++_}
+use mathlib.Core.Path.{_≡_, refl}
+use mathlib.Core.List.{List, [], _∷_, _++_, map}
 use lib.ListN.{replicate}
-use Rattle.spec.specs.Examples.{Worked, lines}
+use Rattle.spec.proofs.Lines.{lines}
+use Rattle.spec.proofs.Computing.{computing}
+use Rattle.workedlaunches.proofs.Worked.{Worked, computed, expected, finalLog}
 
 unfoldable pub runExamples : List Worked
 runExamples =
@@ -218,3 +221,7 @@ runExamples =
           ∷ 21 ∷ 22 ∷ 23 ∷ 24 ∷ 25 ∷ 26 ∷ 27 ∷ 28 ∷ 29 ∷ 30 ∷ 31 ∷ replicate 128 0);
     }
     ∷ []
+
+pub worked-runs : map computed runExamples ≡ map expected runExamples
+unfolding computing computed expected finalLog runExamples
+worked-runs = refl

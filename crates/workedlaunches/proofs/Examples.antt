@@ -1,26 +1,14 @@
 -- Worked launches: P1 to P8 of document 01, other launches that it names, and launches that tell its misreadings apart.
--- P1's file and report are document 01's; the rest was worked out by hand from it. Assumes nothing.
-use mathlib.Core.List.{List, [], _∷_, _++_}
-use mathlib.Core.Bool.{cond}
-use Prim.Native.Nat.{ℕ}
-use Prim.Native.String.{String}
-use lib.Dec.{eqb}
-use lib.ListN.{replicate}
-use Rattle.spec.specs.Text.{text, newline}
-
--- A launch file, the report that check prints for it, and the words of the log when the run ends (none where the file is refused).
--- As in document 01, `/` stands between the lines.
-pub record Worked : Type 0 where
-  pub file : List ℕ
-  pub report : List ℕ
-  pub log : List ℕ
-
-unfoldable pub withNewlines : List ℕ → List ℕ
-withNewlines [] = newline ∷ []
-withNewlines (b ∷ bs) = cond (eqb b 47) newline b ∷ withNewlines bs
-
-unfoldable pub lines : String → List ℕ
-lines s = withNewlines (text s)
+-- P1's file and report are those of document 01 with what items 4, 5 and 7 of document 02 changed: steps by thread, conflicts, groups. The rest was worked
+-- out by hand from both. Assumes nothing.
+use mathlib.Core.Path.{_≡_, refl}
+use mathlib.Core.List.{List, [], _∷_, _++_, map}
+use lib.ListN.{take, replicate}
+use Rattle.spec.specs.Text.{text}
+use Rattle.spec.specs.LaunchFile.{fileLaunch}
+use Rattle.spec.proofs.Lines.{lines}
+use Rattle.spec.proofs.Computing.{computing}
+use Rattle.workedlaunches.proofs.Worked.{Worked, computed, expected, finalLog, finalRecords}
 
 unfoldable pub examples : List Worked
 examples =
@@ -203,3 +191,22 @@ examples =
     }
     ∷ record { file = lines "kernel=1/threads=1/cells=1/groups=1/global=0/limit=1/rows=0/cell=0/end=kernel/"; report = lines "refused=11/place=10/end=report"; log = [] }
     ∷ []
+
+pub worked : map computed examples ≡ map expected examples
+unfolding computing computed expected finalLog examples
+worked = refl
+
+-- P1 to P8 of document 01: an empty table and limit 0 have their record too.
+pub records-of-p : map (λ x. finalRecords (fileLaunch (x .file))) (take 9 examples) ≡
+    (0 ∷ 6 ∷ 0 ∷ [])
+    ∷ (0 ∷ 5 ∷ 0 ∷ 5 ∷ 3 ∷ 0 ∷ [])
+    ∷ (0 ∷ 0 ∷ 0 ∷ [])
+    ∷ (0 ∷ 0 ∷ 0 ∷ [])
+    ∷ (0 ∷ 1 ∷ 0 ∷ [])
+    ∷ (0 ∷ 2 ∷ 0 ∷ [])
+    ∷ (0 ∷ 3 ∷ 0 ∷ [])
+    ∷ (0 ∷ 10 ∷ 0 ∷ [])
+    ∷ (0 ∷ 9 ∷ 0 ∷ [])
+    ∷ []
+unfolding computing finalRecords examples
+records-of-p = refl

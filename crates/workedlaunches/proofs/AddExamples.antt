@@ -1,8 +1,11 @@
 -- Worked launches with ATOMIC ADD, item 1 of the change requests, each with the report and the whole log. Worked out from the papers alone, before they
 -- were computed. Assumes nothing.
-use mathlib.Core.List.{List, [], _∷_, _++_}
+use mathlib.Core.Path.{_≡_, refl}
+use mathlib.Core.List.{List, [], _∷_, _++_, map}
 use lib.ListN.{replicate}
-use Rattle.spec.specs.Examples.{Worked, lines}
+use Rattle.spec.proofs.Lines.{lines}
+use Rattle.spec.proofs.Computing.{computing}
+use Rattle.workedlaunches.proofs.Worked.{Worked, computed, expected, finalLog}
 
 unfoldable pub addExamples : List Worked
 addExamples =
@@ -226,3 +229,7 @@ addExamples =
     ∷ record { file = lines "kernel=1/threads=1/cells=1/groups=1/global=0/limit=1/rows=1/row=18,0,0,1/cell=0/end=kernel"; report = lines "refused=4/place=0/end=report"; log = [] }
     ∷ record { file = lines "kernel=1/threads=1/cells=1/groups=1/global=0/limit=1/rows=1/row=23,0,0,0/cell=0/end=kernel"; report = lines "refused=3/place=0/end=report"; log = [] }
     ∷ []
+
+pub worked-adds : map computed addExamples ≡ map expected addExamples
+unfolding computing computed expected finalLog addExamples
+worked-adds = refl

@@ -1,8 +1,11 @@
 -- Worked launches with shifts by 32 places and more, item 3 of the change requests, each with the report and the whole log. Worked out by hand from the
 -- papers. Assumes nothing.
-use mathlib.Core.List.{List, [], _∷_, _++_}
+use mathlib.Core.Path.{_≡_, refl}
+use mathlib.Core.List.{List, [], _∷_, _++_, map}
 use lib.ListN.{replicate}
-use Rattle.spec.specs.Examples.{Worked, lines}
+use Rattle.spec.proofs.Lines.{lines}
+use Rattle.spec.proofs.Computing.{computing}
+use Rattle.workedlaunches.proofs.Worked.{Worked, computed, expected, finalLog}
 
 unfoldable pub shiftExamples : List Worked
 shiftExamples =
@@ -34,3 +37,7 @@ shiftExamples =
       log = 1 ∷ 2 ∷ 1 ∷ replicate 13 0;
     }
     ∷ []
+
+pub worked-shifts : map computed shiftExamples ≡ map expected shiftExamples
+unfolding computing computed expected finalLog shiftExamples
+worked-shifts = refl

@@ -1,9 +1,13 @@
 -- Worked launches with bank conflicts and barrier intervals, item 5 of the change requests, each with the report and the whole log, and below with the words
 -- of its records. Conflicts and records were worked out by hand from the papers, the rest with a small model written from them. Assumes nothing.
-use mathlib.Core.List.{List, [], _∷_, _++_}
+use mathlib.Core.Path.{_≡_, refl}
+use mathlib.Core.List.{List, [], _∷_, _++_, map}
 use Prim.Native.Nat.{ℕ}
 use lib.ListN.{replicate}
-use Rattle.spec.specs.Examples.{Worked, lines}
+use Rattle.spec.specs.LaunchFile.{fileLaunch}
+use Rattle.spec.proofs.Lines.{lines}
+use Rattle.spec.proofs.Computing.{computing}
+use Rattle.workedlaunches.proofs.Worked.{Worked, computed, expected, finalLog, finalRecords}
 
 unfoldable pub conflictExamples : List Worked
 conflictExamples =
@@ -160,3 +164,11 @@ conflictRecords =
     ∷ (0 ∷ 1 ∷ 0 ∷ 1 ∷ 1 ∷ 0 ∷ 2 ∷ 2 ∷ 0 ∷ 4 ∷ 0 ∷ 0 ∷ [])
     ∷ (0 ∷ 8 ∷ 1 ∷ 8 ∷ 2 ∷ 0 ∷ 10 ∷ 4 ∷ 1 ∷ 8 ∷ 2 ∷ 0 ∷ 10 ∷ 3 ∷ 1 ∷ [])
     ∷ []
+
+pub worked-conflicts : map computed conflictExamples ≡ map expected conflictExamples
+unfolding computing computed expected finalLog conflictExamples
+worked-conflicts = refl
+
+pub worked-records : map (λ x. finalRecords (fileLaunch (x .file))) conflictExamples ≡ conflictRecords
+unfolding computing finalRecords conflictExamples conflictRecords
+worked-records = refl

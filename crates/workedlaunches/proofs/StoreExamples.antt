@@ -1,8 +1,11 @@
 -- Worked launches with equal and unequal stores, item 6 of the change requests, each with the report and the whole log. Worked out by hand from the papers.
 -- Assumes nothing.
-use mathlib.Core.List.{List, [], _∷_, _++_}
+use mathlib.Core.Path.{_≡_, refl}
+use mathlib.Core.List.{List, [], _∷_, _++_, map}
 use lib.ListN.{replicate}
-use Rattle.spec.specs.Examples.{Worked, lines}
+use Rattle.spec.proofs.Lines.{lines}
+use Rattle.spec.proofs.Computing.{computing}
+use Rattle.workedlaunches.proofs.Worked.{Worked, computed, expected, finalLog}
 
 unfoldable pub storeExamples : List Worked
 storeExamples =
@@ -114,3 +117,7 @@ storeExamples =
       log = 0 ∷ 0 ∷ 0 ∷ 3 ∷ 3 ∷ 0 ∷ 0 ∷ 0 ∷ 0 ∷ 6 ∷ 6 ∷ replicate 13 0;
     }
     ∷ []
+
+pub worked-stores : map computed storeExamples ≡ map expected storeExamples
+unfolding computing computed expected finalLog storeExamples
+worked-stores = refl

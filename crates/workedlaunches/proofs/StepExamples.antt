@@ -1,9 +1,13 @@
 -- Worked launches in which the threads' counts of steps differ, item 4 of the change requests, each with the report and the whole log. Worked out by hand
 -- from the papers. Assumes nothing.
-use mathlib.Core.List.{List, [], _∷_, _++_}
+use mathlib.Core.Path.{_≡_, refl}
+use mathlib.Core.List.{List, [], _∷_, _++_, map}
 use Prim.Native.Nat.{ℕ}
 use lib.ListN.{replicate}
-use Rattle.spec.specs.Examples.{Worked, lines}
+use Rattle.spec.specs.LaunchFile.{fileLaunch}
+use Rattle.spec.proofs.Lines.{lines}
+use Rattle.spec.proofs.Computing.{computing}
+use Rattle.workedlaunches.proofs.Worked.{Worked, computed, expected, finalLog, allSteps}
 
 unfoldable pub stepExamples : List Worked
 stepExamples =
@@ -104,3 +108,11 @@ stepExamples =
 -- The steps of all threads together, in each of them.
 unfoldable pub stepSums : List ℕ
 stepSums = 26 ∷ 34 ∷ 27 ∷ 41 ∷ 19 ∷ 22 ∷ 20 ∷ 4 ∷ 14 ∷ 11 ∷ 16 ∷ 161 ∷ []
+
+pub worked-steps : map computed stepExamples ≡ map expected stepExamples
+unfolding computing computed expected finalLog stepExamples
+worked-steps = refl
+
+pub worked-sums : map (λ x. allSteps (fileLaunch (x .file))) stepExamples ≡ stepSums
+unfolding computing allSteps stepExamples stepSums
+worked-sums = refl

@@ -1,11 +1,20 @@
 -- Worked launches of several groups and with global cells, item 7 of the change requests, each with all that it ends with. Worked out by hand from the papers:
 -- group 0 row by row, then group 1 from row 0 with all it starts anew, and so on. Assumes nothing.
-use mathlib.Core.List.{List, [], _∷_, _++_}
+use mathlib.Core.Path.{_≡_, refl}
+use mathlib.Core.List.{List, [], _∷_, _++_, map}
 use Prim.Native.Nat.{ℕ}
 use lib.ListN.{replicate}
-use Rattle.spec.specs.Answers.{Verdict, Passed, Race, GroupRace, Outside, Diverged, Spent, ReadWrite, WriteRead, WriteWrite}
-use Rattle.spec.specs.Table.{Table, Row, rowOf}
+use Rattle.spec.specs.declared.AccessKind.the-variants.{ReadWrite, WriteRead, WriteWrite}
+use Rattle.spec.specs.declared.Verdict.{Verdict}
+use Rattle.spec.specs.declared.Verdict.the-variants.{Passed, Race, GroupRace, Outside, Diverged, Spent}
+use Rattle.spec.specs.Table.{Table, rowOf}
 use Rattle.spec.specs.Shape.{Sizes, sizes}
+use Rattle.spec.specs.Log.{logKinds}
+use Rattle.spec.specs.LaunchRun.{lockstep, lastGroup, stepsByLaunch}
+use Rattle.spec.specs.Intervals.{intervalRecords, recordWords}
+use Rattle.spec.proofs.GlobalRows.{globalLoad, globalStore, globalAdd, growing, numbering}
+use Rattle.spec.proofs.GroupTable.{maskWords}
+use Rattle.spec.proofs.Computing.{computing}
 
 -- What a launch ends with: verdict, group and row where it ended; counts; steps by launch number; cells; the log by kind (readers, writers, adders, first
 -- values, marks) and the group masks (readers, writers, adders); the records of its intervals, three words each. Cells stand group by group, then the
@@ -28,28 +37,6 @@ pub record GroupLaunch : Type 0 where
   pub cells : List ℕ
   pub limit : ℕ
   pub ends : Ending
-
--- Rows that access the global cells: Rd = cell Ra; cell Rd = Ra; cell Rd grows by Ra.
-unfoldable pub globalLoad : (d a : ℕ) → Row
-globalLoad d a = rowOf 20 d a 0
-
-unfoldable pub globalStore : (d a : ℕ) → Row
-globalStore d a = rowOf 21 d a 0
-
-unfoldable pub globalAdd : (d a : ℕ) → Row
-globalAdd d a = rowOf 22 d a 0
-
--- Rd = the launch number.
-unfoldable pub launchTid : (d : ℕ) → Row
-launchTid d = rowOf 19 d 0 0
-
--- SET R1 = 2, and global cell 0 grows by it.
-unfoldable pub growing : Table
-growing = rowOf 1 1 2 0 ∷ globalAdd 0 1 ∷ []
-
--- R0 = TID and R1 = launch number; own cell R0 = R1, and global cell R1 = R0.
-unfoldable pub numbering : Table
-numbering = rowOf 2 0 0 0 ∷ launchTid 1 ∷ rowOf 17 0 1 0 ∷ globalStore 1 0 ∷ []
 
 unfoldable pub groupExamples : List GroupLaunch
 groupExamples =
@@ -518,3 +505,26 @@ groupExamples =
       };
     }
     ∷ []
+
+unfoldable pub ending : GroupLaunch → Ending
+ending x =
+    let T = x .table in
+    let Z = x .sizes in
+    let o = lockstep T Z (x .cells) (x .limit) in
+    let s = o .state in
+    record {
+      verdict = o .verdict;
+      group = lastGroup T Z (x .cells) (x .limit);
+      row = s .row;
+      rows = s .rows;
+      barriers = s .barriers;
+      steps = stepsByLaunch T Z (x .cells) (x .limit);
+      cells = s .cells;
+      log = logKinds (s .log);
+      groupMasks = maskWords (s .groupLog);
+      records = recordWords (intervalRecords T Z (x .cells) (x .limit));
+    }
+
+pub worked-groups : map ending groupExamples ≡ map (λ x. x .ends) groupExamples
+unfolding computing maskWords ending groupExamples
+worked-groups = refl

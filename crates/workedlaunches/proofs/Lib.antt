@@ -1,0 +1,11 @@
+pub mod Worked
+pub mod Examples
+pub mod RunExamples
+pub mod AddExamples
+pub mod ShiftExamples
+pub mod StepExamples
+pub mod ConflictExamples
+pub mod StoreExamples
+pub mod GroupExamples
+pub mod GroupFiles
+pub mod LargeLaunches
