@@ -27,7 +27,7 @@ use Rattle.spec.proofs.Laws.{front-of}
 use Rattle.structure.proofs.Refusals.{unless-none, orElse-none}
 use Rattle.readback.proofs.Runs.{file-readable, launch-printed, report-demand3}
 use Rattle.reader.specs.Answer.{endAt}
-use Rattle.launch.proofs.Ready.{runnable}
+use Rattle.reader.proofs.Ready.{runnable}
 use Rattle.launchrun.specs.Launches.{sizesBy}
 use Rattle.launchfile.specs.declared.Parsed.{Parsed}
 use Rattle.launchfile.specs.Parsed.{linesRead, ReadAs, ParsedIs, AcceptedAs}
