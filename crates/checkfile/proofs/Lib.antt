@@ -1,3 +1,1 @@
-pub mod Front
-pub mod Running
 pub mod Whole

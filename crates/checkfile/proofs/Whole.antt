@@ -27,12 +27,12 @@ use Rattle.spec.proofs.Laws.{front-of}
 use Rattle.structure.proofs.Refusals.{unless-none, orElse-none}
 use Rattle.readback.proofs.Runs.{file-readable, launch-printed, report-demand3}
 use Rattle.reader.specs.Answer.{endAt}
-use Rattle.launch.proofs.Ready.{runnable}
+use Rattle.reader.proofs.Ready.{runnable}
 use Rattle.launchrun.specs.Launches.{sizesBy}
 use Rattle.launchfile.specs.declared.Parsed.{Parsed}
 use Rattle.launchfile.specs.Parsed.{linesRead, ReadAs, ParsedIs, AcceptedAs}
 use Rattle.launchfile.proofs.Whole.{whole-file}
-use Rattle.checkfile.specs.Reported.{Asks, launchOf, ReportedLaunch}
+use Rattle.filerun.specs.Reported.{Asks, launchOf, ReportedLaunch}
 
 -- What the reader's answer says of the lines.
 lines-refused : (x : Read Launch) (p : Parsed) (why : Refusal) → ReadAs x p → p .answer ≡ admission.Refused why → x ≡ stop why

@@ -3,3 +3,4 @@ pub mod Passing
 pub mod Noting
 pub mod Constructs
 pub mod Whole
+pub mod Ready

@@ -8,7 +8,7 @@ use Rattle.spec.specs.Shape.{Sizes, sizes}
 use Rattle.spec.specs.Entries.{bareNumbers}
 use Rattle.admission.specs.Refusing.{refusalOf}
 use Rattle.launch.proofs.Bare.{fine, readable, lent-is, numbers-refuse, table-refuses, state-refuses, ran}
-use Rattle.launch.proofs.Ready.{runnable}
+use Rattle.reader.proofs.Ready.{runnable}
 use borrow.Author.Needs.{needs}
 use Rattle.launch.proofs.bare_launch.Statement.{statement}
 use Rattle.launch.proofs.bare_launch.Tie as tie

@@ -21,9 +21,9 @@ use Rattle.launchrun.specs.Launches.{RunIs, sizesBy}
 use Rattle.report.specs.Subjects.{ran, FitsOutput}
 use Rattle.report.proofs.Entry.{lines-right, fitting}
 use Rattle.reportlines.proofs.Writing.{over-length}
-use Rattle.checkfile.specs.Reported.{Asks, launchOf, ReportedLaunch}
+use Rattle.filerun.specs.Reported.{Asks, launchOf, ReportedLaunch}
 use Rattle.layout.specs.Views.{putPart}
-use Rattle.checkfile.proofs.Front.{front-kept, given-back, given-back-over, placed-over}
+use Rattle.filerun.proofs.Front.{front-kept, given-back, given-back-over, placed-over}
 
 -- The writer has room for the report of as many threads and cells as a launch has.
 module _ (o : Outcome) (steps cells global output : List ℕ) where

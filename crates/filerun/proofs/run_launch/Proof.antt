@@ -1,13 +1,13 @@
--- `checkfile::run_launch` meets its contract. The fronts of the lent buffers are the run's. Assumes nothing.
+-- `filerun::run_launch` meets its contract. The fronts of the lent buffers are the run's. Assumes nothing.
 use mathlib.Core.Path.{_≡_, ap, sym, _∙_}
 use Prim.Native.Nat.{_+_, _*_, _≤_}
 use native.Mathlib.Omega.{arith}
 use borrow.Author.Needs.{needs}
 use lib.ListN.{length, take}
-use Rattle.checkfile.proofs.Front.{front-length, as-long, placed-over}
-use Rattle.checkfile.proofs.Running.{placed-room, threads-few, counts-long, run, reported}
-use Rattle.checkfile.proofs.run_launch.Statement.{statement}
-use Rattle.checkfile.proofs.run_launch.Tie as tie
+use Rattle.filerun.proofs.Front.{front-length, as-long, placed-over}
+use Rattle.filerun.proofs.Running.{placed-room, threads-few, counts-long, run, reported}
+use Rattle.filerun.proofs.run_launch.Statement.{statement}
+use Rattle.filerun.proofs.run_launch.Tie as tie
 
 -- Own cells, global cells and the log have room for the launch's.
 own-few : (c : tie.Start) → length (c .args .words .now) ≤ 1024

@@ -1,10 +1,10 @@
--- `checkfile::all_threads` meets its contract. Assumes nothing.
+-- `filerun::all_threads` meets its contract. Assumes nothing.
 use Prim.Native.Nat.{_*_, _≤_}
 use native.Mathlib.Omega.{arith}
-use Rattle.checkfile.proofs.Running.{threads-few}
+use Rattle.filerun.proofs.Running.{threads-few}
 use borrow.Author.Needs.{needs}
-use Rattle.checkfile.proofs.all_threads.Statement.{statement}
-use Rattle.checkfile.proofs.all_threads.Tie as tie
+use Rattle.filerun.proofs.all_threads.Statement.{statement}
+use Rattle.filerun.proofs.all_threads.Tie as tie
 
 few : (c : tie.Start) → c .args .groups * c .args .threads ≤ 256
 few c = threads-few (c .args .groups) (c .args .threads) (c .pre .0) (c .pre .1)
