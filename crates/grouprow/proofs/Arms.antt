@@ -30,7 +30,8 @@ use Rattle.step.proofs.Registers.{regs-accessed}
 use Rattle.step.proofs.Recorded.{recorded-plain}
 use Rattle.step.proofs.Tables.{compute-asks}
 use Rattle.step.proofs.Arms.{tested-small, compute-row-is, access-row-is, construct-row-is, barrier-row-is}
-use Rattle.grouprow.specs.Rows.{GroupReady, GroupSteps, Numbered, LaunchDone, GlobalDone, GlobalRowAsks}
+use Rattle.launchrows.specs.LaunchRows.{Numbered, LaunchDone, GlobalDone}
+use Rattle.grouprow.specs.Rows.{GroupReady, GroupSteps, GlobalRowAsks}
 use Rattle.grouprow.proofs.RowKinds.{step-done, launch-done, global-done, accessed-counts, accessed-free}
 
 module _ (table ends : List ℕ) (n group : ℕ) (s : State) (regs cells log saved openers global shared masks : List ℕ)

@@ -29,7 +29,8 @@ use Rattle.compute.proofs.Turns.{launch-did}
 use Rattle.intervals.specs.Records.{recordsAfter}
 use Rattle.step.proofs.Tables.{row-here, inside-row}
 use Rattle.step.proofs.Recorded.{after-plain}
-use Rattle.grouprow.specs.Rows.{LaunchRowAsks, GlobalRowAsks, Numbered, LaunchDone, GlobalDone}
+use Rattle.launchrows.specs.LaunchRows.{Numbered, LaunchDone, GlobalDone}
+use Rattle.grouprow.specs.Rows.{LaunchRowAsks, GlobalRowAsks}
 
 -- Bytes 0 to 18 and 32 to 36 are rows of a group alone: one computed test for each stretch.
 own-low : allBelow (λ k. isOwnRow (opOf k)) 19 ≡ true

@@ -8,16 +8,13 @@ use Rattle.spec.specs.Op.{CALC, LAUNCHTID, OWN, GLOBAL, Mem, MEM, WHILE, opOf}
 use Rattle.spec.specs.Shape.{Shape}
 use Rattle.spec.specs.Table.{rowsOf, rowAt, endOf}
 use Rattle.spec.specs.LockStep.{LockState, runRow}
-use Rattle.layout.specs.declared.Access.{Access}
-use Rattle.layout.specs.declared.Access.the-variants.{Done}
 use Rattle.layout.specs.declared.State.{State}
 use Rattle.layout.specs.declared.Next.{Next}
-use Rattle.layout.specs.Memory.{KeptBut, Puts, computedLane}
-use Rattle.layout.specs.Shared.{GlobalAll}
-use Rattle.layout.specs.Represents.{Room, Counts, DepthAsks, accessed}
+use Rattle.layout.specs.Represents.{Room, Counts, DepthAsks}
 use Rattle.layout.specs.Running.{RowAsks, RegsAfter}
 use Rattle.layout.specs.Constructs.{savedAfter, openersAfter}
 use Rattle.layout.specs.Groups.{GroupStands, GroupAfter}
+use Rattle.launchrows.specs.LaunchRows.{Numbered}
 
 -- The bytes of a row that gives the launch number.
 pub record LaunchRowAsks (op d : ℕ) : Type 0 where
@@ -61,10 +58,6 @@ pub record GroupReady (table ends : List ℕ) (n group : ℕ) (s : State) (regs 
   pub threads-are : shape .threads ≡ n
   pub stands : GroupStands shape state s regs cells log saved openers global shared masks
 
--- The launch numbers in the lanes of register d that a computing row stores to; all else is as it was.
-abbrev pub Numbered : (n group mask d : ℕ) → (regs regs′ : List ℕ) → Type 0
-Numbered n group mask d regs regs′ = Puts d (computedLane LAUNCHTID group n mask d 0 0 regs) regs regs′ 32
-
 -- The registers after a row: as a group alone has them, but for the launch number.
 pub record GroupRegsAfter (op n group mask d a b : ℕ) (regs regs′ : List ℕ) : Type 0 where
   pub numbered : op ≡ 19 → Numbered n group mask d regs regs′
@@ -81,12 +74,3 @@ pub record GroupSteps (table : List ℕ) (n group : ℕ) (s : State) (regs cells
       (getD table (s .row * 4 + 3) 0) regs regs′
   pub saved-are : saved′ ≡ savedAfter (getD table (s .row * 4) 0) s saved openers
   pub openers-are : openers′ ≡ openersAfter (getD table (s .row * 4) 0) s openers
-
--- A row of the launch number in state s: the state after it, and the registers.
-abbrev pub LaunchDone : (n group d : ℕ) → State → (regs : List ℕ) → Next → (regs′ : List ℕ) → Type 0
-LaunchDone n group d s regs r regs′ = (r ≡ accessed s Done) × Numbered n group (s .mask) d regs regs′
-
--- A row's accesses of global cells by op, in state s: what they come to, and the state after them.
-abbrev pub GlobalDone : (op n group d a : ℕ) → State → (regs global shared masks : List ℕ) → Next → (regs′ global′ shared′ masks′ : List ℕ) → Type 0
-GlobalDone op n group d a s regs global shared masks r regs′ global′ shared′ masks′ =
-    (x : Access) × (r ≡ accessed s x) × GlobalAll (op - 4) n (s .mask) d a group regs global shared masks x regs′ global′ shared′ masks′ × KeptBut d n regs regs′

@@ -1,57 +1,12 @@
-// One row of a group of a launch, by its op. Over its own cells it is a row of a group alone; the launch number and rows that name global cells stand here.
-ghost use mathlib.Core.Path.{_≡_};
-ghost use Prim.Native.Nat.{_+_, _-_, _*_, _^_, _<_, _≤_};
-ghost use lib.ListN.{length, getD};
-ghost use Rattle.layout.specs.Represents.{Room, accessed};
-ghost use Rattle.layout.specs.Shared.{GlobalAsks};
+// One row of a group of a launch, by its op: over its own cells a row of a group alone, or a row of the launch.
+ghost use Prim.Native.Nat.{_+_, _*_};
+ghost use lib.ListN.{getD};
 ghost use Rattle.layout.specs.Counting.{Roomy, NextCounted};
 ghost use Rattle.banks.specs.Counting.{Older};
 ghost use Rattle.banks.specs.Remembering.{Memo};
 ghost use Rattle.intervals.specs.Records.{RecordAsks};
 ghost use Rattle.step.specs.Recording.{RowRecorded, cellDue};
-ghost use Rattle.grouprow.specs.Rows.{GroupReady, GroupSteps, LaunchDone, GlobalDone};
-
-// The state after a row's accesses of global cells.
-fn after_access(c: layout::Access, s: layout::State) -> layout::Next
-    requires { ⌜ Room s ⌝ }
-    ensures { λ r. ⌜ r ≡ accessed s c ⌝ }
-{
-    match c {
-        layout::Access::Done => layout::Next::Go(constructs::moved(s)),
-        layout::Access::Stop(v) => layout::Next::Stop(s, v),
-    }
-}
-
-// Op 19: the launch number of each enabled thread.
-fn launch_row(regs: &mut [u32; 512], n: u32, group: u32, d: usize, s: layout::State) -> layout::Next
-    requires { ⌜ Room s × (n ≤ 32) × (group < 8) × (d < 16) × (length (now regs) ≡ 512) ⌝ }
-    ensures { λ r. ⌜ LaunchDone n group d s (now (regs .entry)) r (now (regs .exit)) ⌝ }
-{
-    compute::launch_row(regs, group, n, s.mask, d);
-    layout::Next::Go(constructs::moved(s))
-}
-
-// Ops 20 to 22: what ops 16 to 18 do with own cells, with global ones.
-fn global_row(
-    regs: &mut [u32; 512],
-    global: &mut [u32],
-    shared: &mut [u32],
-    masks: &mut [u32],
-    n: u32,
-    group: u32,
-    op: u8,
-    d: usize,
-    a: usize,
-    s: layout::State,
-) -> layout::Next
-    requires { ⌜ Room s × (n ≤ 32) × (s .mask < 2 ^ n) × (group < 8) × (4 ≤ op) × GlobalAsks (op - 4) d a (now global) (now shared) (now masks) ⌝ }
-    ensures { λ r. ⌜ GlobalDone op n group d a s (now (regs .entry)) (now (global .entry)) (now (shared .entry)) (now (masks .entry)) r
-        (now (regs .exit)) (now (global .exit)) (now (shared .exit)) (now (masks .exit)) ⌝ }
-{
-    let r = globals::access_row(regs, global, shared, masks, n, s.mask, op - 4, d, a, group);
-    let c = r.access;
-    after_access(c, s)
-}
+ghost use Rattle.grouprow.specs.Rows.{GroupReady, GroupSteps};
 
 // The op is told apart once, outside the loops over the threads; the shorter a row of an op is, the sooner it is told apart.
 pub fn group_row(
@@ -115,7 +70,7 @@ pub fn group_row(
         );
     }
     if op == 19 {
-        return launch_row(regs, n, group, d, s);
+        return launchrows::launch_row(regs, n, group, d, s);
     }
-    global_row(regs, global, shared, masks, n, group, op, d, a, s)
+    launchrows::global_row(regs, global, shared, masks, n, group, op, d, a, s)
 }

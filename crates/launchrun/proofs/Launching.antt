@@ -46,7 +46,8 @@ use Rattle.grouprun.specs.declared.Ended.{Ended}
 use Rattle.grouprun.specs.Groups.{GroupStart, GroupEnd, GroupRan, SomeStart, followed}
 use Rattle.spec.specs.declared.Outcome.{Outcome}
 use Rattle.groupturn.specs.Turns.{TurnDone}
-use Rattle.launchrun.specs.Launches.{placedLog, Closed, LaunchIs}
+use Rattle.launchend.specs.Ends.{placedLog, Closed}
+use Rattle.launchrun.specs.Launches.{LaunchIs}
 use Rattle.launchrun.proofs.Buffers.{Buffers, withRecords}
 use Rattle.launchrun.proofs.Stretches.{one-group-log}
 use Rattle.launchrun.proofs.Between.{cells-rebuilt, next-log, next-sized, masks-kept, whole-log}

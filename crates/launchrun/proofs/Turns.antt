@@ -16,7 +16,8 @@ use Rattle.intervals.specs.Records.{inUse, released}
 use Rattle.grouprun.specs.declared.Ended.{Ended}
 use Rattle.groupturn.specs.Turns.{TurnAsks, TurnDone}
 use Rattle.spec.specs.declared.Outcome.{Outcome}
-use Rattle.launchrun.specs.Launches.{CloseAsks, Closed, LaunchAsks, LaunchIs, Fresh, sizesBy}
+use Rattle.launchend.specs.Ends.{CloseAsks, Closed}
+use Rattle.launchrun.specs.Launches.{LaunchAsks, LaunchIs, Fresh, sizesBy}
 use Rattle.launchrun.proofs.Buffers.{Buffers, withRecords, Kept}
 use Rattle.launchrun.proofs.Launching.{Launched, later, later-over, some-start, place-in, threads-in, ending, ledger-began, launched-next, close-ends, launched-end}
 

@@ -1,26 +1,29 @@
 -- `sekufoyi::sekufoyi_bare_launch` meets its contract. What is told is the entry's answer. Assumes nothing.
-use Rattle.sekufoyi.proofs.Telling.{refusal-told, run-told, refusal-runs, run-runs}
+use Rattle.spec.specs.Shape.{Sizes, sizes}
+use Rattle.sekufoyi.proofs.Telling.{refused, ran}
 use borrow.Author.Needs.{needs}
 use Rattle.sekufoyi.proofs.sekufoyi_bare_launch.Statement.{statement}
 use Rattle.sekufoyi.proofs.sekufoyi_bare_launch.Tie as tie
 
+-- The sizes that are handed in.
+abbrev given : (c : tie.Start) → Sizes
+given c = sizes (c .args .threads) (c .args .count) (c .args .groups) (c .args .shared)
+
 returns : tie.Need-returns
 returns c =
-    let why = c .before .before .before .why in
-    let bare-launch = c .before .before .before .before .before .before .before .before .before .before .before .before .before .bare-launch in
-    let t = refusal-told _ _ (bare-launch .ensures .0) _ _ (why .given .1) (c .words .ensures) in
-    let buffers = bare-launch .ensures .1 .1 in
-    (t .0, (t .1 .0, (t .1 .1, (buffers .0, (buffers .1 .0, (buffers .1 .1 .0, (buffers .1 .1 .1 .0, (buffers .1 .1 .1 .1 .0, refusal-runs))))))))
+    let at-run = c .before .before .before .before .before .before .before .before .before .before .before .before .before in
+    let start = at-run .before .before .before .before .before .before .before .before .before .before .before in
+    let args = start .args in
+    refused (args .table .now) (given start) (args .limit) (args .cells .now) (args .global .now) (args .log .now) (args .records .now) (args .steps .now)
+    (at-run .bare-launch .result) _ _ _ _ _ (at-run .bare-launch .ensures) _ _ (c .before .before .before .why .given .1) (c .words .ensures)
 
 returns-2 : tie.Need-returns-2
 returns-2 c =
-    let ended = c .before .before .before .ended in
-    let bare-launch = c .before .before .before .before .before .before .before .before .before .before .before .before .before .bare-launch in
-    let words = c .before .outcome-words .ensures in
-    let t = run-told _ _ (bare-launch .ensures .0) _ _ (ended .given .1) words in
-    let buffers = bare-launch .ensures .1 .1 in
-    let runs = run-runs _ _ _ _ _ _ _ _ _ _ _ (ended .given .1) words (buffers .1 .1 .1 .1 .1) in
-    (t .0, (t .1 .0, (t .1 .1, (buffers .0, (buffers .1 .0, (buffers .1 .1 .0, (buffers .1 .1 .1 .0, (buffers .1 .1 .1 .1 .0, runs))))))))
+    let at-run = c .before .before .before .before .before .before .before .before .before .before .before .before .before in
+    let start = at-run .before .before .before .before .before .before .before .before .before .before .before in
+    let args = start .args in
+    ran (args .table .now) (given start) (args .limit) (args .cells .now) (args .global .now) (args .log .now) (args .records .now) (args .steps .now)
+    (at-run .bare-launch .result) _ _ _ _ _ (at-run .bare-launch .ensures) _ _ (c .before .before .before .ended .given .1) (c .before .outcome-words .ensures)
 
 pub sekufoyi-bare-launch-spec : {M : Type 1} → statement M
 sekufoyi-bare-launch-spec =

@@ -1,12 +1,12 @@
--- `launchrun::goes_on` meets its contract. Assumes nothing.
+-- `launchend::goes_on` meets its contract. Assumes nothing.
 use mathlib.Core.Path.{ap, sym}
 use mathlib.Core.Bool.{true≢false}
 use mathlib.Core.Logic.{inl, inr}
 use borrow.Author.Tests.{ltb-true, ltb-false}
 use Rattle.spec.specs.Answers.{isPassed}
 use borrow.Author.Needs.{needs}
-use Rattle.launchrun.proofs.goes_on.Statement.{statement}
-use Rattle.launchrun.proofs.goes_on.Tie as tie
+use Rattle.launchend.proofs.goes_on.Statement.{statement}
+use Rattle.launchend.proofs.goes_on.Tie as tie
 
 returns : tie.Need-returns
 unfolding isPassed

@@ -1,7 +1,7 @@
--- `grouprow::global_row` meets its contract. Assumes nothing.
+-- `launchrows::global_row` meets its contract. Assumes nothing.
 use borrow.Author.Needs.{needs}
-use Rattle.grouprow.proofs.global_row.Statement.{statement}
-use Rattle.grouprow.proofs.global_row.Tie as tie
+use Rattle.launchrows.proofs.global_row.Statement.{statement}
+use Rattle.launchrows.proofs.global_row.Tie as tie
 
 returns : tie.Need-returns
 returns c =

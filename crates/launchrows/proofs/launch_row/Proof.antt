@@ -1,9 +1,9 @@
--- `grouprow::launch_row` meets its contract. Assumes nothing.
+-- `launchrows::launch_row` meets its contract. Assumes nothing.
 use mathlib.Core.Path.{ap}
 use Rattle.layout.specs.declared.Next.the-variants as next
 use borrow.Author.Needs.{needs}
-use Rattle.grouprow.proofs.launch_row.Statement.{statement}
-use Rattle.grouprow.proofs.launch_row.Tie as tie
+use Rattle.launchrows.proofs.launch_row.Statement.{statement}
+use Rattle.launchrows.proofs.launch_row.Tie as tie
 
 returns : tie.Need-returns
 returns c = (ap next.Go (c .moved .ensures), c .before .launch-row .ensures)

@@ -1,4 +1,4 @@
--- `launchrun::close` meets its contract. Assumes nothing.
+-- `launchend::close` meets its contract. Assumes nothing.
 use mathlib.Core.Path.{_≡_, refl, sym, ap, _∙_}
 use Prim.Native.Nat.{_+_, _*_, _≤_}
 use native.Mathlib.Omega.{arith}
@@ -6,8 +6,8 @@ use lib.ListN.{length}
 use Rattle.placing.specs.Kinds.{kindsPlaced}
 use Rattle.placing.proofs.KindLaws.{kinds-size}
 use borrow.Author.Needs.{needs}
-use Rattle.launchrun.proofs.close.Statement.{statement}
-use Rattle.launchrun.proofs.close.Tie as tie
+use Rattle.launchend.proofs.close.Statement.{statement}
+use Rattle.launchend.proofs.close.Tie as tie
 
 returns : tie.Need-returns
 returns c =

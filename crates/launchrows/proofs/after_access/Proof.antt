@@ -1,10 +1,10 @@
--- `grouprow::after_access` meets its contract. Assumes nothing.
+-- `launchrows::after_access` meets its contract. Assumes nothing.
 use mathlib.Core.Path.{sym, ap, _∙_}
 use Rattle.layout.specs.declared.Next.the-variants as next
 use Rattle.layout.specs.Represents.{accessed}
 use borrow.Author.Needs.{needs}
-use Rattle.grouprow.proofs.after_access.Statement.{statement}
-use Rattle.grouprow.proofs.after_access.Tie as tie
+use Rattle.launchrows.proofs.after_access.Statement.{statement}
+use Rattle.launchrows.proofs.after_access.Tie as tie
 
 returns : tie.Need-returns
 returns c =
