@@ -33,7 +33,7 @@ use Rattle.layout.specs.Logging.{testedWord, kindWord, enteredWords}
 use Rattle.layout.proofs.LogBuffer.{conflict-size}
 use Rattle.layout.proofs.Reach.{or-left, or-right}
 use Rattle.layout.proofs.Turning.{Turns, kept-none, turn-stop}
-use Rattle.accesslog.proofs.LogTests.{which, mem-load, mem-store, mem-add, conflict-means, entered-means, kind-means}
+use Rattle.layout.proofs.LogTests.{which, mem-load, mem-store, mem-add, conflict-means, entered-means, kind-means}
 
 -- What a STORE and an ATOMIC ADD leave in the cell.
 pub cell-by-store : (op old word : ℕ) → op ≡ 17 → cellBy op old word ≡ word

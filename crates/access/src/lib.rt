@@ -97,7 +97,7 @@ pub fn make(
     let j = index(t);
     let i = index(x);
     let n = cells.len();
-    accesslog::enter(log, n, i, bit, regs[a * 32 + j], op);
+    logentry::enter(log, n, i, bit, regs[a * 32 + j], op);
     transfer(regs, cells, j, i, op, d, a);
 }
 

@@ -191,7 +191,7 @@ pub fn barrier_row(log: &mut [u32], cells: usize, n: u32, s: layout::State) -> l
     let mask = s.mask;
     let all = masks::all(n);
     if mask == all {
-        accesslog::clear_cells(log, cells, s.reach as usize + 1);
+        logclear::clear_cells(log, cells, s.reach as usize + 1);
         return layout::Next::Go(layout::State {
             reach: 0,
             row: s.row + 1,

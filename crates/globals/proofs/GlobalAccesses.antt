@@ -30,7 +30,7 @@ use Rattle.layout.proofs.GlobalTurn.{group-conflict-at, group-kind-at, globalSt
 use Rattle.layout.proofs.GlobalStates.{only-none, groups-are, put-memory, put-kept, put-only}
 use Rattle.layout.proofs.Turning.{kept-none}
 use Rattle.access.proofs.Accesses.{goes-alone, number-is, goes-turn}
-use Rattle.accesslog.proofs.LogTests.{mode-means}
+use Rattle.layout.proofs.LogTests.{mode-means}
 
 -- An access that goes on in the group has its cell among the global ones.
 pub group-asks : (op d a v bit x i : ℕ) (cells log masks : List ℕ) → GlobalAsks op d a cells log masks → goesOn op v bit x cells log ≡ true → i ≡ x

@@ -11,7 +11,7 @@ use Rattle.spec.specs.Access.{Mode, reads, writes, adds, agree}
 use Rattle.spec.specs.Log.{shownKind}
 use Rattle.layout.specs.Logging.{modeOf, rank, placeOf, wordOf, hasBit, maskEntered}
 use Rattle.layout.specs.Shared.{GroupAsks, groupsMet, rivalsWord, groupKindWord}
-use Rattle.accesslog.proofs.LogTests.{word-reads, word-writes}
+use Rattle.layout.proofs.LogTests.{word-reads, word-writes}
 
 -- The groups that an access meets: by a LOAD writers and adders, by a STORE all, by an ATOMIC ADD writers and readers.
 module _ (op k i bit : ℕ) (masks : List ℕ) where

@@ -33,6 +33,6 @@ pub fn enter(masks: &mut [u32], cells: usize, i: usize, bit: u32, op: u8)
     requires { ⌜ GroupAsks op cells i (now masks) ⌝ }
     ensures { λ _. ⌜ now (masks .exit) ≡ maskEntered op cells i bit (now (masks .entry)) ⌝ }
 {
-    let p = accesslog::place(cells, i, op);
+    let p = logentry::place(cells, i, op);
     masks[p] = masks[p] | bit;
 }

@@ -20,7 +20,7 @@ use Rattle.spec.proofs.Laws.{map-members, byte-if, byte-else, byte-endif, byte-
 use Rattle.spec.proofs.UsedCells.{Below, used-below}
 use Rattle.banks.specs.Counting.{AllCells}
 use Rattle.allruns.proofs.Counts.{passes, passedAt, grown}
-use Rattle.accesslog.proofs.LogTests.{mem-load, mem-store, mem-add, which}
+use Rattle.layout.proofs.LogTests.{mem-load, mem-store, mem-add, which}
 use Rattle.layout.specs.Memory.{Memory, cellIn}
 use Rattle.layout.specs.Running.{RowAsks}
 use Rattle.layout.specs.declared.State.{State}

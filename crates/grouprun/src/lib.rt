@@ -80,8 +80,8 @@ pub fn run_group(
     let mut regs: [u32; 512] = [0; 512];
     let mut saved: [u32; 8] = [0; 8];
     let mut openers: [usize; 8] = [0; 8];
-    accesslog::clear(log, cells.len());
-    accesslog::clear(shared, global.len());
+    logclear::clear(log, cells.len());
+    logclear::clear(shared, global.len());
     *counts = [0; 32];
     let mut s = start(n, rows, barriers);
     while s.row < count {

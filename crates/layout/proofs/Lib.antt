@@ -5,6 +5,7 @@ pub mod RowSizes
 pub mod OwnRows
 pub mod Buffers
 pub mod LogBuffer
+pub mod LogTests
 pub mod GroupBuffer
 pub mod GlobalTurn
 pub mod Reach

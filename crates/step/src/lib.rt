@@ -175,7 +175,7 @@ fn next_interval(
 {
     if s.barriers < z.barriers {
         intervals::release(records, s.barriers + group, z.row as u32, z.rows);
-        accesslog::clear(shared, global);
+        logclear::clear(shared, global);
     }
 }
 

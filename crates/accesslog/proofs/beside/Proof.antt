@@ -2,7 +2,7 @@
 use mathlib.Core.Path.{sym, ap}
 use Prim.Native.Nat.{ℕ}
 use lib.Bits.{bitOr}
-use Rattle.accesslog.proofs.LogTests.{beside-load, beside-store, beside-add}
+use Rattle.layout.proofs.LogTests.{beside-load, beside-store, beside-add}
 use borrow.Author.Needs.{needs}
 use Rattle.accesslog.proofs.beside.Statement.{statement}
 use Rattle.accesslog.proofs.beside.Tie as tie

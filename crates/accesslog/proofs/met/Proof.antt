@@ -1,5 +1,5 @@
 -- `accesslog::met` meets its contract. Assumes nothing.
-use Rattle.accesslog.proofs.LogTests.{met-alone, met-beside}
+use Rattle.layout.proofs.LogTests.{met-alone, met-beside}
 use borrow.Author.Needs.{needs}
 use Rattle.accesslog.proofs.met.Statement.{statement}
 use Rattle.accesslog.proofs.met.Tie as tie

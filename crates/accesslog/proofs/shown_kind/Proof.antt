@@ -2,7 +2,7 @@
 use mathlib.Core.Path.{refl, sym}
 use mathlib.Core.Bool.{true, false}
 use borrow.Author.Tests.{eq-eqb, ne-eqb}
-use Rattle.accesslog.proofs.LogTests.{is-zero, not-zero, shown-by}
+use Rattle.layout.proofs.LogTests.{is-zero, not-zero, shown-by}
 use Rattle.accesslog.proofs.shown_kind.Statement.{statement}
 use Rattle.accesslog.proofs.shown_kind.Tie as tie
 

@@ -1,6 +1,6 @@
 -- `accesslog::writers_met` meets its contract: one law for each way out. Assumes nothing.
 use mathlib.Core.Path.{sym}
-use Rattle.accesslog.proofs.LogTests.{met-equal, met-marked, met-unequal, met-other}
+use Rattle.layout.proofs.LogTests.{met-equal, met-marked, met-unequal, met-other}
 use borrow.Author.Needs.{needs}
 use Rattle.accesslog.proofs.writers_met.Statement.{statement}
 use Rattle.accesslog.proofs.writers_met.Tie as tie

@@ -1,11 +1,11 @@
--- `accesslog::clear` meets its contract: as many turns as cells. Assumes nothing.
+-- `logclear::clear` meets its contract: as many turns as cells. Assumes nothing.
 use mathlib.Core.Path.{_∙_}
 use native.Mathlib.Nat.{le-refl}
 use native.Mathlib.Omega.{arith}
 use Rattle.spec.proofs.ClearingLaws.{cells-all}
 use borrow.Author.Needs.{needs}
-use Rattle.accesslog.proofs.clear.Statement.{statement}
-use Rattle.accesslog.proofs.clear.Tie as tie
+use Rattle.logclear.proofs.clear.Statement.{statement}
+use Rattle.logclear.proofs.clear.Tie as tie
 
 returns : tie.Need-returns
 returns c =

@@ -1,8 +1,8 @@
--- `accesslog::enter_mark` meets its contract: one law for each way out. Assumes nothing.
-use Rattle.accesslog.proofs.LogTests.{mark-same, mark-other}
+-- `logentry::enter_mark` meets its contract: one law for each way out. Assumes nothing.
+use Rattle.layout.proofs.LogTests.{mark-same, mark-other}
 use borrow.Author.Needs.{needs}
-use Rattle.accesslog.proofs.enter_mark.Statement.{statement}
-use Rattle.accesslog.proofs.enter_mark.Tie as tie
+use Rattle.logentry.proofs.enter_mark.Statement.{statement}
+use Rattle.logentry.proofs.enter_mark.Tie as tie
 
 returns : tie.Need-returns
 returns c = mark-same _ _ _ _ (c .if1 .taken)

@@ -1,4 +1,4 @@
--- `accesslog::clear_cells` meets its contract: the invariant is the promise after i turns. Assumes nothing.
+-- `logclear::clear_cells` meets its contract: the invariant is the promise after i turns. Assumes nothing.
 use mathlib.Core.Path.{_≡_, sym, ap, _∙_}
 use mathlib.Core.Logic.{⊎-elim}
 use Prim.Native.Nat.{ℕ, _-_, _≤_}
@@ -7,8 +7,8 @@ use lib.ListN.{length}
 use Rattle.spec.specs.Log.{cellCleared, cellsCleared}
 use Rattle.spec.proofs.ClearingLaws.{cells-none, cells-more, cells-size, cells-enough}
 use borrow.Author.Needs.{needs}
-use Rattle.accesslog.proofs.clear_cells.Statement.{statement}
-use Rattle.accesslog.proofs.clear_cells.Tie as tie
+use Rattle.logclear.proofs.clear_cells.Statement.{statement}
+use Rattle.logclear.proofs.clear_cells.Tie as tie
 
 abbrev Inv-loop : tie.InvT-loop
 Inv-loop log₀ cells n turns i₀ log i = (i ≤ turns) × (log ≡ cellsCleared cells i log₀)

@@ -1,9 +1,9 @@
--- `accesslog::place` meets its contract. Assumes nothing.
+-- `logentry::place` meets its contract. Assumes nothing.
 use native.Mathlib.Omega.{arith}
-use Rattle.accesslog.proofs.LogTests.{offset-few, place-by}
+use Rattle.layout.proofs.LogTests.{offset-few, place-by}
 use borrow.Author.Needs.{needs}
-use Rattle.accesslog.proofs.place.Statement.{statement}
-use Rattle.accesslog.proofs.place.Tie as tie
+use Rattle.logentry.proofs.place.Statement.{statement}
+use Rattle.logentry.proofs.place.Tie as tie
 
 mul-result : tie.Need-mul-result
 mul-result c =

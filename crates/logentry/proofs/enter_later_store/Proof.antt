@@ -1,13 +1,13 @@
--- `accesslog::enter_later_store` meets its contract. Assumes nothing.
+-- `logentry::enter_later_store` meets its contract. Assumes nothing.
 use mathlib.Core.Path.{_≡_, ap, ap₂, subst, _∙_}
 use Prim.Native.Nat.{ℕ, _+_}
 use native.Mathlib.Omega.{arith}
 use lib.Bits.{bitAnd, bitOr}
 use lib.ListN.{set}
-use Rattle.accesslog.proofs.LogTests.{bit-among, stored-among, stored-later}
+use Rattle.layout.proofs.LogTests.{bit-among, stored-among, stored-later}
 use borrow.Author.Needs.{needs}
-use Rattle.accesslog.proofs.enter_later_store.Statement.{statement}
-use Rattle.accesslog.proofs.enter_later_store.Tie as tie
+use Rattle.logentry.proofs.enter_later_store.Statement.{statement}
+use Rattle.logentry.proofs.enter_later_store.Tie as tie
 
 returns : tie.Need-returns
 returns c =

@@ -1,14 +1,14 @@
--- `accesslog::enter_store` meets its contract. Assumes nothing.
+-- `logentry::enter_store` meets its contract. Assumes nothing.
 use mathlib.Core.Path.{refl, sym, ap, _∙_}
 use Prim.Native.Nat.{ℕ}
 use native.Mathlib.Omega.{arith}
 use lib.Bits.{bitOr, or-self}
 use lib.ListN.{length-set}
 use lib.Pow.{pow-pos}
-use Rattle.accesslog.proofs.LogTests.{stored-among, stored-first}
+use Rattle.layout.proofs.LogTests.{stored-among, stored-first}
 use borrow.Author.Needs.{needs}
-use Rattle.accesslog.proofs.enter_store.Statement.{statement}
-use Rattle.accesslog.proofs.enter_store.Tie as tie
+use Rattle.logentry.proofs.enter_store.Statement.{statement}
+use Rattle.logentry.proofs.enter_store.Tie as tie
 
 returns : tie.Need-returns
 returns c =

@@ -1,9 +1,9 @@
--- `accesslog::enter` meets its contract. Assumes nothing.
+-- `logentry::enter` meets its contract. Assumes nothing.
 use native.Mathlib.Omega.{arith}
-use Rattle.accesslog.proofs.LogTests.{place-inside, entered-by}
+use Rattle.layout.proofs.LogTests.{place-inside, entered-by}
 use borrow.Author.Needs.{needs}
-use Rattle.accesslog.proofs.enter.Statement.{statement}
-use Rattle.accesslog.proofs.enter.Tie as tie
+use Rattle.logentry.proofs.enter.Statement.{statement}
+use Rattle.logentry.proofs.enter.Tie as tie
 
 returns : tie.Need-returns
 returns c = rw (c .before .before .before .before .if1 .taken) (c .before .before .enter-store .ensures)

@@ -1,10 +1,10 @@
--- `accesslog::clear_cell` meets its contract: one `turn-put` for each word of a cell. Assumes nothing.
+-- `logclear::clear_cell` meets its contract: one `turn-put` for each word of a cell. Assumes nothing.
 use native.Mathlib.Omega.{arith}
 use lib.ListN.{length-set}
 use Rattle.spec.proofs.ClearingLaws.{turn-start, turn-put, turn-end}
 use borrow.Author.Needs.{needs}
-use Rattle.accesslog.proofs.clear_cell.Statement.{statement}
-use Rattle.accesslog.proofs.clear_cell.Tie as tie
+use Rattle.logclear.proofs.clear_cell.Statement.{statement}
+use Rattle.logclear.proofs.clear_cell.Tie as tie
 
 slice-write-log-2 : tie.Need-slice-write-log-2
 slice-write-log-2 c = simp length-set (omega arith)
