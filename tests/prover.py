@@ -1,6 +1,6 @@
 """What the scripts that try wrong programs and wrong definitions share: the kit, the crates of this repository, a check of one crate folder, edits, and a place to
 work in."""
-import os, pathlib, re, shutil, subprocess, tempfile, time
+import os, pathlib, re, shutil, subprocess, tempfile, threading, time
 
 root = pathlib.Path(__file__).resolve().parent.parent
 kit = pathlib.Path(os.environ.get("RATTLE_HOME") or pathlib.Path(shutil.which("rt")).resolve().parent.parent)
@@ -27,6 +27,9 @@ class Checked:
     def proved(self):
         return self.status == 0
 
+    def broken_off(self):
+        return self.status < 0
+
     def refused(self):
         return self.status == 1 and re.search("^logic=not-proved", self.said, re.M) is not None
 
@@ -42,8 +45,8 @@ class Checked:
         return [(each[1] or each[3], each[2] or each[4]) for each in found]
 
 
-def check(name, folder, depends, *words):
-    """Checks the crate folder `folder` as the crate `name` over the libraries that this run has proved."""
+def check(name, folder, depends, *words, seconds=None):
+    """Checks the crate folder `folder` as the crate `name` over the libraries that this run has proved. After so many seconds it is broken off."""
     line = [own / "bin" / "rattle", "check", "--crate-name", name, folder / "src" / "lib.rt", "--extern", f"std={own}/rlib/std.rlib"]
     for library in depends:
         at = libraries if (root / "crates" / library).is_dir() else own / "rlib"
@@ -52,8 +55,12 @@ def check(name, folder, depends, *words):
     line += ["--antt-project", kit / "logic" / "antt-project.json", "--logic-built", own / "logic-built", *words]
     with tempfile.TemporaryFile() as out:
         child = subprocess.Popen([str(word) for word in line], stdout=out, stderr=subprocess.STDOUT, stdin=subprocess.DEVNULL)
+        ending = threading.Timer(seconds or 0, child.kill)
+        if seconds:
+            ending.start()
         _, status, use = os.wait4(child.pid, 0)
         child.returncode = os.waitstatus_to_exitcode(status)
+        ending.cancel()
         out.seek(0)
         return Checked(child.returncode, out.read().decode(errors="replace"), use.ru_utime + use.ru_stime)
 
@@ -99,6 +106,15 @@ class Edit:
             (folder / file).write_text(text.replace(old, new))
 
 
+def modules_folder(work):
+    """The folder in which this build of the prover keeps modules, seen by letting it check a crate of one function."""
+    folder = work / "one"
+    (folder / "src").mkdir(parents=True)
+    (folder / "src" / "lib.rt").write_text("pub fn one() -> u8 {\n    1\n}\n")
+    check("one", folder, [], "--incremental", folder / "known")
+    return next((folder / "known").glob("antt-checked-*")).name
+
+
 def proved(name, beside=None):
     """Whether rt has proved the crate in this run. Where the process `beside` is proving crates, this waits for its answer."""
     stamp = root / "target" / "stamp" / name
@@ -116,7 +132,7 @@ def runs(process):
 
 
 def workplace():
-    """A folder for scratch copies, in memory where there is room: the prover then writes what it saves a third faster."""
+    """A folder for scratch copies, in memory where there is room, since each check reads and writes some hundred files."""
     memory = pathlib.Path("/dev/shm")
-    roomy = memory.is_dir() and shutil.disk_usage(memory).free > 2 * 1024**3
+    roomy = memory.is_dir() and os.access(memory, os.W_OK) and shutil.disk_usage(memory).free > 2 * 1024**3
     return tempfile.TemporaryDirectory(dir=memory if roomy else None)
