@@ -1,9 +1,10 @@
 """What the scripts that try wrong programs and wrong definitions share: the kit, the crates of this repository, a check of one crate folder, edits, and a place to
 work in."""
-import os, pathlib, re, shutil, subprocess, tempfile, threading, time
+import os, pathlib, re, shutil, subprocess, sys, tempfile, threading, time
 
 root = pathlib.Path(__file__).resolve().parent.parent
-kit = pathlib.Path(os.environ.get("RATTLE_HOME") or pathlib.Path(shutil.which("rt")).resolve().parent.parent)
+rt = shutil.which("rt") or sys.exit("rt is not on the path")
+kit = pathlib.Path(os.environ.get("RATTLE_HOME") or pathlib.Path(rt).resolve().parent.parent)
 own = kit / "on" / os.uname().machine
 libraries = root / "target" / "rlib"
 
@@ -131,8 +132,15 @@ def runs(process):
         return False
 
 
+def memory():
+    """A folder in memory for scratch files, where there is one with room; else none. The prover writes 150 MB of them for each check and reads them again."""
+    folder = pathlib.Path("/dev/shm")
+    roomy = folder.is_dir() and os.access(folder, os.W_OK) and shutil.disk_usage(folder).free > 4 * 1024**3
+    return folder if roomy else None
+
+
 def workplace():
-    """A folder for scratch copies, in memory where there is room, since each check reads and writes some hundred files."""
-    memory = pathlib.Path("/dev/shm")
-    roomy = memory.is_dir() and os.access(memory, os.W_OK) and shutil.disk_usage(memory).free > 2 * 1024**3
-    return tempfile.TemporaryDirectory(dir=memory if roomy else None)
+    """A folder for scratch copies, which is also where the prover puts its own."""
+    folder = tempfile.TemporaryDirectory(dir=memory())
+    os.environ["TMPDIR"] = folder.name
+    return folder
