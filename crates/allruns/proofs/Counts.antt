@@ -8,7 +8,7 @@ use borrow.Author.Tests.{lt-ltb, le-ltb}
 use lib.Dec.{leb, ltb}
 use lib.ListN.{length, length-append}
 use Rattle.spec.specs.declared.Verdict.{Verdict}
-use Rattle.spec.specs.declared.Verdict.the-variants.{Passed, Race, GroupRace, Outside, Diverged, Spent}
+use Rattle.spec.specs.declared.Verdict.the-variants.{Passed, Race, GroupRace, Outside, Common, Diverged, Spent}
 use Rattle.spec.specs.Op.{Op, CALC, Space, Mem, MEM, IF, ELSE, ENDIF, WHILE, ENDWHILE, BARRIER, UNKNOWN, value}
 use Rattle.spec.specs.Table.{Table, Row, rowAt, endOf}
 use Rattle.spec.specs.Shape.{Shape, launchNumber}
@@ -39,6 +39,7 @@ isSpent Passed = 0
 isSpent (Race t u k c) = 0
 isSpent (GroupRace t h k c) = 0
 isSpent (Outside t c) = 0
+isSpent (Common t c) = 0
 isSpent (Diverged t u) = 0
 isSpent Spent = 1
 
@@ -78,9 +79,10 @@ unfolding computeTurn setReg
 keeps-compute x f s t = (refl, refl)
 
 keeps-access : (L : Shape) (p : Space) (m : Mem) (x : Row) → KeepsCounts (accessTurn L p m x)
-unfolding madeAccess isSpent
+unfolding madeAccess setReg isSpent
 keeps-access L p m x s t =
-    turn-cases L p m x s t (Leaves s (s .rows) (s .barriers)) (λ l. (refl, refl, refl)) (λ o y l a. (refl, refl, refl)) (λ h y l a b. (refl, refl, refl))
+    turn-cases L p m x s t (Leaves s (s .rows) (s .barriers)) (λ l u. (refl, refl, refl)) (λ v l u. (refl, refl)) (λ l u. (refl, refl, refl))
+    (λ o y l a. (refl, refl, refl)) (λ h y l a b. (refl, refl, refl))
     (λ l a b. (refl, refl))
 
 leaves-while : (T : Table) (s : LockState) (v : List Saved) (m : Mask) → Leaves s (suc (s .rows)) (s .barriers) (continues (leaveOrStay T s v m))

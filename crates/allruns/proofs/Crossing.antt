@@ -22,7 +22,7 @@ use Rattle.spec.specs.LaunchRun.{ownCells}
 use Rattle.spec.specs.LaunchThreads.{Part, noPart, partOf, hasMet, barredTo}
 use Rattle.allruns.proofs.Bools.{and-left, and-make, or-left-false, below-same, below-more}
 use Rattle.allruns.proofs.Accesses.{eqb-swap, agree-swap, some-same, some-and, some-append, some-or, some-swap}
-use Rattle.allruns.proofs.Places.{address-reached, out-of-own, shared-is-global}
+use Rattle.allruns.proofs.Places.{address-reached, out-of-own, reach-cases, shared-is-global}
 use Rattle.allruns.proofs.Diamond.{clashes, thread-after, can-count}
 
 -- The cells that a group's effects name: its own and the global ones.
@@ -32,18 +32,10 @@ Reaching L (goes th) = Unit {0}
 Reaching L strays = Unit {0}
 Reaching L (accesses c k d) = reaches L c ≡ true
 
-reach-reaches : (L : Shape) (p : Space) (c : ℕ) (k : Kind) (d : ℕ) → Reaching L (reach L p c k d)
-unfolding reach
-reach-reaches L p c k d = by (ltb c (bound L p)) refl
-  where
-    by : (z : Bool) → ltb c (bound L p) ≡ z → Reaching L (cond z (accesses (address L p c) k d) strays)
-    by true z = address-reached L p c (ltb-true c (bound L p) z)
-    by false z = tt
-
 op-reaches : (T : Table) (L : Shape) (t : ℕ) (th : Thread) (x : Row) (o : Op) → Reaching L (effectOf T L t th x o)
 unfolding effectOf
 op-reaches T L t th x (CALC c) = tt
-op-reaches T L t th x (MEM p m) = reach-reaches L p _ _ _
+op-reaches T L t th x (MEM p m) = reach-cases (Reaching L) L th p _ _ _ (λ l. address-reached L p _ l) tt (λ v q. tt)
 op-reaches T L t th x IF = tt
 op-reaches T L t th x ELSE = tt
 op-reaches T L t th x ENDIF = tt

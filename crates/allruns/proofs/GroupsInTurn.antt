@@ -10,7 +10,7 @@ use lib.Dec.{leb}
 use lib.ListN.{length, getD, set, replicate, length-replicate, getD-replicate, length-append}
 use lib.Seq.{getD-set-other, getD-set-same, set-getD}
 use Rattle.spec.specs.declared.Verdict.{Verdict}
-use Rattle.spec.specs.declared.Verdict.the-variants.{Diverged, GroupRace, Outside, Passed, Race, Spent}
+use Rattle.spec.specs.declared.Verdict.the-variants.{Diverged, GroupRace, Outside, Common, Passed, Race, Spent}
 use Rattle.spec.specs.AllRuns.{isMoveOf, isRelease}
 use Rattle.spec.specs.Answers.{isPassed}
 use Rattle.spec.specs.GroupLog.{emptyGroupLog}
@@ -104,6 +104,7 @@ LaunchSimulates T Z limit S b g n us o Passed = LaunchCompletes T Z limit S b g 
 LaunchSimulates T Z limit S b g n us o (Race t u k a) = FailedLaunch T Z S
 LaunchSimulates T Z limit S b g n us o (GroupRace t h k a) = FailedLaunch T Z S
 LaunchSimulates T Z limit S b g n us o (Outside t a) = FailedLaunch T Z S
+LaunchSimulates T Z limit S b g n us o (Common t a) = FailedLaunch T Z S
 LaunchSimulates T Z limit S b g n us o (Diverged t u) = FailedLaunch T Z S
 LaunchSimulates T Z limit S b g n us o Spent = Unit {0}
 
@@ -388,6 +389,7 @@ module _ (T : Table) (w : WellFormed T) (Z : Sizes) (limit : ℕ) (S : Groups) (
     simulates-on n us o (Race a b c d) f = failed-on f
     simulates-on n us o (GroupRace a b c d) f = failed-on f
     simulates-on n us o (Outside a b) f = failed-on f
+    simulates-on n us o (Common a b) f = failed-on f
     simulates-on n us o (Diverged a b) f = failed-on f
     simulates-on n us o Spent f = tt
 
@@ -399,6 +401,7 @@ module _ (T : Table) (w : WellFormed T) (Z : Sizes) (limit : ℕ) (S : Groups) (
   stops-here b n us o (Race c d e f) q t = up-failed (Race c d e f) t
   stops-here b n us o (GroupRace c d e f) q t = up-failed (GroupRace c d e f) t
   stops-here b n us o (Outside c d) q t = up-failed (Outside c d) t
+  stops-here b n us o (Common c d) q t = up-failed (Common c d) t
   stops-here b n us o (Diverged c d) q t = up-failed (Diverged c d) t
   stops-here b n us o Spent q t = tt
 
@@ -408,6 +411,7 @@ passed-is Passed q = refl
 passed-is (Race c d e f) q = absurd (false≢true q)
 passed-is (GroupRace c d e f) q = absurd (false≢true q)
 passed-is (Outside c d) q = absurd (false≢true q)
+passed-is (Common c d) q = absurd (false≢true q)
 passed-is (Diverged c d) q = absurd (false≢true q)
 passed-is Spent q = absurd (false≢true q)
 

@@ -14,10 +14,10 @@ use Rattle.spec.specs.Op.{BARRIER, CALC, ELSE, ENDIF, ENDWHILE, IF, MEM, Op, Sp
 use Rattle.spec.specs.Runs.{Run, after}
 use Rattle.spec.specs.LaunchThreads as launch
 use Rattle.spec.specs.LaunchThreads.{Groups, Part, initialGroups, initialPart, noPart, ofGroup, partOf, view, withGroup}
-use Rattle.spec.specs.Shape.{Shape, Sizes, address, bound, shapeOf}
+use Rattle.spec.specs.Shape.{Shape, Sizes, shapeOf}
 use Rattle.spec.specs.Table.{Table, rowAt}
-use Rattle.spec.specs.Threads.{Effect, Group, Move, Thread, accesses, cellsAfter, effect, effectAt, effectOf, endsBadly, initialThreads, isBarrier}
-use Rattle.spec.specs.Threads.{machine, markBad, next, noThread, pastBarrier, performed, possible, reach, release, released, row, strays, threadAfter}
+use Rattle.spec.specs.Threads.{Effect, Group, Move, Thread, cellsAfter, effect, effectAt, effectOf, endsBadly, initialThreads, isBarrier}
+use Rattle.spec.specs.Threads.{machine, markBad, next, noThread, pastBarrier, performed, possible, release, released, row, threadAfter}
 use Rattle.spec.specs.Threads.{threadCount, waits}
 use Rattle.allruns.proofs.Lists.{getD-map-at}
 use Rattle.allruns.proofs.Bools.{and-left, and-right}
@@ -61,15 +61,6 @@ barrier-op WHILE q = absurd (false≢true q)
 barrier-op ENDWHILE q = absurd (false≢true q)
 barrier-op BARRIER q = refl
 barrier-op UNKNOWN q = absurd (false≢true q)
-
--- What LOAD and STORE come to.
-pub reach-cases : (F : Effect → Type 0) (L : Shape) (p : Space) (c : ℕ) (k : Kind) (d : ℕ) → F (accesses (address L p c) k d) → F strays → F (reach L p c k d)
-unfolding reach
-reach-cases F L p c k d f g = by (ltb c (bound L p))
-  where
-    by : (z : Bool) → F (cond z (accesses (address L p c) k d) strays)
-    by true = f
-    by false = g
 
 module _ (T : Table) (L : Shape) (P : Thread → Type 0) (Q : List ℕ → Type 0) (k : Keeps T L P Q) where
   keeps-effect : (t : ℕ) (x : Thread) (cells : List ℕ) → t < L .threads → P x → Q cells

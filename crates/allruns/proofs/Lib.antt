@@ -37,3 +37,5 @@ pub mod LaunchCounts
 pub mod GroupsInTurn
 pub mod Theorem
 pub mod Launches
+pub mod Pairs
+pub mod PairTheorem

@@ -128,7 +128,7 @@ module _ (T : Table) (w : WellFormed T) (Z : Sizes) (g a u : ℕ) where
   group-blocked-run S (m ∷ ms) r s = group-blocked-run (next T Z S m) ms (r .1) (group-blocked-next S m (r .0) s)
 
 -- Whether a move is possible.
-any-move : (T : Table) (Z : Sizes) (S : Groups) → ((m : Move) × (possible T Z S m ≡ true)) ⊎ ((m : Move) → possible T Z S m ≡ true → ⊥)
+pub any-move : (T : Table) (Z : Sizes) (S : Groups) → ((m : Move) × (possible T Z S m ≡ true)) ⊎ ((m : Move) → possible T Z S m ≡ true → ⊥)
 any-move T Z S = from (search (Z .groups))
   where
     Found : Type 0

@@ -19,7 +19,7 @@ use Rattle.spec.specs.LockStep.{elseRow, endifRow, endwhileRow, forEnabled, ifR
 use Rattle.spec.specs.LockStep.{passBarrier, pop, reg, resultOf, runFrom, runRow, setReg, stops, topMask, whileRow}
 use Rattle.spec.specs.Mask.{Mask, any, full}
 use Rattle.spec.specs.Op.{Op, Calc, CALC, Space, OWN, GLOBAL, Mem, MEM, IF, ELSE, ENDIF, WHILE, ENDWHILE, BARRIER, UNKNOWN, value}
-use Rattle.spec.specs.Shape.{Shape, Sizes, address, bound, isGlobal, launchNumber, oneGroup, reaches, shapeOf}
+use Rattle.spec.specs.Shape.{Shape, Sizes, address, bound, isGlobal, launchNumber, loads, oneGroup, past, reaches, shapeOf}
 use Rattle.spec.specs.Table.{Table, rowAt, endOf, kindOf}
 use Rattle.spec.proofs.StepLaws.{stepped-size, all-stepped-size}
 use Rattle.allruns.proofs.AccessTurns.{groupsAfter, turn-cases, withGroups}
@@ -32,12 +32,13 @@ pub cond-keeps : {A : Type 0} (P : A → Type 0) (b : Bool) {x y : A} → P x �
 cond-keeps P true p q = p
 cond-keeps P false p q = q
 
--- P is kept by what a row may do: a thread computes or accesses, threads step, all pass a BARRIER, and the run goes on somewhere.
+-- P is kept by what a row may do: a thread computes, accesses or takes the word of a common cell, threads step, all pass a BARRIER, and the run goes on somewhere.
 pub record RowsKeep (T : Table) (L : Shape) (P : LockState → Type 0) : Type 0 where
   pub computes : (s : LockState) (r t : ℕ) (c : Calc) → r < length T → P s → let x = rowAt T r in
       P (setReg s t (x .d) (value c (L .threads) t (launchNumber L t) (x .a) (x .b) (reg s t (x .a)) (reg s t (x .b))))
   pub accesses : (s : LockState) (r t c : ℕ) (p : Space) (m : Mem) → c < bound L p → P s → let x = rowAt T r in let k = kindOf m (reg s t (x .a)) in
       P (withGroups (madeAccess s t (x .d) (address L p c) k) (groupsAfter p (s .groupLog) (address L p c) (L .group) k))
+  pub takes : (s : LockState) (r t v : ℕ) (p : Space) (c : ℕ) (k : Kind) → past L p c k ≡ loads v → P s → P (setReg s t (rowAt T r .d) v)
   pub steps : (s : LockState) (m : Mask) → P s → P (countSteps m s)
   pub passes : (s : LockState) → P s → P (passBarrier L s)
   pub onward : (s : LockState) (r : ℕ) (m : Mask) (v : List Saved) → P s → P (advance r m v s)
@@ -62,7 +63,7 @@ module _ (T : Table) (L : Shape) (P : LockState → Type 0) (k : RowsKeep T L P)
   after-enabled f g s h = after-then (inTurn f _ s) _ (after-turns f g _ s h) (λ z p. k .onward z _ _ _ p)
 
   after-access : (p : Space) (m : Mem) (r : ℕ) (s : LockState) (t : ℕ) → P s → After (accessTurn L p m (rowAt T r) s t)
-  after-access p m r s t h = turn-cases L p m (rowAt T r) s t After (λ l. h) (λ o y l a. h) (λ g y l a b. h) (λ l a b. k .accesses s r t _ p m l h)
+  after-access p m r s t h = turn-cases L p m (rowAt T r) s t After (λ l u. h) (λ v l u. k .takes s r t v p _ _ u h) (λ l u. h) (λ o y l a. h) (λ g y l a b. h) (λ l a b. k .accesses s r t _ p m l h)
 
   after-while : (s : LockState) (v : List Saved) (m : Mask) → P s → P (leaveOrStay T s v m)
   unfolding leaveOrStay
@@ -135,6 +136,7 @@ steps-kept T L n =
     record {
       computes = λ s r t c l h. stepped-size (s .steps) t ∙ h;
       accesses = λ s r t c p m l h. stepped-size (s .steps) t ∙ h;
+      takes = λ s r t v p c k q h. stepped-size (s .steps) t ∙ h;
       steps = λ s m h. all-stepped-size (s .steps) _ ∙ h;
       passes = λ s h. h;
       onward = λ s r m v h. h;
@@ -162,14 +164,7 @@ keeps-all : (T : Table) (L : Shape) (s : LockState) → L .group < L .groups →
 unfolding setReg madeAccess countSteps passBarrier advance
 keeps-all T L s g =
     record {
-      computes = λ z r t c l h. record {
-        cellCount = h .cellCount;
-        cellAt = h .cellAt;
-        logSized = h .logSized;
-        logAt = h .logAt;
-        groups = h .groups;
-        stepCount = stepped-size (z .steps) t ∙ h .stepCount;
-      };
+      computes = λ z r t c l h. put z t _ _ h;
       accesses = λ z r t c p m l h. let k = kindOf m (reg z t (rowAt T r .a)) in record {
         cellCount = length-set (z .cells) (address L p c) _ ∙ h .cellCount;
         cellAt = λ i q. getD-set-other (z .cells) (address L p c) i _ 0 (apart p c l i q) ∙ h .cellAt i q;
@@ -178,6 +173,7 @@ keeps-all T L s g =
         groups = groups-then (L .group) (isGlobal L) (s .groupLog) (z .groupLog) _ (h .groups) (groups-made L p (z .groupLog) c k);
         stepCount = stepped-size (z .steps) t ∙ h .stepCount;
       };
+      takes = λ z r t v p c k q h. put z t _ _ h;
       steps = λ z m h. record {
         cellCount = h .cellCount;
         cellAt = h .cellAt;
@@ -204,6 +200,19 @@ keeps-all T L s g =
       };
     }
   where
+    -- a register put
+    put : (z : LockState) (t d v : ℕ) → RunKeeps L s z → RunKeeps L s (setReg z t d v)
+    put z t d v h =
+        unfold setReg in
+        (record {
+          cellCount = h .cellCount;
+          cellAt = h .cellAt;
+          logSized = h .logSized;
+          logAt = h .logAt;
+          groups = h .groups;
+          stepCount = stepped-size (z .steps) t ∙ h .stepCount;
+        })
+
     apart : (p : Space) (c : ℕ) → c < bound L p → (i : ℕ) → reaches L i ≡ false → ¬ (i ≡ address L p c)
     apart p c l i q e = true≢false (sym (address-reached L p c l) ∙ ap (reaches L) (sym e) ∙ q)
 

@@ -16,7 +16,7 @@ use Rattle.spec.specs.Shape.{Shape, reaches, total}
 use Rattle.spec.specs.Table.{Table, WellFormed, noRow, openBefore, rowAt}
 use Rattle.spec.specs.Threads.{Group, Move, atEnd, emptyRecord, initialThreads, machine, noThread, released, row}
 use Rattle.spec.specs.declared.Verdict.{Verdict}
-use Rattle.spec.specs.declared.Verdict.the-variants.{Diverged, GroupRace, Outside, Passed, Race, Spent}
+use Rattle.spec.specs.declared.Verdict.the-variants.{Diverged, GroupRace, Outside, Common, Passed, Race, Spent}
 use Rattle.allruns.proofs.Counts.{passedAt, counted-is}
 use Rattle.allruns.proofs.Descent.{many-append, run-append, after-append, seen-append}
 use Rattle.allruns.proofs.LogMatches.{BlankAt, LogMatches, LogSized}
@@ -46,6 +46,7 @@ Simulates T L s g o bs Passed = Completes T L s g o bs
 Simulates T L s g o bs (Race t u k a) = Failed T L g (Race t u k a)
 Simulates T L s g o bs (GroupRace t h k a) = Failed T L g (GroupRace t h k a)
 Simulates T L s g o bs (Outside t a) = Failed T L g (Outside t a)
+Simulates T L s g o bs (Common t a) = Failed T L g (Common t a)
 Simulates T L s g o bs (Diverged t u) = Failed T L g (Diverged t u)
 Simulates T L s g o bs Spent = Unit {0}
 
@@ -119,6 +120,7 @@ simulates-on T L s z g o bs h Passed t = complete-on T L s z g o bs h t
 simulates-on T L s z g o bs h (Race t u k a) f = failed-on T L s z g (Race t u k a) h f
 simulates-on T L s z g o bs h (GroupRace t u k a) f = failed-on T L s z g (GroupRace t u k a) h f
 simulates-on T L s z g o bs h (Outside t a) f = failed-on T L s z g (Outside t a) h f
+simulates-on T L s z g o bs h (Common t a) f = failed-on T L s z g (Common t a) h f
 simulates-on T L s z g o bs h (Diverged t u) f = failed-on T L s z g (Diverged t u) h f
 simulates-on T L s z g o bs h Spent t = tt
 
@@ -128,6 +130,7 @@ simulates-fail T L s g o bs Passed f = absurd (f .stopping)
 simulates-fail T L s g o bs (Race t u k a) f = f
 simulates-fail T L s g o bs (GroupRace t u k a) f = f
 simulates-fail T L s g o bs (Outside t a) f = f
+simulates-fail T L s g o bs (Common t a) f = f
 simulates-fail T L s g o bs (Diverged t u) f = f
 simulates-fail T L s g o bs Spent f = tt
 

@@ -17,7 +17,8 @@ use Rattle.spec.specs.Table.{plain, role, rowAt, scan, scanRow, startOf}
 use Rattle.spec.specs.Threads.{Thread, effectOf, goto, noThread, onIf, onWhile, pastBarrier, put, reg, threadAfter}
 use Rattle.allruns.proofs.Nesting.{isWhile, innermost-at, outer, scan-step, none-between}
 use Rattle.allruns.proofs.Progress.{back, isLoop}
-use Rattle.allruns.proofs.Invariants.{Keeps, in-every-run, reach-cases, replicate-keeps}
+use Rattle.allruns.proofs.Invariants.{Keeps, in-every-run, replicate-keeps}
+use Rattle.allruns.proofs.Places.{reach-cases}
 
 -- Row i is a WHILE, and is row r itself or a construct that is open before row r.
 abbrev pub Around : Table → ℕ → ℕ → Type 0
@@ -173,7 +174,10 @@ module _ (T : Table) (w : WellFormed T) where
   unfolding effectOf threadAfter put goto onIf onWhile isLoop isWhile role
   kept-row L t x cells l (CALC c) q k = moves x _ _ k (to-next T (x .row) (ap isWhile q) (ap role q))
   kept-row L t x cells l (MEM p m) q k =
-      reach-cases (λ e. Kept T (threadAfter x cells e)) L p _ _ _ (moves x _ _ k (to-next T (x .row) (ap isWhile q) (ap role q))) k
+      reach-cases (λ e. Kept T (threadAfter x cells e)) L x p _ _ _ (λ l. on _) k (λ v e. on _)
+    where
+      on : (regs : List ℕ) → Kept T (record { row = suc (x .row); regs = regs; loops = x .loops })
+      on regs = moves x _ regs k (to-next T (x .row) (ap isWhile q) (ap role q))
   kept-row L t x cells l IF q k = by (reg x (rowAt T (x .row) .a))
     where
       by : (v : ℕ) → Kept T (onIf T x v)

@@ -1,14 +1,16 @@
 -- Where the cells stand that a group's threads can name. Assumes nothing.
 use mathlib.Core.Path.{_≡_, refl, _∙_, ap, ap₂}
 use mathlib.Core.Logic.{_⊎_, inl, inr}
-use mathlib.Core.Bool.{Bool, true, false, _&&_, _||_, or-true}
+use mathlib.Core.Bool.{Bool, true, false, cond, _&&_, _||_, or-true}
 use Prim.Native.Nat.{ℕ, _+_, _*_, _<_, _≤_}
 use native.Mathlib.Omega.{arith}
 use native.Mathlib.Nat.{mul-le-mul-right, suc-mul}
 use lib.Dec.{leb, ltb}
 use borrow.Author.Tests.{le-leb, leb-true, lt-leb, lt-ltb, ltb-true}
 use Rattle.spec.specs.Op.{Space, OWN, GLOBAL}
-use Rattle.spec.specs.Shape.{Shape, Sizes, address, bound, isGlobal, isOwn, reaches, shapeOf, total}
+use Rattle.spec.specs.Access.{Kind}
+use Rattle.spec.specs.Shape.{Shape, Sizes, Past, address, bound, changes, isGlobal, isOwn, loads, nowhere, past, reaches, shapeOf, total}
+use Rattle.spec.specs.Threads.{Effect, Thread, accesses, beyond, goes, put, reach, strays}
 use Rattle.spec.proofs.Laws.{lt-or-le}
 use Rattle.allruns.proofs.Bools.{and-left, and-right}
 
@@ -87,3 +89,15 @@ shared-is-global Z g h c ne l r q = by (out-of-own Z g h c ne l r) (isOwn (shape
     by o false e u = unfold isGlobal in u
     by (inl o) true e u = absurd (let i = inside e in let a = i .0 in omega arith)
     by (inr o) true e u = absurd (let i = inside e in let a = i .1 in omega arith)
+
+-- What LOAD, STORE and ATOMIC ADD come to: an access, one that ends the run badly, or a load of a common cell.
+pub reach-cases : (F : Effect → Type 0) (L : Shape) (x : Thread) (p : Space) (c : ℕ) (k : Kind) (d : ℕ) → (c < bound L p → F (accesses (address L p c) k d))
+    → F strays → ((v : ℕ) → past L p c k ≡ loads v → F (goes (put x d v))) → F (reach L x p c k d)
+unfolding reach
+reach-cases F L x p c k d made bad taken = by (ltb c (bound L p)) refl (past L p c k) refl
+  where
+    by : (z : Bool) → ltb c (bound L p) ≡ z → (y : Past) → past L p c k ≡ y → F (cond z (accesses (address L p c) k d) (beyond x d y))
+    by true e y q = made (ltb-true c (bound L p) e)
+    by false e nowhere q = unfold beyond in bad
+    by false e (loads v) q = unfold beyond in (taken v q)
+    by false e changes q = unfold beyond in bad

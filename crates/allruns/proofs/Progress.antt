@@ -11,11 +11,12 @@ use lib.ListN.{length, getD, drop, set, length-set, List·getD-eq-default}
 use lib.Seq.{getD-set-other, getD-set-same}
 use Rattle.spec.specs.Access.{Kind}
 use Rattle.spec.specs.Op.{BARRIER, CALC, ELSE, ENDIF, ENDWHILE, IF, MEM, Op, UNKNOWN, WHILE}
-use Rattle.spec.specs.Shape.{Shape, address, bound}
+use Rattle.spec.specs.Shape.{Shape}
 use Rattle.spec.specs.Table.{Fits, Table, WellFormed, cellByte, closing, elseOf, endOf, innermost, kindOf, noRow, openBefore, opening, pastElse, role}
 use Rattle.spec.specs.Table.{rowAt, scan, startOf}
-use Rattle.spec.specs.Threads.{Effect, Thread, accesses, effect, effectOf, goto, isOutside, isWaiting, onIf, onWhile, put, reach, reg, strays}
+use Rattle.spec.specs.Threads.{Effect, Thread, effect, effectOf, goto, isOutside, isWaiting, onIf, onWhile, put, reg}
 use Rattle.spec.specs.Threads.{threadAfter, waits}
+use Rattle.allruns.proofs.Places.{reach-cases}
 use Rattle.spec.proofs.Laws.{lt-or-le, role-while}
 use Rattle.allruns.proofs.Nesting.{isWhile, scan-ge, innermost-at, end-here, end-nested}
 
@@ -277,20 +278,11 @@ back T w r l q = by (openBefore T r) refl (subst (λ o. Fits o (innermost T (ope
 pub forward : (T : Table) → WellFormed T → (n : Shape) (t : ℕ) (x : Thread) (cells : List ℕ) → length (x .loops) ≡ length T → x .row < length T
     → (o : Op) → rowAt T (x .row) .op ≡ o → isWaiting (effectOf T n t x (rowAt T (x .row)) o) ≡ false
     → isOutside (effectOf T n t x (rowAt T (x .row)) o) ≡ false → Later T x (threadAfter x cells (effectOf T n t x (rowAt T (x .row)) o))
-unfolding effectOf reach isOutside threadAfter isWaiting put goto isLoop isWhile onIf onWhile
+unfolding effectOf isOutside threadAfter isWaiting put goto isLoop isWhile onIf onWhile
 forward T w n t x cells f l (CALC c) q i u = on-later T x _ (omega arith) refl (ap isWhile q)
-forward T w n t x cells f l (MEM p m) q i u = by (ltb c (bound n p)) u
-  where
-    c : ℕ
-    c = reg x (cellByte m (rowAt T (x .row)))
-
-    k : Kind
-    k = kindOf m (reg x (rowAt T (x .row) .a))
-
-    by : (z : Bool) → isOutside (cond z (accesses (address n p c) k (rowAt T (x .row) .d)) strays) ≡ false
-        → Later T x (threadAfter x cells (cond z (accesses (address n p c) k (rowAt T (x .row) .d)) strays))
-    by true u = on-later T x _ (omega arith) refl (ap isWhile q)
-    by false u = absurd (true≢false u)
+forward T w n t x cells f l (MEM p m) q i u =
+    reach-cases (λ e. isOutside e ≡ false → Later T x (threadAfter x cells e)) n x p _ _ _ (λ l z. on-later T x _ (omega arith) refl (ap isWhile q))
+    (λ z. absurd (true≢false z)) (λ v e z. on-later T x _ (omega arith) refl (ap isWhile q)) u
 forward T w n t x cells f l IF q i u = by (reg x (rowAt T (x .row) .a))
   where
     by : (v : ℕ) → Later T x (onIf T x v)
@@ -313,14 +305,7 @@ pub sized : (T : Table) (n : Shape) (t : ℕ) (x : Thread) (cells : List ℕ) (o
     → length (threadAfter x cells (effectOf T n t x (rowAt T (x .row)) o) .loops) ≡ length (x .loops)
 unfolding effectOf threadAfter put goto
 sized T n t x cells (CALC c) = refl
-sized T n t x cells (MEM p m) = unfold reach in (by (ltb (reg x (cellByte m (rowAt T (x .row)))) (bound n p)))
-  where
-    by : (z : Bool)
-        → length (threadAfter x cells
-        (cond z (accesses (address n p (reg x (cellByte m (rowAt T (x .row))))) (kindOf m (reg x (rowAt T (x .row) .a))) (rowAt T (x .row) .d))
-        strays) .loops) ≡ length (x .loops)
-    by true = unfold threadAfter in refl
-    by false = unfold threadAfter in refl
+sized T n t x cells (MEM p m) = reach-cases (λ e. length (threadAfter x cells e .loops) ≡ length (x .loops)) n x p _ _ _ (λ l. refl) refl (λ v e. refl)
 sized T n t x cells IF = by (reg x (rowAt T (x .row) .a))
   where
     by : (v : ℕ) → length (onIf T x v .loops) ≡ length (x .loops)

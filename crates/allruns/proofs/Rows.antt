@@ -19,7 +19,7 @@ use Rattle.spec.specs.Steps.{allStepped}
 use Rattle.spec.specs.Table.{Fits, Row, Table, WellFormed, closing, elseOf, endOf, innermost, openBefore, openedBy, role, rowAt, startOf}
 use Rattle.spec.specs.Threads.{Group, Move, effect, effectOf, isOutside, machine, next, row}
 use Rattle.spec.specs.declared.Verdict.{Verdict}
-use Rattle.spec.specs.declared.Verdict.the-variants.{Diverged, GroupRace, Outside, Passed, Race, Spent}
+use Rattle.spec.specs.declared.Verdict.the-variants.{Diverged, GroupRace, Outside, Common, Passed, Race, Spent}
 use Rattle.spec.specs.Threads as own
 use Rattle.spec.proofs.Laws.{zeros, minus-size, holding-size}
 use Rattle.allruns.proofs.AccessTurns.{turn-cases}
@@ -62,6 +62,7 @@ Stopping Passed = ⊥
 Stopping (Race t o k a) = Unit {0}
 Stopping (GroupRace t h k a) = Unit {0}
 Stopping (Outside t a) = Unit {0}
+Stopping (Common t a) = Unit {0}
 Stopping (Diverged t o) = Unit {0}
 Stopping Spent = ⊥
 
@@ -671,9 +672,10 @@ keeps-all f one [] s = record { rowSame = refl; onSame = refl; savedSame = refl;
 keeps-all f one (t ∷ ts) s = keeps-then t ts s (f s t) (inTurn f ts) (one s t) (keeps-all f one ts)
 
 pub keeps-touch : (L : Shape) (p : Space) (m : Mem) (x : Row) (s : LockState) (t : ℕ) → Keeps (t ∷ []) s (accessTurn L p m x s t)
-unfolding madeAccess allStepped
+unfolding madeAccess setReg allStepped
 keeps-touch L p m x s t =
-    turn-cases L p m x s t (Keeps (t ∷ []) s) (λ l. tt) (λ o y l a. tt) (λ h y l a b. tt)
+    turn-cases L p m x s t (Keeps (t ∷ []) s) (λ l u. tt)
+    (λ v l u. record { rowSame = refl; onSame = refl; savedSame = refl; stepsMore = refl; barriersSame = refl }) (λ l u. tt) (λ o y l a. tt) (λ h y l a b. tt)
     (λ l a b. record { rowSame = refl; onSame = refl; savedSame = refl; stepsMore = refl; barriersSame = refl })
 
 pub keeps-calc : (x : Row) (f : ℕ → ℕ → ℕ → ℕ) (s : LockState) (t : ℕ) → Keeps (t ∷ []) s (computeTurn x f s t)

@@ -16,7 +16,7 @@ use Rattle.spec.specs.Table.{Fits, Table, WellFormed, rowAt}
 use Rattle.spec.specs.Threads as own
 use Rattle.spec.specs.Threads.{Thread, effect, effectAt, effectOf, isBarrier, isWaiting, noThread, row, threadCount}
 use Rattle.allruns.proofs.Bools.{and-make}
-use Rattle.allruns.proofs.Invariants.{reach-cases}
+use Rattle.allruns.proofs.Places.{reach-cases}
 
 is-false : (b : Bool) → (b ≡ true → ⊥) → b ≡ false
 is-false true n = absurd (n refl)
@@ -38,7 +38,7 @@ waits-at-barrier : (T : Table) (L : Shape) (t : ℕ) (x : Thread) (i o : Op) →
     → isBarrier o ≡ true
 unfolding effectOf isWaiting isBarrier
 waits-at-barrier T L t x i (CALC c) f q = q
-waits-at-barrier T L t x i (MEM p m) f q = sym (reach-cases (λ e. isWaiting e ≡ false) L p _ _ _ refl refl) ∙ q
+waits-at-barrier T L t x i (MEM p m) f q = sym (reach-cases (λ e. isWaiting e ≡ false) L x p _ _ _ (λ l. refl) refl (λ v e. refl)) ∙ q
 waits-at-barrier T L t x i IF f q = q
 waits-at-barrier T L t x i ELSE f q = q
 waits-at-barrier T L t x i ENDIF f q = q

@@ -7,7 +7,7 @@ use native.Mathlib.Omega.{arith}
 use lib.Dec.{eqb}
 use lib.ListN.{length, getD, replicate, length-map}
 use Rattle.spec.specs.declared.Verdict.{Verdict}
-use Rattle.spec.specs.declared.Verdict.the-variants.{Passed, Race, GroupRace, Outside, Diverged, Spent}
+use Rattle.spec.specs.declared.Verdict.the-variants.{Passed, Race, GroupRace, Outside, Common, Diverged, Spent}
 use Rattle.spec.specs.AllRuns.{isMoveOf, isRelease, isReleaseOf, EveryRunEndsWell, PassedSays, Demand3}
 use Rattle.spec.specs.Lists.{joined}
 use Rattle.spec.specs.LockStep.{LockResult, initialState, outcomeOf}
@@ -88,6 +88,7 @@ module _ (T : Table) (w : WellFormed T) (Z : Sizes) (one : 1 ≤ Z .groups) (cel
   back (Race t u k c) q f ns a = absurd (failed-not-all T w Z start f (a .always))
   back (GroupRace t h k c) q f ns a = absurd (failed-not-all T w Z start f (a .always))
   back (Outside t c) q f ns a = absurd (failed-not-all T w Z start f (a .always))
+  back (Common t c) q f ns a = absurd (failed-not-all T w Z start f (a .always))
   back (Diverged t u) q f ns a = absurd (failed-not-all T w Z start f (a .always))
   back Spent q c ns a = absurd (ns q)
 

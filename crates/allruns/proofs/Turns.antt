@@ -16,10 +16,10 @@ use Rattle.spec.specs.LockStep.{LockState, Step, accessTurn, andThen, computeTu
 use Rattle.spec.specs.Mask.{Mask, any, has, membersFrom}
 use Rattle.spec.specs.Op.{CALC, Calc, GLOBAL, MEM, Mem, OWN, Op, Space, value}
 use Rattle.spec.specs.Runs.{Run, after}
-use Rattle.spec.specs.Shape.{Shape, address, bound, launchNumber, reaches, total}
+use Rattle.spec.specs.Shape.{Shape, address, bound, launchNumber, past, reaches, total}
 use Rattle.spec.specs.Table.{Row, Table, rowAt}
-use Rattle.spec.specs.Threads.{AccessRecord, Effect, Group, Move, Thread, accesses, accessesOf, cellsAfter, effect, effectAt, effectOf, endsBadly, isOutside}
-use Rattle.spec.specs.Threads.{isWaiting, machine, next, noThread, performed, possible, races, reach, recorded, row, strays, threadAfter, threadCount}
+use Rattle.spec.specs.Threads.{AccessRecord, Effect, Group, Move, Thread, accesses, accessesOf, beyond, cellsAfter, effect, effectAt, effectOf, endsBadly, isOutside}
+use Rattle.spec.specs.Threads.{isWaiting, machine, next, noThread, performed, possible, put, races, reach, recorded, row, strays, threadAfter, threadCount}
 use Rattle.spec.specs.Threads as own
 use Rattle.allruns.proofs.LogMatches.{LogMatches}
 use Rattle.allruns.proofs.LogRecord.{log-tested, log-entered}
@@ -165,10 +165,13 @@ module _ (T : Table) (L : Shape) (t : ℕ) (P : ℕ → Pos) (s : LockState) (g 
       → new t ≡ record { row = suc (P t .row); loops = P t .loops } → One T L new here t P g (accessTurn L p m (rowAt T (P t .row)) s t)
   touch-one here new p m q e =
       turn-cases L p m x s t (One T L new here t P g)
-      (λ y. (
-        may T L t P s g l h _ (strayed y) (unfold isWaiting in refl),
-        next-bad T L g t (ap (endsBadly g t) (strayed y) ∙ (unfold endsBadly isOutside in refl)),
-      ))
+      (λ y u. stray (beyond-is y ∙ (ap (beyond th (x .d)) u ∙ (unfold beyond in refl))))
+      (λ v y u.
+      subst (λ u. (possible T L g (row t) ≡ true) × Match T L (moved P t u) (setReg s t (x .d) v) (next T L g (row t))) (sym e)
+      (quiet-one T L t P s g l h pos (set (getD (s .regs) t []) (x .d) v) (setReg s t (x .d) v)
+      (sym (own-act T L t P s g l h) ∙ beyond-is y ∙ (ap (beyond th (x .d)) u ∙ (unfold beyond put in refl))) (unfold setReg in refl) (unfold setReg in refl)
+      (unfold setReg in refl) (unfold setReg in refl)))
+      (λ y u. stray (beyond-is y ∙ (ap (beyond th (x .d)) u ∙ (unfold beyond in refl))))
       (λ o w y a. bad y (ap (λ b. b || any (groups L p m x s t)) a))
       (λ o w y a b. bad y (ap₂ _||_ a b))
       (λ y a b.
@@ -196,11 +199,14 @@ module _ (T : Table) (L : Shape) (t : ℕ) (P : ℕ → Pos) (s : LockState) (g 
       pos : Pos
       pos = record { row = suc (P t .row); loops = P t .loops }
 
-      a : effectAt T L g t ≡ reach L p b k (x .d)
+      a : effectAt T L g t ≡ reach L th p b k (x .d)
       a = own-act T L t P s g l h ∙ act-is T L t th (MEM p m) inside q ∙ (unfold effectOf own.reg reg in refl)
 
-      strayed : bound L p ≤ b → effectAt T L g t ≡ strays
-      strayed y = a ∙ (unfold reach in (rw (le-ltb b (bound L p) y)))
+      beyond-is : bound L p ≤ b → effectAt T L g t ≡ beyond th (x .d) (past L p b k)
+      beyond-is y = a ∙ (unfold reach in (rw (le-ltb b (bound L p) y)))
+
+      stray : effectAt T L g t ≡ strays → (possible T L g (row t) ≡ true) × (next T L g (row t) .bad ≡ true)
+      stray q = (may T L t P s g l h _ q (unfold isWaiting in refl), next-bad T L g t (ap (endsBadly g t) q ∙ (unfold endsBadly isOutside in refl)))
 
       made : b < bound L p → effectAt T L g t ≡ accesses c k (x .d)
       made y = a ∙ (unfold reach in (rw (lt-ltb b (bound L p) y)))

@@ -1,8 +1,8 @@
 -- Words stay words: in the lock-step run and in every run of the threads all registers and cells are below 2 ^ 32. Assumes nothing.
-use mathlib.Core.Path.{_≡_, _∙_}
+use mathlib.Core.Path.{_≡_, sym, _∙_}
 use mathlib.Core.Logic.{_⊎_, inl, inr}
 use mathlib.Core.List.{List, []}
-use mathlib.Core.Bool.{Bool}
+use mathlib.Core.Bool.{Bool, true, false, cond}
 use Prim.Native.Nat.{ℕ, zero, suc, _+_, _-_, _*_, _^_, _<_, _≤_}
 use native.Mathlib.Omega.{arith}
 use native.Mathlib.Nat.{mod-lt, div-le-self, mul-le-mul-right, suc-mul}
@@ -13,20 +13,21 @@ use lib.Signed.{ltZ, mag, mag-shr, shrZ}
 use lib.ListN.{length, getD, set, replicate, length-set, length-replicate, List·getD-eq-default}
 use Rattle.spec.specs.Access.{Kind, load, store, atomicAdd, cellAfter, registersAfter}
 use Rattle.spec.specs.AllRuns.{RunOf, leaves}
-use Rattle.spec.specs.Limits.{registers}
+use Rattle.spec.specs.Limits.{commonFrom, registers}
 use Rattle.spec.specs.LaunchRun.{lockstep, nextStart}
 use Rattle.spec.specs.LaunchThreads.{Groups, Move, noPart}
 use Rattle.spec.specs.LockStep.{LockState, advance, countSteps, initialState, madeAccess, passBarrier, reg, setReg}
-use Rattle.spec.specs.Op.{Op, Calc, SET, TID, COUNT, LAUNCHTID, ADD, SUB, MUL, AND, OR, XOR, SHR, SAR, EQ, LT, SLT, CALC, Mem, MEM, LOAD, STORE, ATOMICADD, IF, ELSE}
+use Rattle.spec.specs.Op.{Op, Calc, SET, TID, COUNT, LAUNCHTID, ADD, SUB, MUL, AND, OR, XOR, SHR, SAR, EQ, LT, SLT, CALC, Space, Mem, MEM, LOAD, STORE, ATOMICADD, IF, ELSE}
 use Rattle.spec.specs.Op.{ENDIF, WHILE, ENDWHILE, BARRIER, UNKNOWN, value}
-use Rattle.spec.specs.Shape.{Shape, Sizes, address, launchNumber, shapeOf}
+use Rattle.spec.specs.Shape.{Shape, Sizes, address, atCommon, changes, isCommon, launchNumber, loads, nowhere, past, shapeOf}
 use Rattle.spec.specs.Table.{Table, rowAt, kindOf}
 use Rattle.spec.specs.Threads as own
 use Rattle.spec.specs.Threads.{Thread, cellsAfter, effectOf, goto, noThread, onIf, onWhile, pastBarrier, put, threadAfter}
 use Rattle.spec.specs.Word.{places, signed, truth, unsigned}
 use Rattle.spec.proofs.Laws.{lt-or-le}
 use Rattle.allruns.proofs.LockInvariants.{RowsKeep, cond-keeps, in-launch}
-use Rattle.allruns.proofs.Invariants.{HoldsIn, Keeps, in-every-run, reach-cases, replicate-keeps, set-keeps}
+use Rattle.allruns.proofs.Places.{reach-cases}
+use Rattle.allruns.proofs.Invariants.{HoldsIn, Keeps, in-every-run, replicate-keeps, set-keeps}
 
 abbrev pub Word : ℕ → Type 0
 Word v = v < 2 ^ 32
@@ -103,6 +104,20 @@ registers-words load d old regs h l ws i = set-keeps Word regs 0 d old i (λ z. 
 registers-words (store v) d old regs h l ws i = ws i
 registers-words (atomicAdd v) d old regs h l ws i = ws i
 
+-- The word that a load takes from a common cell.
+past-word : (L : Shape) (p : Space) (c v : ℕ) (k : Kind) → Words (L .common) → past L p c k ≡ loads v → Word v
+unfolding past
+past-word L p c v k ws = by (isCommon L p c) k
+  where
+    w : ℕ
+    w = getD (L .common) (c - commonFrom) 0
+
+    by : (o : Bool) (k : Kind) → cond o (atCommon k w) nowhere ≡ loads v → Word v
+    by true load e = let q : loads w ≡ loads v = unfold atCommon in e in let same : w ≡ v = cc in rw (sym same) (ws _)
+    by true (store z) e = let q : changes ≡ loads v = unfold atCommon in e in let y : _≡_ {A = ℕ} 0 1 = cc in absurd (omega arith)
+    by true (atomicAdd z) e = let q : changes ≡ loads v = unfold atCommon in e in let y : _≡_ {A = ℕ} 0 1 = cc in absurd (omega arith)
+    by false k e = let y : _≡_ {A = ℕ} 0 1 = cc in absurd (omega arith)
+
 zero-words : Words (replicate registers 0)
 zero-words i = replicate-keeps Word registers 0 0 i (omega arith) (omega arith)
 
@@ -130,7 +145,8 @@ put-words n t s regs cells h p q = (
   record { ofThreads = λ u. set-keeps Words (s .regs) [] t regs u (λ l. p (omega (arith, h .0))) (h .1 .ofThreads u); ofCells = q },
 )
 
-module _ (T : Table) (L : Shape) (bytes : Bytes T) (group : L .group < L .groups) (few : Word (L .groups * L .threads)) where
+module _ (T : Table) (L : Shape) (bytes : Bytes T) (group : L .group < L .groups) (few : Word (L .groups * L .threads))
+    (common : Words (L .common)) where
   sound-rows : RowsKeep T L (Sound (L .threads))
   unfolding setReg reg madeAccess advance countSteps passBarrier
   sound-rows =
@@ -145,17 +161,20 @@ module _ (T : Table) (L : Shape) (bytes : Bytes T) (group : L .group < L .groups
             let w = kind-word m _ (h .1 .ofThreads t (rowAt T r .a)) in
             put-words (L .threads) t s _ _ h (λ l. registers-words _ _ _ _ w (h .1 .ofCells (address L p c)) (h .1 .ofThreads t))
             (cells-words _ (address L p c) (s .cells) w (h .1 .ofCells));
+        takes = λ s r t v p c k q h.
+            put-words (L .threads) t s _ (s .cells) h
+            (λ m i. set-keeps Word (getD (s .regs) t []) 0 _ _ i (λ z. past-word L p c v k common q) (h .1 .ofThreads t i)) (h .1 .ofCells);
         steps = λ s m h. h;
         passes = λ s h. h;
         onward = λ s r m v h. h;
       }
 
 -- Where a launch stops, whatever its verdict.
-pub lockstep-words : (T : Table) (Z : Sizes) (cells : List ℕ) (limit : ℕ) → 0 < Z .groups → Word (Z .groups * Z .threads) → Bytes T → Words cells
+pub lockstep-words : (T : Table) (Z : Sizes) (cells : List ℕ) (limit : ℕ) → 0 < Z .groups → Word (Z .groups * Z .threads) → Bytes T → Words (Z .common) → Words cells
     → WordState (lockstep T Z cells limit .state)
 unfolding initialState nextStart
-lockstep-words T Z cells limit some few bytes words =
-    in-launch T Z limit (Sound (Z .threads)) (λ g l. sound-rows T (shapeOf Z g) bytes (omega (arith, some)) few) (λ g s h. zeroed (s .cells) (h .1 .ofCells)) cells (zeroed cells words) .1
+lockstep-words T Z cells limit some few bytes common words =
+    in-launch T Z limit (Sound (Z .threads)) (λ g l. sound-rows T (shapeOf Z g) bytes (omega (arith, some)) few common) (λ g s h. zeroed (s .cells) (h .1 .ofCells)) cells (zeroed cells words) .1
   where
     none : List ℕ
     none = replicate registers 0
@@ -168,7 +187,8 @@ lockstep-words T Z cells limit some few bytes words =
     )
 
 -- The same of the threads' own machine.
-module _ (T : Table) (L : Shape) (bytes : Bytes T) (group : L .group < L .groups) (few : Word (L .groups * L .threads)) where
+module _ (T : Table) (L : Shape) (bytes : Bytes T) (group : L .group < L .groups) (few : Word (L .groups * L .threads))
+    (common : Words (L .common)) where
   words-row : (t : ℕ) (x : Thread) (cells : List ℕ) → t < L .threads → x .row < length T → (o : Op) → Words (x .regs) → Words cells
       → Words (threadAfter x cells (effectOf T L t x (rowAt T (x .row)) o) .regs) × Words (cellsAfter cells (effectOf T L t x (rowAt T (x .row)) o))
   unfolding effectOf threadAfter cellsAfter put goto onIf onWhile own.reg
@@ -176,8 +196,9 @@ module _ (T : Table) (L : Shape) (bytes : Bytes T) (group : L .group < L .groups
       let b = bytes (x .row) l in
       (λ i. set-keeps Word (x .regs) 0 _ _ i (λ z. computed-word L group few c t _ _ _ _ (omega arith) (b .0) (b .1) (h _) (h _)) (h i), w)
   words-row t x cells m l (MEM p o) h w =
-      reach-cases (λ e. Words (threadAfter x cells e .regs) × Words (cellsAfter cells e)) L p _ _ _
-      (registers-words _ _ _ (x .regs) k (w _) h, cells-words _ _ cells k w) (h, w)
+      reach-cases (λ e. Words (threadAfter x cells e .regs) × Words (cellsAfter cells e)) L x p _ _ _
+      (λ l. (registers-words _ _ _ (x .regs) k (w _) h, cells-words _ _ cells k w)) (h, w)
+      (λ v q. (λ i. set-keeps Word (x .regs) 0 _ _ i (λ z. past-word L p _ v _ common q) (h i), w))
     where
       k : KindWord (kindOf o (own.reg x (rowAt T (x .row) .a)))
       k = kind-word o _ (h _)
@@ -205,16 +226,16 @@ module _ (T : Table) (L : Shape) (bytes : Bytes T) (group : L .group < L .groups
 abbrev pub WordGroups : Groups → Type 0
 WordGroups S = (g : ℕ) → WordsIn (λ t. getD (getD (S .parts) g noPart .threads) t noThread .regs) (S .cells)
 
-pub runs-words : (T : Table) (Z : Sizes) (cells : List ℕ) → Word (Z .groups * Z .threads) → Bytes T → Words cells → (ms : List Move) → RunOf T Z cells ms
+pub runs-words : (T : Table) (Z : Sizes) (cells : List ℕ) → Word (Z .groups * Z .threads) → Bytes T → Words (Z .common) → Words cells → (ms : List Move) → RunOf T Z cells ms
     → WordGroups (leaves T Z cells ms)
 unfolding noThread noPart
-runs-words T Z cells few bytes words ms r g = record { ofThreads = λ t. by t (lt-or-le g (Z .groups)) (lt-or-le t (Z .threads)); ofCells = h .shared }
+runs-words T Z cells few bytes common words ms r g = record { ofThreads = λ t. by t (lt-or-le g (Z .groups)) (lt-or-le t (Z .threads)); ofCells = h .shared }
   where
     S : Groups
     S = leaves T Z cells ms
 
     h : HoldsIn Z (λ x. Words (x .regs)) Words S
-    h = in-every-run T Z cells (λ x. Words (x .regs)) Words (λ g l. keeps-words T (shapeOf Z g) bytes l few) words ms r
+    h = in-every-run T Z cells (λ x. Words (x .regs)) Words (λ g l. keeps-words T (shapeOf Z g) bytes l few common) words ms r
 
     by : (t : ℕ) → (g < Z .groups) ⊎ (Z .groups ≤ g) → (t < Z .threads) ⊎ (Z .threads ≤ t) → Words (getD (getD (S .parts) g noPart .threads) t noThread .regs)
     by t (inl k) (inl l) = h .each g t k l

@@ -351,7 +351,7 @@ unfoldable pub lopsided : Table
 lopsided = rowOf 16 1 0 0 ∷ rowOf 37 0 0 0 ∷ rowOf 32 0 1 0 ∷ rowOf 1 2 5 0 ∷ rowOf 34 0 0 0 ∷ []
 
 abbrev pub itsSizes : Sizes
-itsSizes = record { threads = 1; cells = 1; groups = 2; global = 1 }
+itsSizes = sizes 1 1 2 1
 
 unfoldable pub itsMoves : List Move
 itsMoves = rows 1 0 1 ++ (release 1 ++ (rows 1 0 2 ++ (rows 0 0 1 ++ (release 0 ++ (rows 0 0 2 ++ rows 1 0 1)))))

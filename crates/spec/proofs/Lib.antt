@@ -29,3 +29,5 @@ pub mod ReportTable
 pub mod EntryTable
 pub mod RefusedLaunches
 pub mod ReportReading
+pub mod CommonTable
+pub mod PairTable

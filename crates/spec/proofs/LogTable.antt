@@ -9,7 +9,7 @@ use Rattle.spec.specs.Answers.{Verdict, Race, ReadWrite, WriteRead, Writ
 use Rattle.spec.specs.Lists.{joined, mapWhere, lastOf}
 use Rattle.spec.specs.Op.{OWN, GLOBAL, LOAD, STORE, ATOMICADD}
 use Rattle.spec.specs.Table.{rowOf, cellByte, kindOf}
-use Rattle.spec.specs.Shape.{Shape, oneGroup, shapeOf, total, bound, address, isGlobal, isOwn, reaches}
+use Rattle.spec.specs.Shape.{Shape, oneGroup, shapeOf, sizes, total, bound, address, isGlobal, isOwn, reaches}
 use Rattle.spec.specs.Access.{Kind, load, store, atomicAdd, valueOf, reads, writes, adds, mode, agree, cellAfter, registersAfter}
 use Rattle.spec.specs.Mask.{Mask, maskWord}
 use Rattle.spec.specs.Log.{Log, masksOf, markWord, logKinds, logWords, emptyLog, nobody, cleared, cellCleared, cellsCleared}
@@ -80,7 +80,7 @@ reached = refl
 
 -- Three groups of two threads with four cells each, and two global cells: the own cells stand at 0 to 3, 4 to 7 and 8 to 11, the global ones at 12 and 13.
 unfoldable pub ofThree : ℕ → Shape
-ofThree g = shapeOf (record { threads = 2; cells = 4; groups = 3; global = 2 }) g
+ofThree g = shapeOf (sizes 2 4 3 2) g
 
 pub three-shapes : map (λ g. let L = ofThree g in L .threads ∷ L .cells ∷ L .groups ∷ L .global ∷ L .group ∷ total L ∷ []) (0 ∷ 1 ∷ 2 ∷ []) ≡
     (2 ∷ 4 ∷ 3 ∷ 2 ∷ 0 ∷ 14 ∷ []) ∷ (2 ∷ 4 ∷ 3 ∷ 2 ∷ 1 ∷ 14 ∷ []) ∷ (2 ∷ 4 ∷ 3 ∷ 2 ∷ 2 ∷ 14 ∷ []) ∷ []

@@ -6,7 +6,7 @@ use mathlib.Core.Option.{Option, none, some}
 use Prim.Native.Nat.{ℕ}
 use Rattle.spec.specs.Answers.{Refusal, TableLength, TooManyRows, UnknownOp, BadOperand, Misplaced, TooDeep, LeftOpen, ThreadsOutOfRange}
 use Rattle.spec.specs.Answers.{CellsOutOfRange, LimitOutOfRange, LineNotDue, FileTooLong, CellsLength, LogLength, ReportTooLong, ReportLines}
-use Rattle.spec.specs.Answers.{OutputLength, RecordsLength, GroupsOutOfRange, TooManyCells, told, unless, first}
+use Rattle.spec.specs.Answers.{OutputLength, RecordsLength, GroupsOutOfRange, TooManyCells, CommonFile, told, unless, first}
 use Rattle.spec.proofs.Computing.{computing}
 
 -- A refusal as its number and place; 0 and 0 stand where there is none.
@@ -21,10 +21,10 @@ toldAs x = orZero (told x)
 pub all-refusals : map (λ r. toldAs (some r))
     (TableLength ∷ TooManyRows 31 ∷ UnknownOp 32 ∷ BadOperand 33 ∷ Misplaced 34 ∷ TooDeep 35 ∷ LeftOpen 36 ∷ ThreadsOutOfRange 37 ∷ CellsOutOfRange 38
     ∷ LimitOutOfRange 39 ∷ LineNotDue 40 ∷ FileTooLong ∷ CellsLength ∷ LogLength ∷ ReportTooLong 41 ∷ ReportLines ∷ OutputLength
-    ∷ RecordsLength ∷ GroupsOutOfRange 42 ∷ TooManyCells 43 ∷ [])
+    ∷ RecordsLength ∷ GroupsOutOfRange 42 ∷ TooManyCells 43 ∷ CommonFile 44 ∷ [])
     ≡ (1, 0) ∷ (2, 31) ∷ (3, 32) ∷ (4, 33) ∷ (5, 34) ∷ (6, 35) ∷ (7, 36) ∷ (8, 37) ∷ (9, 38)
     ∷ (10, 39) ∷ (11, 40) ∷ (12, 0) ∷ (20, 0) ∷ (21, 0) ∷ (22, 41) ∷ (23, 0) ∷ (24, 0)
-    ∷ (30, 0) ∷ (32, 42) ∷ (33, 43) ∷ []
+    ∷ (30, 0) ∷ (32, 42) ∷ (33, 43) ∷ (37, 44) ∷ []
 unfolding computing orZero toldAs
 all-refusals = refl
 

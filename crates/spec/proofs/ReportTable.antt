@@ -3,7 +3,7 @@ use mathlib.Core.Path.{_≡_, refl}
 use mathlib.Core.List.{List, [], _∷_, _++_, map}
 use Prim.Native.Nat.{ℕ}
 use Prim.Native.String.{String}
-use Rattle.spec.specs.Answers.{Verdict, Passed, Race, GroupRace, Outside, Diverged, Spent, Subject}
+use Rattle.spec.specs.Answers.{Verdict, Passed, Race, GroupRace, Outside, Common, Diverged, Spent, Subject}
 use Rattle.spec.specs.Answers.{ReadWrite, WriteRead, WriteWrite, ReadAdd, AddRead, WriteAdd, AddWrite}
 use Rattle.spec.specs.declared.Subject.the-variants as subject
 use Rattle.spec.specs.Report.{kindText, reportOf, refusalReport}
@@ -30,11 +30,11 @@ unfoldable pub withRest : String → List ℕ
 withRest head =
     lines head ++ lines "rows=12/steps=130/steps=0/steps=12/barriers=14/conflicts=105/cell=256/cell=0/cell=4294967295/gcell=8/gcell=70/end=report"
 
--- Hyphens: row and group when passed; othergroup unless race; thread unless race, outside or diverged; other unless diverged or a race in the own group, which
--- othergroup names then; kind unless race; at unless race or outside.
+-- Hyphens: row and group when passed; othergroup unless race; thread unless race, outside, common or diverged; other unless diverged or a race in the own
+-- group, which othergroup names then; kind unless race; at unless race, outside or common.
 pub run-reports : map (λ v. reportOf (stopped v) someSteps someCells someGlobal)
     (Passed ∷ Race 2 1 ReadWrite 5 ∷ Race 2 1 WriteRead 5 ∷ Race 2 1 WriteWrite 5 ∷ GroupRace 2 3 ReadWrite 5 ∷ GroupRace 2 0 WriteRead 5 ∷ GroupRace 2 3 WriteWrite 5
-    ∷ Outside 3 4000000000 ∷ Diverged 2 0 ∷ Spent ∷ [])
+    ∷ Outside 3 4000000000 ∷ Common 3 65791 ∷ Diverged 2 0 ∷ Spent ∷ [])
     ≡ map withRest
     ("verdict=passed/row=-/group=-/othergroup=-/thread=-/other=-/kind=-/at=-"
     ∷ "verdict=race/row=11/group=4/othergroup=4/thread=2/other=1/kind=rw/at=5"
@@ -44,6 +44,7 @@ pub run-reports : map (λ v. reportOf (stopped v) someSteps someCells someGlobal
     ∷ "verdict=race/row=11/group=4/othergroup=0/thread=2/other=-/kind=wr/at=5"
     ∷ "verdict=race/row=11/group=4/othergroup=3/thread=2/other=-/kind=ww/at=5"
     ∷ "verdict=outside/row=11/group=4/othergroup=-/thread=3/other=-/kind=-/at=4000000000"
+    ∷ "verdict=common/row=11/group=4/othergroup=-/thread=3/other=-/kind=-/at=65791"
     ∷ "verdict=diverged/row=11/group=4/othergroup=-/thread=2/other=0/kind=-/at=-"
     ∷ "verdict=spent/row=11/group=4/othergroup=-/thread=-/other=-/kind=-/at=-"
     ∷ [])

@@ -7,7 +7,7 @@ use lib.ListN.{length, getD, take, replicate}
 use Rattle.spec.specs.Access.{load, store, atomicAdd}
 use Rattle.spec.specs.Op.{CALC, SET, OWN, GLOBAL, MEM, LOAD, STORE, IF, ELSE, ENDIF, WHILE, ENDWHILE, BARRIER, UNKNOWN}
 use Rattle.spec.specs.Table.{Table, rowOf}
-use Rattle.spec.specs.Shape.{Sizes, Shape, oneGroup, shapeOf}
+use Rattle.spec.specs.Shape.{Sizes, Shape, oneGroup, shapeOf, sizes}
 use Rattle.spec.specs.Threads as own
 use Rattle.spec.specs.Threads.{Thread, Group, atOneBarrier, isBarrier, noThread, emptyRecord, machine}
 use Rattle.spec.specs.LaunchThreads.{Groups, view, Move, next, possible, atEnd, initialGroups}
@@ -477,7 +477,7 @@ unfoldable pub short : Table
 short = rowOf 2 0 0 0 ∷ rowOf 37 0 0 0 ∷ []
 
 abbrev pub single : Shape
-single = record { threads = 1; cells = 2; groups = 1; global = 0; group = 0 }
+single = shapeOf (sizes 1 2 1 0) 0
 
 abbrev pub atStart : Table → Group
 atStart T = leaves T 1 (5 ∷ 6 ∷ []) []

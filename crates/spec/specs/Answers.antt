@@ -6,13 +6,13 @@ use mathlib.Core.List.{List, [], _∷_}
 pub use Rattle.spec.specs.declared.AccessKind.{AccessKind}
 pub use Rattle.spec.specs.declared.AccessKind.the-variants.{ReadWrite, WriteRead, WriteWrite, ReadAdd, AddRead, WriteAdd, AddWrite}
 pub use Rattle.spec.specs.declared.Verdict.{Verdict}
-pub use Rattle.spec.specs.declared.Verdict.the-variants.{Passed, Race, GroupRace, Outside, Diverged, Spent}
+pub use Rattle.spec.specs.declared.Verdict.the-variants.{Passed, Race, GroupRace, Outside, Common, Diverged, Spent}
 pub use Rattle.spec.specs.declared.Outcome.{Outcome}
 pub use Rattle.spec.specs.declared.Refusal.{Refusal}
 pub use Rattle.spec.specs.declared.Refusal.the-variants.{TableLength, TooManyRows, UnknownOp, BadOperand, Misplaced, TooDeep, LeftOpen}
 pub use Rattle.spec.specs.declared.Refusal.the-variants.{ThreadsOutOfRange, CellsOutOfRange, LimitOutOfRange, LineNotDue, FileTooLong}
 pub use Rattle.spec.specs.declared.Refusal.the-variants.{CellsLength, LogLength, ReportTooLong, ReportLines, OutputLength, RecordsLength}
-pub use Rattle.spec.specs.declared.Refusal.the-variants.{GroupsOutOfRange, TooManyCells}
+pub use Rattle.spec.specs.declared.Refusal.the-variants.{GroupsOutOfRange, TooManyCells, CommonFile}
 pub use Rattle.spec.specs.declared.Answer.{Answer}
 pub use Rattle.spec.specs.declared.Written.{Written}
 use Rattle.spec.specs.declared.Answer.the-variants as answer
@@ -43,6 +43,7 @@ refusalNumber OutputLength = 24
 refusalNumber RecordsLength = 30
 refusalNumber (GroupsOutOfRange p) = 32
 refusalNumber (TooManyCells p) = 33
+refusalNumber (CommonFile p) = 37
 
 -- "Turned back": its place. A line counts from 1, a row from 0; 0 stands where there is no place.
 unfoldable pub refusalPlace : Refusal → ℕ
@@ -66,6 +67,7 @@ refusalPlace OutputLength = 0
 refusalPlace RecordsLength = 0
 refusalPlace (GroupsOutOfRange p) = p
 refusalPlace (TooManyCells p) = p
+refusalPlace (CommonFile p) = p
 
 -- A refusal as document 01 names it, by its number and place; and what an answer tells of one.
 unfoldable pub named : Refusal → ℕ × ℕ
@@ -102,5 +104,6 @@ isPassed Passed = true
 isPassed (Race thread other kind at) = false
 isPassed (GroupRace thread group kind at) = false
 isPassed (Outside thread at) = false
+isPassed (Common thread at) = false
 isPassed (Diverged thread other) = false
 isPassed Spent = false

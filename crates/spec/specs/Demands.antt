@@ -13,7 +13,7 @@ use Rattle.spec.specs.Shape.{Sizes, allThreads}
 use Rattle.spec.specs.LaunchRun.{countedBarriers}
 use Rattle.spec.specs.AllRuns.{EveryRunEndsWell, countedInAll, PassedSays, Demand3}
 use Rattle.spec.specs.Launch.{Launch}
-use Rattle.spec.specs.LaunchFile.{accepted, fileLaunch}
+use Rattle.spec.specs.LaunchFile.{Checked, accepted, fileLaunch}
 use Rattle.spec.specs.Reading.{beginsWith, numbersAt, Readable}
 use Rattle.spec.specs.Entries.{bareLaunch, subjectOf}
 
@@ -47,17 +47,21 @@ pub record PassedReport (launch : Launch) (report : List ℕ) : Type 0 where
   pub runs : RunsEndWell launch
   pub says : PassedSays (launch .table) (launch .sizes) (launch .cells) steps barriers (own ++ global) (countedIn launch)
 
--- Of the bytes of a file's report.
-pub record ReportDemand3 (file report : List ℕ) : Type 0 where
-  -- where they begin with `verdict=passed`, the file is an accepted launch, and the report says this of it
-  pub passed : beginsWith "verdict=passed" report ≡ true → (launch : Launch) × (fileLaunch file ≡ accepted launch) × PassedReport launch report
+-- Of the bytes of a report, of what was refused or accepted.
+pub record CheckedDemand3 (found : Checked Launch) (report : List ℕ) : Type 0 where
+  -- where they begin with `verdict=passed`, a launch was accepted, and the report says this of it
+  pub passed : beginsWith "verdict=passed" report ≡ true → (launch : Launch) × (found ≡ accepted launch) × PassedReport launch report
   -- where the launch is accepted and not spent, they begin so exactly when every run ends well
-  pub exactly : (launch : Launch) → fileLaunch file ≡ accepted launch → beginsWith "verdict=spent" report ≡ false
+  pub exactly : (launch : Launch) → found ≡ accepted launch → beginsWith "verdict=spent" report ≡ false
       → beginsWith "verdict=passed" report ≡ true ↔ RunsEndWell launch
   -- there are as many counted barriers as the `barriers=` line says, and spent is said only where the `rows=` line says the limit
-  pub counted : (launch : Launch) → fileLaunch file ≡ accepted launch → numbersAt "barriers" report ≡ some (countedInAll (countedIn launch)) ∷ []
-  pub spent : (launch : Launch) → fileLaunch file ≡ accepted launch → beginsWith "verdict=spent" report ≡ true
+  pub counted : (launch : Launch) → found ≡ accepted launch → numbersAt "barriers" report ≡ some (countedInAll (countedIn launch)) ∷ []
+  pub spent : (launch : Launch) → found ≡ accepted launch → beginsWith "verdict=spent" report ≡ true
       → numbersAt "rows" report ≡ some (launch .limit) ∷ []
+
+-- Of a file's report.
+abbrev pub ReportDemand3 : (file report : List ℕ) → Type 0
+ReportDemand3 file report = CheckedDemand3 (fileLaunch file) report
 
 -- What a loader may go by in the report of a file.
 abbrev pub FileReadable : (file report : List ℕ) → Type 0

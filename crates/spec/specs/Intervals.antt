@@ -4,10 +4,10 @@ use mathlib.Core.Bool.{true, false, cond}
 use Prim.Native.Nat.{ℕ, zero, suc, _+_, _-_}
 use lib.Dec.{leb, ltb}
 use lib.ListN.{length}
-use Rattle.spec.specs.Limits.{maxRecords}
+use Rattle.spec.specs.Limits.{maxRecords, commonFrom}
 use Rattle.spec.specs.Op.{Op, CALC, OWN, GLOBAL, Mem, MEM, IF, ELSE, ENDIF, WHILE, ENDWHILE, BARRIER, UNKNOWN}
 use Rattle.spec.specs.Table.{Table, Row, rowAt, cellByte}
-use Rattle.spec.specs.Lists.{joined}
+use Rattle.spec.specs.Lists.{joined, passing}
 use Rattle.spec.specs.Shape.{Sizes, Shape}
 use Rattle.spec.specs.Mask.{members}
 use Rattle.spec.specs.Steps.{sum}
@@ -21,9 +21,10 @@ pub record Interval : Type 0 where
   pub rows : ℕ
   pub cost : ℕ
 
--- The cells that the threads of an access row use: those of the enabled threads, who read their numbers before any of them has been answered.
+-- The cells that the threads of an access row use: those of the enabled threads, who read their numbers before any of them has been answered. Item 12:
+-- common cells, in a finished row the only ones with a number from 65,536 on, cost nothing.
 unfoldable pub usedCells : Mem → Row → LockState → List ℕ
-usedCells m x s = map (λ t. reg s t (cellByte m x)) (members (s .enabled))
+usedCells m x s = passing (λ c. ltb c commonFrom) (map (λ t. reg s t (cellByte m x)) (members (s .enabled)))
 
 -- What a row costs that is finished. Only LOAD, STORE and ATOMIC ADD use cells; item 7: global cells cost nothing.
 unfoldable pub rowCost : Row → LockState → Op → ℕ

@@ -17,6 +17,7 @@ pub mod LaunchRun
 pub mod Banks
 pub mod Intervals
 pub mod Runs
+pub mod Pairs
 pub mod Threads
 pub mod LaunchThreads
 pub mod AllRuns
@@ -27,3 +28,6 @@ pub mod Report
 pub mod Reading
 pub mod Entries
 pub mod Demands
+pub mod PairFiles
+pub mod PairRuns
+pub mod PairDemands

@@ -67,3 +67,14 @@ fileLog = 8192
 
 abbrev pub fileOutput : ℕ
 fileOutput = 24576
+
+-- Item 12: the number of the first common cell, and how many there may be.
+abbrev pub commonFrom : ℕ
+commonFrom = 65536
+
+abbrev pub maxCommon : ℕ
+maxCommon = 256
+
+-- What two reports need at most.
+abbrev pub pairOutput : ℕ
+pairOutput = 49152

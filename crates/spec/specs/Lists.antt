@@ -13,6 +13,11 @@ unfoldable pub every : {A : Type 0} → (A → Bool) → List A → Bool
 every p [] = true
 every p (x ∷ xs) = p x && every p xs
 
+-- The elements that pass the test, in their order.
+unfoldable pub passing : {A : Type 0} → (A → Bool) → List A → List A
+passing p [] = []
+passing p (x ∷ xs) = cond (p x) (x ∷ passing p xs) (passing p xs)
+
 unfoldable pub equalList : List ℕ → List ℕ → Bool
 equalList [] [] = true
 equalList [] (y ∷ ys) = false

@@ -5,11 +5,11 @@ use Prim.Native.Nat.{ℕ, zero, suc}
 use lib.Dec.{eqb, leb, ltb}
 use lib.ListN.{length, getD, set, replicate}
 use Rattle.spec.specs.Limits.{registers}
-use Rattle.spec.specs.Answers.{Verdict, Passed, Race, GroupRace, Outside, Diverged, Spent, Outcome}
+use Rattle.spec.specs.Answers.{Verdict, Passed, Race, GroupRace, Outside, Common, Diverged, Spent, Outcome}
 use Rattle.spec.specs.Access.{Kind, cellAfter, registersAfter}
 use Rattle.spec.specs.Op.{Op, CALC, Space, OWN, GLOBAL, Mem, MEM, IF, ELSE, ENDIF, WHILE, ENDWHILE, BARRIER, UNKNOWN, value}
 use Rattle.spec.specs.Table.{Table, Row, rowAt, cellByte, kindOf, endOf}
-use Rattle.spec.specs.Shape.{Sizes, Shape, launchNumber, bound, address, reaches}
+use Rattle.spec.specs.Shape.{Sizes, Shape, launchNumber, bound, address, reaches, Past, nowhere, loads, changes, past}
 use Rattle.spec.specs.Mask.{Mask, members, any, full, minus, lowest, holding}
 use Rattle.spec.specs.Log.{Log, emptyLog, cleared, logged, conflictMask, raceKind}
 use Rattle.spec.specs.GroupLog.{GroupLog, emptyGroupLog, groupLogged, groupConflictMask, groupRaceKind}
@@ -148,11 +148,18 @@ tryAccess L p s t d c k =
     (cond (any groups) (stops (GroupRace t (lowest groups) (groupRaceKind (s .groupLog) i (lowest groups) k) c) s)
     (continues (enterGroup p (L .group) i k (madeAccess s t d i k))))
 
--- LOAD, STORE and ATOMIC ADD for thread t: a number not below the cell count is outside, which is told before a race.
+-- Item 12: an access past the cells. A common cell is loaded from, one step, and nothing is logged; a store or an add there stops the run.
+unfoldable pub pastTurn : LockState → (t d c : ℕ) → Past → Step
+pastTurn s t d c nowhere = stops (Outside t c) s
+pastTurn s t d c (loads v) = continues (setReg s t d v)
+pastTurn s t d c changes = stops (Common t c) s
+
+-- LOAD, STORE and ATOMIC ADD for thread t: a number not below the cell count is outside or a common cell's, which is told before a race.
 unfoldable pub accessTurn : Shape → Space → Mem → Row → LockState → ℕ → Step
 accessTurn L p m x s t =
     let c = reg s t (cellByte m x) in
-    cond (leb (bound L p) c) (stops (Outside t c) s) (tryAccess L p s t (x .d) c (kindOf m (reg s t (x .a))))
+    let k = kindOf m (reg s t (x .a)) in
+    cond (leb (bound L p) c) (pastTurn s t (x .d) c (past L p c k)) (tryAccess L p s t (x .d) c k)
 
 -- Each enabled thread takes its turn, lowest first, and the run goes on at the next row.
 unfoldable pub forEnabled : (LockState → ℕ → Step) → LockState → Step

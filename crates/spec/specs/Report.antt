@@ -3,7 +3,7 @@ use mathlib.Core.List.{List, [], _∷_, _++_, map}
 use Prim.Native.Nat.{ℕ}
 use Prim.Native.String.{String}
 use Rattle.spec.specs.Answers.{AccessKind, ReadWrite, WriteRead, WriteWrite, ReadAdd, AddRead, WriteAdd, AddWrite}
-use Rattle.spec.specs.Answers.{Verdict, Passed, Race, GroupRace, Outside, Diverged, Spent, Outcome, Subject, Value, Details}
+use Rattle.spec.specs.Answers.{Verdict, Passed, Race, GroupRace, Outside, Common, Diverged, Spent, Outcome, Subject, Value, Details}
 use Rattle.spec.specs.declared.Subject.the-variants as subject
 use Rattle.spec.specs.declared.Value.the-variants as value
 use Rattle.spec.specs.Text.{text, newline, equals, hyphen, decimal}
@@ -14,6 +14,7 @@ verdictText Passed = text "passed"
 verdictText (Race thread other kind at) = text "race"
 verdictText (GroupRace thread group kind at) = text "race"
 verdictText (Outside thread at) = text "outside"
+verdictText (Common thread at) = text "common"
 verdictText (Diverged thread other) = text "diverged"
 verdictText Spent = text "spent"
 
@@ -55,7 +56,7 @@ bytesOf [] = []
 bytesOf (l ∷ ls) = lineBytes l ++ bytesOf ls
 
 -- What each verdict says of where the run stopped. A hyphen stands for a line without meaning: row and group when passed; othergroup unless race; thread
--- unless race, outside or diverged; other unless diverged or a race in the own group; kind unless race; at unless race or outside.
+-- unless race, outside, common or diverged; other unless diverged or a race in the own group; kind unless race; at unless race, outside or common.
 unfoldable pub details : (row group otherGroup thread other kind at : Value) → Details
 details row group otherGroup thread other kind at =
     record { row = row; group = group; othergroup = otherGroup; thread = thread; other = other; kind = kind; at = at }
@@ -67,6 +68,8 @@ detailsOf (Race thread other kind at) row group =
 detailsOf (GroupRace thread otherGroup kind at) row group =
     details (value.Number row) (value.Number group) (value.Number otherGroup) (value.Number thread) value.Hyphen (value.Kind kind) (value.Number at)
 detailsOf (Outside thread at) row group =
+    details (value.Number row) (value.Number group) value.Hyphen (value.Number thread) value.Hyphen value.Hyphen (value.Number at)
+detailsOf (Common thread at) row group =
     details (value.Number row) (value.Number group) value.Hyphen (value.Number thread) value.Hyphen value.Hyphen (value.Number at)
 detailsOf (Diverged thread other) row group =
     details (value.Number row) (value.Number group) value.Hyphen (value.Number thread) (value.Number other) value.Hyphen value.Hyphen

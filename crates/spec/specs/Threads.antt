@@ -11,7 +11,7 @@ use Rattle.spec.specs.Access.{Kind, Access, cellAfter, registersAfter, c
 use Rattle.spec.specs.Lists.{anyOf, every, equalList}
 use Rattle.spec.specs.Op.{Op, CALC, Space, MEM, IF, ELSE, ENDIF, WHILE, ENDWHILE, BARRIER, UNKNOWN, value}
 use Rattle.spec.specs.Table.{Table, Row, rowAt, cellByte, kindOf, endOf, elseOf, startOf}
-use Rattle.spec.specs.Shape.{Shape, launchNumber, bound, address}
+use Rattle.spec.specs.Shape.{Shape, launchNumber, bound, address, Past, nowhere, loads, changes, past}
 use Rattle.spec.specs.Runs.{Machine}
 
 -- `loops` has a number for each row of the table. At a WHILE around the thread, or at the thread's own row, it is how often that WHILE was found true
@@ -31,17 +31,23 @@ goto th r = record { row = r; regs = th .regs; loops = th .loops }
 unfoldable pub put : Thread → (d v : ℕ) → Thread
 put th d v = record { row = suc (th .row); regs = set (th .regs) d v; loops = th .loops }
 
--- What a thread's row does, alone: it waits (BARRIER, and the table's end), it goes on as another thread state, it reaches outside the cells,
--- or it accesses the cell that stands at c by kind k, d being the row's byte d.
+-- What a thread's row does, alone: it waits (BARRIER, and the table's end), it goes on as another thread state, it reaches outside the cells or would
+-- change a common one, or it accesses the cell that stands at c by kind k, d being the row's byte d.
 pub data Effect : Type 0 where
   waits : Effect
   goes : Thread → Effect
   strays : Effect
   accesses : (c : ℕ) (k : Kind) (d : ℕ) → Effect
 
--- An access of the cell with this number: outside where the number is not below the cell count.
-unfoldable pub reach : Shape → Space → ℕ → Kind → ℕ → Effect
-reach L p c k d = cond (ltb c (bound L p)) (accesses (address L p c) k d) strays
+-- Item 12: a common cell is loaded from and nothing else, so that this meets no other access: the thread goes on with the word in Rd.
+unfoldable pub beyond : Thread → (d : ℕ) → Past → Effect
+beyond th d nowhere = strays
+beyond th d (loads v) = goes (put th d v)
+beyond th d changes = strays
+
+-- An access of the cell with this number: outside where the number is not below the cell count, but for a load of a common cell.
+unfoldable pub reach : Shape → Thread → Space → ℕ → Kind → ℕ → Effect
+reach L th p c k d = cond (ltb c (bound L p)) (accesses (address L p c) k d) (beyond th d (past L p c k))
 
 -- IF false goes to the row after ELSE, or to ENDIF where there is none.
 unfoldable pub onIf : Table → Thread → ℕ → Thread
@@ -56,7 +62,7 @@ onWhile T th (suc v) = record { row = suc (th .row); regs = th .regs; loops = se
 -- The row's effect, by its op. ELSE goes to ENDIF; ENDIF to the next row; ENDWHILE to its WHILE. UNKNOWN is never come to in a table that is accepted.
 unfoldable pub effectOf : Table → Shape → ℕ → Thread → Row → Op → Effect
 effectOf T L t th x (CALC c) = goes (put th (x .d) (value c (L .threads) t (launchNumber L t) (x .a) (x .b) (reg th (x .a)) (reg th (x .b))))
-effectOf T L t th x (MEM p m) = reach L p (reg th (cellByte m x)) (kindOf m (reg th (x .a))) (x .d)
+effectOf T L t th x (MEM p m) = reach L th p (reg th (cellByte m x)) (kindOf m (reg th (x .a))) (x .d)
 effectOf T L t th x IF = goes (onIf T th (reg th (x .a)))
 effectOf T L t th x ELSE = goes (goto th (endOf T (th .row)))
 effectOf T L t th x ENDIF = goes (goto th (suc (th .row)))
@@ -123,7 +129,7 @@ isOutside (goes th) = false
 isOutside strays = true
 isOutside (accesses c k d) = false
 
--- A move ends the run badly: an access outside the cells, a race with a thread of the group, or one with another group.
+-- A move ends the run badly: an access outside the cells, a store or an add to a common one, a race with a thread of the group, or one with another group.
 unfoldable pub endsBadly : Group → ℕ → Effect → Bool
 endsBadly s t x = isOutside x || anyOf (λ a. races (threadCount s) (s .made) t a || s .barred a) (accessesOf x)
 

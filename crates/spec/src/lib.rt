@@ -15,12 +15,14 @@ pub enum AccessKind {
 // Race: the acting thread, the lowest conflicting one of its group, the kind, the cell.
 // GroupRace: the acting thread, the lowest other group that it conflicts with, the kind, the global cell.
 // Outside: the thread, the number that it used.
+// Common: the thread that would have changed a common cell, the number that it used.
 // Diverged: the lowest enabled thread, the lowest one not enabled.
 pub enum Verdict {
     Passed,
     Race(u32, u32, AccessKind, u32),
     GroupRace(u32, u32, AccessKind, u32),
     Outside(u32, u32),
+    Common(u32, u32),
     Diverged(u32, u32),
     Spent,
 }
@@ -58,6 +60,7 @@ pub enum Refusal {
     RecordsLength,
     GroupsOutOfRange(u32),
     TooManyCells(u32),
+    CommonFile(u32),
 }
 
 // The bare launch answers a refusal or the outcome of the run.

@@ -9,3 +9,4 @@ pub mod StoreExamples
 pub mod GroupExamples
 pub mod GroupFiles
 pub mod LargeLaunches
+pub mod PairExamples
