@@ -6,7 +6,7 @@ use native.Mathlib.Omega.{arith}
 use Rattle.spec.specs.declared.AccessKind.{AccessKind}
 use Rattle.spec.specs.declared.AccessKind.the-variants.{ReadWrite, WriteRead, WriteWrite, ReadAdd, AddRead, WriteAdd, AddWrite}
 use Rattle.spec.specs.declared.Verdict.{Verdict}
-use Rattle.spec.specs.declared.Verdict.the-variants.{Passed, Race, GroupRace, Outside, Diverged, Spent}
+use Rattle.spec.specs.declared.Verdict.the-variants.{Passed, Race, GroupRace, Outside, Common, Diverged, Spent}
 use Rattle.spec.specs.declared.Outcome.{Outcome}
 use Rattle.spec.specs.declared.Written.{Written}
 use Rattle.spec.specs.declared.Written.the-variants.{Refused, Wrote}
@@ -41,6 +41,7 @@ words-back Passed row group rows barriers conflicts = (refl, λ steps cells glob
 words-back (Race thread other kind at) row group rows barriers conflicts = rw (kind-back kind) (refl, λ steps cells global. refl)
 words-back (GroupRace thread otherGroup kind at) row group rows barriers conflicts = rw (kind-back kind) (refl, λ steps cells global. refl)
 words-back (Outside thread at) row group rows barriers conflicts = (refl, λ steps cells global. refl)
+words-back (Common thread at) row group rows barriers conflicts = (refl, λ steps cells global. refl)
 words-back (Diverged thread other) row group rows barriers conflicts = (refl, λ steps cells global. refl)
 words-back Spent row group rows barriers conflicts = (refl, λ steps cells global. refl)
 

@@ -8,7 +8,7 @@ use lib.ListN.{getD, take, replicate}
 use Rattle.spec.specs.declared.AccessKind.{AccessKind}
 use Rattle.spec.specs.declared.AccessKind.the-variants.{ReadWrite, WriteRead, WriteWrite, ReadAdd, AddRead, WriteAdd, AddWrite}
 use Rattle.spec.specs.declared.Verdict.{Verdict}
-use Rattle.spec.specs.declared.Verdict.the-variants.{Passed, Race, GroupRace, Outside, Diverged, Spent}
+use Rattle.spec.specs.declared.Verdict.the-variants.{Passed, Race, GroupRace, Outside, Common, Diverged, Spent}
 use Rattle.spec.specs.declared.Outcome.{Outcome}
 use Rattle.spec.specs.declared.Answer.{Answer}
 use Rattle.spec.specs.declared.Answer.the-variants as answer
@@ -37,6 +37,7 @@ verdictCode Passed = 1
 verdictCode (Race thread other kind at) = 2
 verdictCode (GroupRace thread otherGroup kind at) = 6
 verdictCode (Outside thread at) = 3
+verdictCode (Common thread at) = 7
 verdictCode (Diverged thread other) = 4
 verdictCode Spent = 5
 
@@ -86,7 +87,7 @@ unfoldable pub verdictFrom : (code otherGroup thread other kind at : ℕ) → Ve
 verdictFrom code otherGroup thread other kind at =
     cond (eqb code 1) Passed
     (cond (eqb code 2) (Race thread other (kindFrom kind) at) (cond (eqb code 3) (Outside thread at) (cond (eqb code 4) (Diverged thread other)
-    (cond (eqb code 6) (GroupRace thread otherGroup (kindFrom kind) at) Spent))))
+    (cond (eqb code 6) (GroupRace thread otherGroup (kindFrom kind) at) (cond (eqb code 7) (Common thread at) Spent)))))
 
 unfoldable pub outcomeFrom : List ℕ → Outcome
 outcomeFrom ws =

@@ -29,6 +29,7 @@ fn verdict_code(verdict: Verdict) -> u32
         Verdict::Race(_, _, _, _) => 2,
         Verdict::GroupRace(_, _, _, _) => 6,
         Verdict::Outside(_, _) => 3,
+        Verdict::Common(_, _) => 7,
         Verdict::Diverged(_, _) => 4,
         Verdict::Spent => 5,
     }
@@ -103,6 +104,9 @@ fn verdict_from(code: u32, othergroup: u32, thread: u32, other: u32, kind: u32, 
     }
     if code == 6 {
         return Verdict::GroupRace(thread, othergroup, kind_from(kind), at);
+    }
+    if code == 7 {
+        return Verdict::Common(thread, at);
     }
     Verdict::Spent
 }

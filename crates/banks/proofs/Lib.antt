@@ -4,3 +4,4 @@ pub mod Stamps
 pub mod Costing
 pub mod Distance
 pub mod Memory
+pub mod Near

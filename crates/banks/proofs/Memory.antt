@@ -2,19 +2,23 @@
 use mathlib.Core.Path.{_≡_, refl, sym, _∙_, ap, subst}
 use mathlib.Core.Logic.{_⊎_, inl, inr}
 use mathlib.Core.List.{List, [], _∷_, map}
-use mathlib.Core.Bool.{true, false}
+use mathlib.Core.Bool.{Bool, true, false, cond}
 use Prim.Native.Nat.{ℕ, suc, _+_, _-_, _*_, _<_, _≤_}
 use native.Mathlib.Omega.{arith}
 use native.Mathlib.Decide.{ℕ-discrete}
+use lib.Dec.{ltb}
 use lib.ListN.{length, getD, set, length-set, replicate, length-replicate, getD-replicate}
 use lib.Seq.{getD-set-same, getD-set-other}
 use Rattle.spec.specs.Mask.{Mask, members, membersFrom}
 use Rattle.spec.specs.Banks.{different, inBank, mostInBank, conflictCost}
 use Rattle.spec.proofs.BankLaws.{cost-bound}
 use Rattle.spec.proofs.Laws.{lt-or-le, map-members}
-use Rattle.banks.specs.Counting.{AllCells, Older, RowCounted}
-use Rattle.banks.specs.Remembering.{AtOneDistance, CostOf, lanesFrom, Memo, Remembered, RowCosts}
+use Rattle.spec.specs.Limits.{commonFrom}
+use Rattle.spec.specs.Lists.{passing}
+use Rattle.banks.specs.Counting.{AllCells, Older, RowCounted, own}
+use Rattle.banks.specs.Remembering.{AtOneDistance, Nearby, CostOf, lanesFrom, Memo, Remembered, RowCosts}
 use Rattle.banks.proofs.Costing.{nobody-left}
+use Rattle.banks.proofs.Near.{all-pass, cells-own, recalled-near}
 use Rattle.banks.proofs.Distance.{cost-same}
 
 -- The numbers of the first t threads, written from `at` on.
@@ -123,7 +127,7 @@ module _ (cell : ℕ → ℕ) (mask cost slot : ℕ) (memo memo′ : List ℕ) (
       few-by i h (yes e) = let z = here i 33 e ∙ R .cost-is in omega arith
       few-by i h (no n) = let z = R .others (i * 34 + 33) (outside i 33 n (omega arith)) in omega (arith, M .few i h)
 
-older-still : (k : ℕ) (stamps : List ℕ) → Older k stamps → Older (k + 1) stamps
+pub older-still : (k : ℕ) (stamps : List ℕ) → Older k stamps → Older (k + 1) stamps
 older-still k stamps O = record { size = O .size; below = λ i h. omega (arith, O .below i h) }
 
 members-few : (k : ℕ) (E : Mask) (cell : ℕ → ℕ) → length (map cell (membersFrom k E)) ≤ length E
@@ -132,13 +136,27 @@ members-few k [] cell = omega arith
 members-few k (false ∷ E) cell = let z = members-few (suc k) E cell in omega arith
 members-few k (true ∷ E) cell = let z = members-few (suc k) E cell in omega arith
 
+own-few : (cs : List ℕ) → length (own cs) ≤ length cs
+unfolding passing
+own-few [] = omega arith
+own-few (c ∷ cs) = by (ltb c commonFrom) (own-few cs)
+  where
+    by : (b : Bool) → length (own cs) ≤ length cs → length (cond b (c ∷ own cs) (own cs)) ≤ suc (length cs)
+    by true h = omega (arith, h)
+    by false h = omega (arith, h)
+
 module _ (cell : ℕ → ℕ) (n mask stamp : ℕ) (stamps memo : List ℕ) (M : Memo memo) where
   -- one thread alone
   pub costs-alone : n ≤ 1 → Older stamp stamps → RowCosts cell n mask stamp 0 stamps memo
   unfolding members
   costs-alone h O =
       record {
-        cost-is = λ E e l a. let z = cost-bound (map cell (membersFrom 0 E)) in let y = members-few 0 E cell in omega arith;
+        cost-is = λ E e l a.
+            let cs = map cell (membersFrom 0 E) in
+            let z = cost-bound (own cs) in
+            let y = members-few 0 E cell in
+            let x = own-few cs in
+            omega arith;
         few = omega arith;
         older = older-still stamp stamps O;
         memo = M;
@@ -146,30 +164,36 @@ module _ (cell : ℕ → ℕ) (n mask stamp : ℕ) (stamps memo : List ℕ) (M :
 
   -- a row that is remembered
   pub costs-again : (slot : ℕ) → slot < 16 → n ≤ 32 → Older stamp stamps → getD memo (slot * 34 + 32) 0 ≡ mask → AtOneDistance n cell (lanesFrom memo (slot * 34))
-      → RowCosts cell n mask stamp (getD memo (slot * 34 + 33) 0) stamps memo
-  costs-again slot h few O em D =
+      → Nearby cell (lanesFrom memo (slot * 34)) → RowCosts cell n mask stamp (getD memo (slot * 34 + 33) 0) stamps memo
+  unfolding members
+  costs-again slot h few O em D N =
       record {
         cost-is = λ E e l a.
             let told = M .each slot h E (em ∙ e) (omega arith) in
-            told .1 ∙ sym (cost-same n cell (lanesFrom memo (slot * 34)) E l D a (told .0));
+            let all = recalled-near _ 0 cell (lanesFrom memo (slot * 34)) E (λ t k. D t (omega arith)) N (told .0) a in
+            told .1 ∙ sym (cost-same n cell (lanesFrom memo (slot * 34)) E l D all (told .0)) ∙ ap conflictCost (sym (all-pass commonFrom (omega arith) _ all));
         few = M .few slot h;
         older = older-still stamp stamps O;
         memo = M;
       }
 
-  -- a number that is no cell's: the row will be stopped
-  pub costs-outside : (r : ℕ) → 32 ≤ r → n ≤ 32 → RowCounted cell mask stamp r stamps → RowCosts cell n mask stamp 0 stamps memo
-  costs-outside r h few C =
-      record { cost-is = λ E e l a. absurd (C .outside h E e (omega arith) a); few = omega arith; older = C .older; memo = M }
+  module _ (r : ℕ) (C : RowCounted cell n mask stamp r stamps) (few : n ≤ 32) where
+    -- a row with numbers that are no cells' is counted, and not remembered
+    pub costs-part : 32 ≤ r → RowCosts cell n mask stamp (r - 32) stamps memo
+    costs-part h =
+        record {
+          cost-is = λ E e l a. C .part h E e (omega arith) ∙ ap conflictCost (cells-own _ a);
+          few = omega (arith, C .few);
+          older = C .older;
+          memo = M;
+        }
 
-  -- a row that is counted and remembered
-  pub costs-new : (r slot : ℕ) (memo′ : List ℕ) → (r ≡ 32 → ⊥) → n ≤ 32 → RowCounted cell mask stamp r stamps
-      → Remembered cell mask r (slot * 34) memo memo′ → RowCosts cell n mask stamp r stamps memo′
-  costs-new r slot memo′ u few C R =
-      let small : r < 32 = let l = C .few in omega (arith, u) in
-      record {
-        cost-is = λ E e l a. C .done small E e (omega arith) .1;
-        few = omega arith;
-        older = C .older;
-        memo = memo-more cell mask r slot memo memo′ M R (omega arith) (C .done small);
-      }
+    -- a row without them is remembered too
+    pub costs-new : (slot : ℕ) (memo′ : List ℕ) → r < 32 → Remembered cell mask r (slot * 34) memo memo′ → RowCosts cell n mask stamp r stamps memo′
+    costs-new slot memo′ small R =
+        record {
+          cost-is = λ E e l a. let told = C .whole small E e (omega arith) in told .1 ∙ ap conflictCost (sym (all-pass commonFrom (omega arith) _ (told .0)));
+          few = omega arith;
+          older = C .older;
+          memo = memo-more cell mask r slot memo memo′ M R (omega arith) (C .whole small);
+        }

@@ -4,10 +4,10 @@ use mathlib.Core.Logic.{_⊎_}
 use mathlib.Core.List.{List, map}
 use Prim.Native.Nat.{ℕ, _+_, _*_, _<_, _≤_}
 use lib.ListN.{length, getD}
-use Rattle.spec.specs.Word.{sub}
+use Rattle.spec.specs.Word.{add, sub}
 use Rattle.spec.specs.Mask.{Mask, maskWord, members}
 use Rattle.spec.specs.Banks.{conflictCost}
-use Rattle.banks.specs.Counting.{AllCells, Older}
+use Rattle.banks.specs.Counting.{AllCells, Known, Older, own}
 
 -- The first n numbers of two rows, at one distance from each other.
 abbrev pub AtOneDistance : (n : ℕ) → (cell other : ℕ → ℕ) → Type 0
@@ -34,9 +34,13 @@ pub record Remembered (cell : ℕ → ℕ) (mask cost at : ℕ) (memo memo′ : 
   pub cost-is : getD memo′ (at + 33) 0 ≡ cost
   pub others : (i : ℕ) → (i < at) ⊎ (at + 34 ≤ i) → getD memo′ i 0 ≡ getD memo i 0
 
--- What a row of n threads costs, where its numbers are all cells'.
+-- Two rows at one distance that is within 1,024 either way.
+abbrev pub Nearby : (cell other : ℕ → ℕ) → Type 0
+Nearby cell other = add (sub (cell 0) (other 0)) 1024 < 2048
+
+-- What a row of n threads costs, where its numbers are all cells' or common cells'.
 pub record RowCosts (cell : ℕ → ℕ) (n mask stamp r : ℕ) (stamps′ memo′ : List ℕ) : Type 0 where
-  pub cost-is : (E : Mask) → mask ≡ maskWord E → length E ≡ n → AllCells (map cell (members E)) → r ≡ conflictCost (map cell (members E))
+  pub cost-is : (E : Mask) → mask ≡ maskWord E → length E ≡ n → Known (map cell (members E)) → r ≡ conflictCost (own (map cell (members E)))
   pub few : r ≤ 31
   pub older : Older (stamp + 1) stamps′
   pub memo : Memo memo′

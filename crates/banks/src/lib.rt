@@ -4,8 +4,8 @@ ghost use mathlib.Core.Path.{_≡_};
 ghost use mathlib.Core.Bool.{true};
 ghost use Prim.Native.Nat.{_+_, _-_, _*_, _^_, _<_, _≤_};
 ghost use lib.ListN.{length, getD};
-ghost use Rattle.banks.specs.Counting.{numbersIn, Older, Fit, Counted, RowCounted};
-ghost use Rattle.banks.specs.Remembering.{AtOneDistance, lanesFrom, Memo, Remembered, RowCosts};
+ghost use Rattle.banks.specs.Counting.{numbersIn, Older, Fit, Counted, RowCounted, AllFar};
+ghost use Rattle.banks.specs.Remembering.{AtOneDistance, Nearby, lanesFrom, Memo, Remembered, RowCosts};
 
 // A cell that the row uses: where it has not used it before, its bank has one more. The largest count so far comes in and goes out.
 fn count(stamps: &mut [u32; 1024], counts: &mut [u32; 16], stamp: u32, i: usize, most: u32) -> u32
@@ -41,35 +41,42 @@ fn index(x: u32) -> usize
     x as usize
 }
 
-// The cost of a row whose enabled threads have their cells' numbers in register r, counted. 32, which no row costs, where a number is no cell's.
+// The cost of a row whose enabled threads have their cells' numbers in register r, counted. Numbers that are no cell's count nothing, but where there are
+// any the answer is 32 more, which no row costs.
 fn count_row(regs: &[u32; 512], r: usize, mask: u32, stamps: &mut [u32; 1024], stamp: u32) -> u32
     requires { ⌜ (length (now regs) ≡ 512) × (r < 16) × Older stamp (now stamps) ⌝ }
-    ensures { λ c. ⌜ RowCounted (numbersIn (now (regs .entry)) r) mask stamp c (now (stamps .exit)) ⌝ }
+    ensures { λ c. ⌜ RowCounted (numbersIn (now (regs .entry)) r) 32 mask stamp c (now (stamps .exit)) ⌝ }
 {
     let mut m = mask;
     let mut t = 0;
     let mut counts: [u32; 16] = [0; 16];
     let mut most: u32 = 0;
+    let mut far: u32 = 0;
     while m != 0 {
         if m % 2 == 1 {
             let x = index(regs[r * 32 + t]);
-            if 1024 <= x {
-                return 32;
+            if x < 1024 {
+                most = count(stamps, &mut counts, stamp, x, most);
+            } else {
+                far = 32;
             }
-            most = count(stamps, &mut counts, stamp, x, most);
         }
         m = m / 2;
         t += 1;
     }
-    cost(most)
+    cost(most) + far
 }
 
 // Whether the first n numbers in register r are at one distance from those that are remembered from `at` on.
 fn at_one_distance(regs: &[u32; 512], r: usize, memo: &[u32; 544], at: usize, n: usize) -> bool
     requires { ⌜ (length (now regs) ≡ 512) × (length (now memo) ≡ 544) × (r < 16) × (at + 34 ≤ 544) × (n ≤ 32) ⌝ }
-    ensures { λ b. ⌜ (b ≡ true → AtOneDistance n (numbersIn (now (regs .entry)) r) (lanesFrom (now (memo .entry)) at)) ⌝ }
+    ensures { λ b. ⌜ (b ≡ true → AtOneDistance n (numbersIn (now (regs .entry)) r) (lanesFrom (now (memo .entry)) at)
+        × Nearby (numbersIn (now (regs .entry)) r) (lanesFrom (now (memo .entry)) at)) ⌝ }
 {
     let distance = words::sub(regs[r * 32], memo[at]);
+    if 2048 <= words::add(distance, 1024) {
+        return false;
+    }
     let mut same = 0;
     let mut t = 0;
     while t < n {
@@ -97,7 +104,8 @@ fn remember(regs: &[u32; 512], r: usize, mask: u32, cost: u32, memo: &mut [u32; 
 fn recalls(regs: &[u32; 512], r: usize, n: u32, mask: u32, memo: &[u32; 544], at: usize) -> bool
     requires { ⌜ (length (now regs) ≡ 512) × (length (now memo) ≡ 544) × (r < 16) × (at + 34 ≤ 544) × (n ≤ 32) ⌝ }
     ensures { λ b. ⌜ (b ≡ true → (getD (now (memo .entry)) (at + 32) 0 ≡ mask)
-        × AtOneDistance n (numbersIn (now (regs .entry)) r) (lanesFrom (now (memo .entry)) at)) ⌝ }
+        × AtOneDistance n (numbersIn (now (regs .entry)) r) (lanesFrom (now (memo .entry)) at)
+        × Nearby (numbersIn (now (regs .entry)) r) (lanesFrom (now (memo .entry)) at)) ⌝ }
 {
     if memo[at + 32] != mask {
         return false;
@@ -105,7 +113,42 @@ fn recalls(regs: &[u32; 512], r: usize, n: u32, mask: u32, memo: &[u32; 544], at
     at_one_distance(regs, r, memo, at, n as usize)
 }
 
-// What the row with this stamp costs. `slot` is where its cost is looked for and remembered. One thread alone meets no conflict.
+// Whether the first n numbers in register r are all common cells', or beyond: then they cost nothing. Mostly the first one tells that they are not.
+fn all_far(regs: &[u32; 512], r: usize, n: usize) -> bool
+    requires { ⌜ (length (now regs) ≡ 512) × (r < 16) × (n ≤ 32) ⌝ }
+    ensures { λ b. ⌜ (b ≡ true → AllFar n (numbersIn (now (regs .entry)) r)) ⌝ }
+{
+    if regs[r * 32] < 65536 {
+        return false;
+    }
+    let mut near: u32 = 0;
+    let mut t = 0;
+    while t < n {
+        near = near + words::lt(regs[r * 32 + t], 65536);
+        t += 1;
+    }
+    near == 0
+}
+
+// The cost of a row of n threads that nothing remembered tells, counted likewise.
+fn count_new(
+    regs: &[u32; 512],
+    r: usize,
+    n: u32,
+    mask: u32,
+    stamps: &mut [u32; 1024],
+    stamp: u32,
+) -> u32
+    requires { ⌜ (length (now regs) ≡ 512) × (r < 16) × (n ≤ 32) × Older stamp (now stamps) ⌝ }
+    ensures { λ c. ⌜ RowCounted (numbersIn (now (regs .entry)) r) n mask stamp c (now (stamps .exit)) ⌝ }
+{
+    if all_far(regs, r, n as usize) {
+        return 32;
+    }
+    count_row(regs, r, mask, stamps, stamp)
+}
+
+// What the row with this stamp costs. `slot` is where its cost is looked for and remembered, unless it has common cells. One thread alone meets no conflict.
 pub fn row_cost(
     regs: &[u32; 512],
     r: usize,
@@ -126,9 +169,9 @@ pub fn row_cost(
     if recalls(regs, r, n, mask, memo, at) {
         return memo[at + 33];
     }
-    let cost = count_row(regs, r, mask, stamps, stamp);
-    if cost == 32 {
-        return 0;
+    let cost = count_new(regs, r, n, mask, stamps, stamp);
+    if 32 <= cost {
+        return cost - 32;
     }
     remember(regs, r, mask, cost, memo, at);
     cost

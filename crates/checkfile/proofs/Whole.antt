@@ -19,110 +19,14 @@ use Rattle.spec.specs.Launch.{Launch, launchIntervals, launchLog, ownAfter, glo
 use Rattle.spec.specs.LaunchFile.{Checked, Read, stop, read, refused, accepted, unlessRefused, checkedTable, fileLaunch}
 use Rattle.spec.specs.Entries.{fileLent, andState, fileChecked, bareLaunch, launchReport, reportLength, ifAccepted, fileAnswer, fileCellsAfter, fileGlobalAfter}
 use Rattle.spec.specs.Entries.{fileLogAfter, fileRecordsAfter, fileOutputAfter, checkedRefusal, over, checkPrints}
-use Rattle.spec.specs.Limits.{recordsLent}
+use Rattle.spec.specs.Limits.{recordsLent, fileOutput}
 use Rattle.spec.specs.Intervals.{recordWords}
 use Rattle.spec.specs.Shape.{sizes}
 use Rattle.spec.specs.Demands.{ReportDemand3, FileReadable, OfWritten}
 use Rattle.spec.proofs.Laws.{front-of}
 use Rattle.structure.proofs.Refusals.{unless-none, orElse-none}
 use Rattle.readback.proofs.Runs.{file-readable, launch-printed, report-demand3}
-use Rattle.reader.specs.Answer.{endAt}
-use Rattle.reader.proofs.Ready.{runnable}
-use Rattle.launchrun.specs.Launches.{sizesBy}
-use Rattle.launchfile.specs.declared.Parsed.{Parsed}
-use Rattle.launchfile.specs.Parsed.{linesRead, ReadAs, ParsedIs, AcceptedAs}
-use Rattle.launchfile.proofs.Whole.{whole-file}
-use Rattle.filerun.specs.Reported.{Asks, launchOf, ReportedLaunch}
-
--- What the reader's answer says of the lines.
-lines-refused : (x : Read Launch) (p : Parsed) (why : Refusal) → ReadAs x p → p .answer ≡ admission.Refused why → x ≡ stop why
-lines-refused (stop r) p why h e = ap stop (Option·some-injective r why (sym (ap (λ (q : Parsed). refusalOf (q .answer)) h) ∙ ap refusalOf e))
-lines-refused (read launch line rest) p why h e = absurd (Option·none-ne-some why (sym (ap refusalOf (h .answer)) ∙ ap refusalOf e))
-
-pub record Accepted (x : Read Launch) (p : Parsed) : Type 0 where
-  pub launch : Launch
-  pub line : ℕ
-  pub rest : List ℕ
-  pub lines : x ≡ read launch line rest
-  pub stands : AcceptedAs launch p
-
-lines-accepted : (x : Read Launch) (p : Parsed) → ReadAs x p → p .answer ≡ admission.Accepted → Accepted x p
-lines-accepted (stop r) p h e = absurd (Option·none-ne-some r (sym (ap refusalOf e) ∙ ap (λ (q : Parsed). refusalOf (q .answer)) h))
-lines-accepted (read launch line rest) p h e = record { launch = launch; line = line; rest = rest; lines = refl; stands = h }
-
--- The bytes of the table that was read.
-abbrev pub tableBytes : Parsed → List ℕ
-tableBytes p = take (4 * p .launch .rows) (p .launch .table)
-
-abbrev pub cellWords : Parsed → List ℕ
-cellWords p = take (p .launch .count) (p .launch .cells)
-
-abbrev pub globalWords : Parsed → List ℕ
-globalWords p = take (p .launch .shared) (p .launch .global)
-
-abbrev pub launchRead : Parsed → Launch
-launchRead p = launchOf (tableBytes p) (p .launch .threads) (p .launch .groups) (p .launch .each) (p .launch .limit) (cellWords p) (globalWords p)
-
-same-launch : (launch : Launch) (p : Parsed) → AcceptedAs launch p → launch ≡ launchRead p
-unfolding bareLaunch
-same-launch launch p a =
-    let many : p .launch .shared ≡ length (globalWords p) =
-    sym (length-take-le (p .launch .shared) (p .launch .global) (omega (arith, a .globalLong, a .within .fewCells))) in
-    let Z : launch .sizes ≡ sizesBy (p .launch .threads) (p .launch .groups) (p .launch .each) (globalWords p) =
-    sym (a .sizesAre) ∙ ap (sizes (p .launch .threads) (p .launch .each) (p .launch .groups)) many in
-    λ i. record { sizes = Z i; limit = sym (a .limit) i; table = sym (a .table) i; cells = sym (a .cells) i }
-
-module _ (file : List ℕ) (p : Parsed) (h : ParsedIs file p) where
-  pub file-refused : (why : Refusal) → p .answer ≡ admission.Refused why → fileLaunch file ≡ refused why
-  unfolding checkedTable
-  file-refused why e = whole-file file ∙ ap checkedTable (lines-refused (linesRead file) p why (h .read-as) e)
-
-  module _ (e : p .answer ≡ admission.Accepted) where
-    abbrev lines : Accepted (linesRead file) p
-    lines = lines-accepted (linesRead file) p (h .read-as) e
-
-    of-file : AcceptedAs (lines .launch) p
-    of-file = lines .stands
-
-    by-table : fileLaunch file ≡ unlessRefused (tableRefusal (rowsOf (tableBytes p))) (launchRead p)
-    unfolding checkedTable bareLaunch
-    by-table =
-        whole-file file
-        ∙ ap checkedTable (lines .lines)
-        ∙ ap (λ (l : Launch). unlessRefused (tableRefusal (l .table)) l) (same-launch (lines .launch) p of-file)
-
-    pub table-refused : (why : Refusal) → tableRefusal (rowsOf (tableBytes p)) ≡ some why → fileLaunch file ≡ refused why
-    unfolding unlessRefused
-    table-refused why q = by-table ∙ ap (λ (x : Option Refusal). unlessRefused x (launchRead p)) q
-
-    pub launch-accepted : tableRefusal (rowsOf (tableBytes p)) ≡ none → fileLaunch file ≡ accepted (launchRead p)
-    unfolding unlessRefused
-    launch-accepted q = by-table ∙ ap (λ (x : Option Refusal). unlessRefused x (launchRead p)) q
-
-    -- The parts that hold the table and the words.
-    pub small : p .launch .rows ≤ 256
-    small = of-file .within .fewRows
-
-    pub used : 4 * p .launch .rows ≤ length (p .launch .table)
-    used = omega (arith, of-file .tableLong, of-file .within .fewRows)
-
-    pub table-length : 4 * p .launch .rows ≡ length (tableBytes p)
-    table-length = sym (length-take-le (4 * p .launch .rows) (p .launch .table) used)
-
-    pub filled : p .launch .count ≤ length (p .launch .cells)
-    filled = omega (arith, of-file .cellsLong, of-file .own, of-file .within .fewCells)
-
-    pub words-length : p .launch .count ≡ length (cellWords p)
-    words-length = sym (length-take-le (p .launch .count) (p .launch .cells) filled)
-
-    pub filled-global : p .launch .shared ≤ length (p .launch .global)
-    filled-global = omega (arith, of-file .globalLong, of-file .within .fewCells)
-
-    pub global-length : p .launch .shared ≡ length (globalWords p)
-    global-length = sym (length-take-le (p .launch .shared) (p .launch .global) filled-global)
-
-    pub whole-rows : (length (tableBytes p) % 4 ≡ 0) × (length (tableBytes p) ≤ 4 * 256)
-    whole-rows = (omega (arith, table-length), omega (arith, table-length, of-file .within .fewRows))
+use Rattle.filerun.specs.Launches.{Lent, ReportedLaunch}
 
 pub lent-is : (held shared logged recorded room : ℕ) → fileLent held shared logged recorded room ≡ none
     → (held ≡ 1024) × (shared ≡ 1024) × (logged ≡ 8192) × (recordsLent ≤ recorded) × (24576 ≤ room)
@@ -220,26 +124,8 @@ module _ (file cells global log records output : List ℕ) where
       (d .records-left ∙ sym (ap (λ x. ifAccepted x records (λ l. recordWords (launchIntervals l))) taken))
       (d .report-written ∙ sym (ap (λ x. ifAccepted x output launchReport) taken))
 
-  -- What running the launch asks.
-  pub asked : (p : Parsed) (h : ParsedIs file p) (e : p .answer ≡ admission.Accepted) (loopEnds : List ℕ) → tableRefusal (rowsOf (tableBytes p)) ≡ none
-      → ((i : ℕ) → i < 256 → getD loopEnds i 0 ≡ endAt (rowsOf (tableBytes p)) i) → byState ≡ none
-      → Asks (tableBytes p) loopEnds (p .launch .threads) (p .launch .groups) (p .launch .each) (p .launch .limit) (cellWords p) (globalWords p) cells global log records output
-  asked p h e loopEnds t f q =
-      let w = of-file file p h e .within in
-      let l = lent-is (length cells) (length global) (length log) (length records) (length output) q in
-      record {
-        checked = runnable (tableBytes p) loopEnds (whole-rows file p h e .1) t f;
-        someThread = w .someThread;
-        fewThreads = w .fewThreads;
-        someGroup = w .someGroup;
-        fewGroups = w .fewGroups;
-        fewRuns = w .fewRuns;
-        own = sym (words-length file p h e) ∙ of-file file p h e .own;
-        someCell = w .someCell;
-        fewCells = omega (arith, words-length file p h e, global-length file p h e, of-file file p h e .own, w .fewCells);
-        cellsLent = l .0;
-        globalLent = l .1;
-        logLent = l .2;
-        recordsLent = l .3;
-        outputLent = l .4;
-      }
+  -- What running the launch asks of the buffers.
+  pub roomy : byState ≡ none → Lent cells global log records × (fileOutput ≤ length output)
+  roomy q =
+      let lent = lent-is (length cells) (length global) (length log) (length records) (length output) q in
+      (record { cellsLent = lent .0; globalLent = lent .1; logLent = lent .2; recordsLent = lent .3 }, lent .4)

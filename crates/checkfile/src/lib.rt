@@ -32,25 +32,12 @@ pub fn check_file(
     ensures reads { λ r. ⌜ OfWritten (FileReadable (now (file .entry))) r (now (output .exit)) ⌝ }
     ensures runs { λ r. ⌜ OfWritten (ReportDemand3 (now (file .entry))) r (now (output .exit)) ⌝ }
 {
-    let parsed = launchfile::read_launch(file);
-    let answer = parsed.answer;
-    let launch = parsed.launch;
-    match answer {
-        Admission::Refused(why) => return Written::Refused(why),
-        Admission::Accepted => {}
-    }
-    let table = launch.table;
-    let words = launch.cells;
-    let shared = launch.global;
-    let used = 4 * launch.rows;
-    let count = launch.count;
-    let more = launch.shared;
-    let read = reader::read_table(&table[..used]);
-    let found = read.answer;
-    let ends = read.ends;
-    match found {
-        Admission::Refused(why) => return Written::Refused(why),
-        Admission::Accepted => {}
+    let found = filelaunch::file_launch(file);
+    let answer = found.answer;
+    let launch = found.launch;
+    let ends = found.ends;
+    if let Admission::Refused(why) = answer {
+        return Written::Refused(why);
     }
     match admission::lent_for_file(
         cells.len(),
@@ -62,13 +49,21 @@ pub fn check_file(
         Admission::Refused(why) => return Written::Refused(why),
         Admission::Accepted => {}
     }
-    filerun::run_launch(
+    let table = launch.table;
+    let words = launch.cells;
+    let shared = launch.global;
+    let used = 4 * launch.rows;
+    let count = launch.count;
+    let more = launch.shared;
+    let none: [u32; 0] = [];
+    filerun::report_launch(
         &table[..used],
         &ends,
         launch.threads,
         launch.groups,
         launch.each,
         launch.limit,
+        &none,
         &words[..count],
         &shared[..more],
         cells,

@@ -20,12 +20,12 @@ use Rattle.constructs.proofs.Barrier.{barrier-means}
 
 module _ (n : ℕ) (z : LockState) (s : State) (regs cells log saved openers : List ℕ) (R : Represents n z s regs cells log saved openers)
     (T : Table) (L : Shape) (x : Row) (op : ℕ) (q : x .op ≡ opOf op) where
-  pub barrier-after : 1 ≤ n → op ≡ 37 → (r : Next) (log′ : List ℕ) → (r ≡ barrierNext n s) × (log′ ≡ barrierLog n s (length cells) log)
-      → After n (runRow T (shapeBy n cells) x z (x .op)) r regs cells log′ saved openers
+  pub barrier-after : (common : List ℕ) → 1 ≤ n → op ≡ 37 → (r : Next) (log′ : List ℕ) → (r ≡ barrierNext n s) × (log′ ≡ barrierLog n s (length cells) log)
+      → After n (runRow T (shapeBy n cells common) x z (x .op)) r regs cells log′ saved openers
   unfolding runRow opOf opTable
-  barrier-after o e r log′ (er, el) =
-      subst (λ y. After n y r regs cells log′ saved openers) (sym (ap (runRow T (shapeBy n cells) x z) (q ∙ ap opOf e)))
-      (subst₂ (λ y w. After n (barrierRow (shapeBy n cells) z) y regs cells w saved openers) (sym er) (sym el) (barrier-means n z s regs cells log saved openers R o))
+  barrier-after common o e r log′ (er, el) =
+      subst (λ y. After n y r regs cells log′ saved openers) (sym (ap (runRow T (shapeBy n cells common) x z) (q ∙ ap opOf e)))
+      (subst₂ (λ y w. After n (barrierRow (shapeBy n cells common) z) y regs cells w saved openers) (sym er) (sym el) (barrier-means n z s regs cells log saved openers R common o))
 
   module _ (a e : ℕ) (ea : x .a ≡ a) (ee : x .op ≡ WHILE → e ≡ endOf T (z .row)) (small : (op ≡ 32 → a < 16) × (op ≡ 35 → a < 16))
       (D : DepthAsks op s openers) where

@@ -27,8 +27,8 @@ use Rattle.layout.specs.Represents.{Represents, After, Counts, movedOn}
 use Rattle.layout.specs.Constructs.{passedState, divergedNext, barrierNext, barrierLog}
 use Rattle.layout.proofs.PlainRows.{moves-on}
 
-module _ (n : ℕ) (z : LockState) (s : State) (regs cells log saved openers : List ℕ) (R : Represents n z s regs cells log saved openers) where
-  skips : s .mask ≡ 0 → After n (barrierRow (shapeBy n cells) z) (next.Go (movedOn s)) regs cells log saved openers
+module _ (n : ℕ) (z : LockState) (s : State) (regs cells log saved openers : List ℕ) (R : Represents n z s regs cells log saved openers) (common : List ℕ) where
+  skips : s .mask ≡ 0 → After n (barrierRow (shapeBy n cells common) z) (next.Go (movedOn s)) regs cells log saved openers
   unfolding barrierRow
   skips e =
       let no : any (z .enabled) ≡ false = any-none (z .enabled) (sym (R .enabled-is) ∙ e) in
@@ -38,16 +38,16 @@ module _ (n : ℕ) (z : LockState) (s : State) (regs cells log saved openers : L
   some-on ne = any-some (z .enabled) (λ e. ne (R .enabled-is ∙ e))
 
   -- the one group's threads can name every cell
-  reached : (i : ℕ) → i < length (z .cells) → reaches (shapeBy n cells) i ≡ true
+  reached : (i : ℕ) → i < length (z .cells) → reaches (shapeBy n cells common) i ≡ true
   unfolding reaches isOwn
   reached i l =
       let size = ap length (R .memory .cells-are) in
-      ap₂ (λ a b. a && b || isGlobal (shapeBy n cells) i) (le-leb (0 * length cells) i (omega arith)) (lt-ltb i (0 * length cells + length cells) (omega arith))
+      ap₂ (λ a b. a && b || isGlobal (shapeBy n cells common) i) (le-leb (0 * length cells) i (omega arith)) (lt-ltb i (0 * length cells + length cells) (omega arith))
 
   abbrev walked : List ℕ
   walked = cellsCleared (length cells) (s .reach + 1) log
 
-  passes : 1 ≤ n → s .mask ≡ 2 ^ n - 1 → After n (barrierRow (shapeBy n cells) z) (next.Go (passedState s)) regs cells walked saved openers
+  passes : 1 ≤ n → s .mask ≡ 2 ^ n - 1 → After n (barrierRow (shapeBy n cells common) z) (next.Go (passedState s)) regs cells walked saved openers
   unfolding barrierRow passBarrier
   passes o em =
       let two : 2 ^ 1 ≤ 2 ^ n = pow-mono {i = 1} {j = n} o in
@@ -63,7 +63,7 @@ module _ (n : ℕ) (z : LockState) (s : State) (regs cells log saved openers : L
             few = M .few;
             regs-are = M .regs-are;
             cells-are = M .cells-are;
-            log-is = cleared-is n (length (z .cells)) (z .log) log (M .log-is) (reaches (shapeBy n cells)) reached walked whole;
+            log-is = cleared-is n (length (z .cells)) (z .log) log (M .log-is) (reaches (shapeBy n cells common)) reached walked whole;
           };
           row-is = omega (arith, R .row-is);
           enabled-is = R .enabled-is;
@@ -78,7 +78,7 @@ module _ (n : ℕ) (z : LockState) (s : State) (regs cells log saved openers : L
         },
       )
 
-  diverges : (s .mask ≡ 0 → ⊥) → (s .mask ≡ 2 ^ n - 1 → ⊥) → After n (barrierRow (shapeBy n cells) z) (divergedNext n s) regs cells log saved openers
+  diverges : (s .mask ≡ 0 → ⊥) → (s .mask ≡ 2 ^ n - 1 → ⊥) → After n (barrierRow (shapeBy n cells common) z) (divergedNext n s) regs cells log saved openers
   unfolding barrierRow
   diverges ne nm =
       let yes-any = some-on ne in
@@ -93,11 +93,11 @@ module _ (n : ℕ) (z : LockState) (s : State) (regs cells log saved openers : L
       ∙ lowest-is (map not (z .enabled)) 32 (omega (arith, rest-size (z .enabled))) (rest-any (z .enabled) part) in
       rw (yes-any, part) (s, ap₂ (λ x y. next.Stop s (Diverged x y)) first other, R)
 
-  pub barrier-means : 1 ≤ n → After n (barrierRow (shapeBy n cells) z) (barrierNext n s) regs cells (barrierLog n s (length cells) log) saved openers
+  pub barrier-means : 1 ≤ n → After n (barrierRow (shapeBy n cells common) z) (barrierNext n s) regs cells (barrierLog n s (length cells) log) saved openers
   unfolding barrierNext barrierLog
   barrier-means o = by (ℕ-discrete (s .mask) (2 ^ n - 1)) (ℕ-discrete (s .mask) 0)
     where
-      by : Dec (s .mask ≡ 2 ^ n - 1) → Dec (s .mask ≡ 0) → After n (barrierRow (shapeBy n cells) z) (barrierNext n s) regs cells (barrierLog n s (length cells) log) saved openers
+      by : Dec (s .mask ≡ 2 ^ n - 1) → Dec (s .mask ≡ 0) → After n (barrierRow (shapeBy n cells common) z) (barrierNext n s) regs cells (barrierLog n s (length cells) log) saved openers
       by (yes e) d = rw (eq-eqb (s .mask) (2 ^ n - 1) e) (passes o e)
       by (no f) (yes e) = rw (ne-eqb (s .mask) (2 ^ n - 1) f, eq-eqb (s .mask) 0 e) (skips e)
       by (no f) (no g) = rw (ne-eqb (s .mask) (2 ^ n - 1) f, ne-eqb (s .mask) 0 g) (diverges g f)

@@ -15,26 +15,26 @@ use Rattle.contents.proofs.Filling.{cell-put, cell-kept}
 
 pub record CellsGoing (key file : List ℕ) (n : ℕ) (cells after rest : List ℕ) (k : ℕ) : Type 0 where
   pub under : k ≤ n
-  pub long : length after ≡ 1024
+  pub long : length after ≡ length cells
   pub going : (name : String) → text name ≡ key → Going name number file k rest (take k after)
   pub kept : drop k after ≡ drop k cells
 
-pub cells-start : (key file : List ℕ) (n : ℕ) (cells : List ℕ) → length cells ≡ 1024 → CellsGoing key file n cells cells file 0
-cells-start key file n cells l = record { under = omega arith; long = l; going = λ name e. start name number file; kept = refl }
+pub cells-start : (key file : List ℕ) (n : ℕ) (cells : List ℕ) → CellsGoing key file n cells cells file 0
+cells-start key file n cells = record { under = omega arith; long = refl; going = λ name e. start name number file; kept = refl }
 
 -- The line under a name that has these bytes.
 named : {key : List ℕ} (rest : List ℕ) {o : Option ℕ} → keyedValue key number rest ≡ o → (name : String) → text name ≡ key → keyedValue (text name) number rest ≡ o
 named rest e name q = ap (λ k. keyedValue k number rest) q ∙ e
 
 module _ {key file : List ℕ} {n : ℕ} {cells after rest : List ℕ} {k : ℕ} (g : CellsGoing key file n cells after rest k) where
-  pub cells-more : n ≤ 1024 → k < n → {v : ℕ} → keyedValue key number rest ≡ some v
+  pub cells-more : n ≤ length cells → k < n → {v : ℕ} → keyedValue key number rest ≡ some v
       → {left : List ℕ} → left ≡ nextIn rest → CellsGoing key file n cells (set after k v) left (k + 1)
   cells-more m h {v} e q =
       record {
         under = omega arith;
         long = length-set after k v ∙ g .long;
         going = λ name w i line.
-            rw (q, cell-put after k v (g .long) (omega arith)) (more name number file k rest (take k after) (g .going name w) v (named rest e name w) i line);
+            rw (q, cell-put after k v (omega (arith, g .long))) (more name number file k rest (take k after) (g .going name w) v (named rest e name w) i line);
         kept = cell-kept after cells k v (g .kept);
       }
 

@@ -74,8 +74,8 @@ row-kept t u k op d a b e =
 pub row-long : (t : List ℕ) (at op d a b : ℕ) → length (putRow t at op d a b) ≡ length t
 row-long t at op d a b = simp length-set
 
-pub cell-put : (t : List ℕ) (k v : ℕ) → length t ≡ 1024 → k < 1024 → take (k + 1) (set t k v) ≡ take k t ++ (v ∷ [])
-cell-put t k v long h = stored t k (k + 1) v (add-one k) (omega arith)
+pub cell-put : (t : List ℕ) (k v : ℕ) → k < length t → take (k + 1) (set t k v) ≡ take k t ++ (v ∷ [])
+cell-put t k v h = stored t k (k + 1) v (add-one k) h
 
 pub cell-kept : (t u : List ℕ) (k v : ℕ) → drop k t ≡ drop k u → drop (k + 1) (set t k v) ≡ drop (k + 1) u
 cell-kept t u k v e = drop-set-lt (k + 1) t k v (omega arith) ∙ kept-later k 1 t u e

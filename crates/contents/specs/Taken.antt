@@ -39,5 +39,5 @@ pub record CellsTaken (key : List ℕ) (n : ℕ) (file cells after : List ℕ) (
   pub within : good ≤ n
   pub lines : (name : String) → text name ≡ key → (line : ℕ) → times n (due name number) line file ≡ taken n line good (take n after) rest
   pub front : (name : String) → text name ≡ key → (line : ℕ) → times good (due name number) line file ≡ read (take good after) (line + good) rest
-  pub long : length after ≡ 1024
+  pub long : length after ≡ length cells
   pub kept : drop good after ≡ drop good cells

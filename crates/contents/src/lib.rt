@@ -43,10 +43,10 @@ pub fn read_cells<'a>(
     file: &'a [u8],
     key: &[u8],
     n: usize,
-    cells: &mut [u32; 1024],
+    cells: &mut [u32],
     good: &mut usize,
 ) -> &'a [u8]
-    requires { ⌜ (n ≤ 1024) × (length (now cells) ≡ 1024) ⌝ }
+    requires { ⌜ n ≤ length (now cells) ⌝ }
     ensures { λ r. ⌜ CellsTaken (now (key .entry)) n (now (file .entry)) (now (cells .entry)) (now (cells .exit)) (now (good .exit)) (now r) ⌝ }
 {
     let mut rest = file;

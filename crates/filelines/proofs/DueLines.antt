@@ -1,13 +1,16 @@
--- That a line which is due is read by its key and its value. Assumes nothing.
+-- That a line which is due is read by its key and its value, and that nothing is due behind the last. Assumes nothing.
 use mathlib.Core.Path.{_≡_, refl, ap, _∙_}
-use mathlib.Core.List.{List}
+use mathlib.Core.List.{List, [], _∷_}
 use mathlib.Core.Bool.{Bool, cond}
 use mathlib.Core.Option.{Option, none, some}
 use Prim.Native.Nat.{ℕ}
 use Prim.Native.String.{String}
+use native.Mathlib.Omega.{arith}
+use lib.ListN.{length}
 use Rattle.spec.specs.Lists.{equalList}
 use Rattle.spec.specs.Text.{text, Halves, splitAt, newline, equals}
-use Rattle.spec.specs.LaunchFile.{given, lineValue, isDue, due, exactly}
+use Rattle.spec.specs.LaunchFile.{stop, read, given, lineValue, isDue, due, fileEnds, exactly}
+use Rattle.spec.specs.declared.Refusal.the-variants.{LineNotDue}
 use Rattle.text.specs.Parts.{frontIn, backIn, frontOf, backOf}
 use Rattle.filelines.specs.Lines.{nameIs, lineNamed, keyed, valueIn, nextIn, keyedValue, lineRead}
 use Rattle.filelines.specs.Values.{wordIn, exactBytes}
@@ -45,3 +48,14 @@ pub due-word : (key word : String) (line : ℕ) (rest : List ℕ) (t : Bool) →
     → due key (exactly word) line rest ≡ lineRead line (wordIn t) (nextIn rest)
 unfolding keyedValue exactly exactBytes
 due-word key word line rest t e = due-line line key (exactly word) rest ∙ ap (λ (o : Option (Unit {0})). lineRead line o (nextIn rest)) e
+
+-- Whether anything stands behind the last line.
+pub ended : (line : ℕ) (rest : List ℕ) → length rest ≡ 0 → fileEnds line rest ≡ read tt line []
+unfolding fileEnds
+ended line [] e = refl
+ended line (b ∷ rest) e = absurd (omega arith)
+
+pub not-ended : (line : ℕ) (rest : List ℕ) → (length rest ≡ 0 → ⊥) → fileEnds line rest ≡ stop (LineNotDue line)
+unfolding fileEnds
+not-ended line [] n = absurd (n refl)
+not-ended line (b ∷ rest) n = refl

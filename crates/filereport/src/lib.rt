@@ -1,30 +1,10 @@
 // What the program check prints for a launch file: the report of its run, or of its refusal.
-use spec::Refusal;
-use spec::Subject;
 use spec::Written;
 ghost use mathlib.Core.Path.{_≡_};
 ghost use Prim.Native.Nat.{_≤_};
 ghost use lib.ListN.{length, take};
-ghost use Rattle.spec.specs.Answers.{refusalNumber, refusalPlace};
-ghost use Rattle.spec.specs.Report.{refusalReport};
 ghost use Rattle.spec.specs.Entries.{over, checkPrints};
 ghost use Rattle.spec.specs.Demands.{ReportDemand3, FileReadable};
-
-fn report_refusal(why: Refusal, output: &mut [u8]) -> usize
-    requires { ⌜ 24576 ≤ length (now output) ⌝ }
-    ensures long { λ r. ⌜ r ≡ length (refusalReport (refusalNumber why) (refusalPlace why)) ⌝ }
-    ensures written { λ _. ⌜ now (output .exit) ≡ over (refusalReport (refusalNumber why) (refusalPlace why)) (now (output .entry)) ⌝ }
-    ensures fits { λ r. ⌜ r ≤ 24576 ⌝ }
-{
-    let told = refusals::words(why);
-    let subject = Subject::Refused(told[0], told[1]);
-    let none: [u32; 0] = [];
-    match report::write_report(subject, &none, &none, &none, output) {
-        Written::Wrote(size) => size,
-        // A refusal's report has room.
-        Written::Refused(short) => 0,
-    }
-}
 
 pub fn report_file(file: &[u8], output: &mut [u8; 24576]) -> usize
     ensures long { λ r. ⌜ r ≡ length (checkPrints (now (file .entry))) ⌝ }
@@ -46,6 +26,6 @@ pub fn report_file(file: &[u8], output: &mut [u8; 24576]) -> usize
         output,
     ) {
         Written::Wrote(size) => size,
-        Written::Refused(why) => report_refusal(why, output),
+        Written::Refused(why) => refusalreport::report_refusal(why, output),
     }
 }

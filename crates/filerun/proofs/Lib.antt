@@ -1,2 +1,3 @@
 pub mod Front
 pub mod Running
+pub mod Founds

@@ -1,2 +1,2 @@
 -- What an accepted launch's run asks and leaves. Assumes nothing.
-pub mod Reported
+pub mod Launches

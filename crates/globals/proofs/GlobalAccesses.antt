@@ -1,6 +1,6 @@
 -- One thread's access of a global cell, by what it comes to: stopped in the group, a race with another group, or made. Assumes nothing.
 use mathlib.Core.Path.{_≡_, refl, sym, _∙_, ap, ap₂, subst}
-use mathlib.Core.List.{List}
+use mathlib.Core.List.{List, []}
 use mathlib.Core.Bool.{true, false, cond}
 use Prim.Native.Nat.{ℕ, _+_, _*_, _^_, _<_, _≤_}
 use native.Mathlib.Omega.{arith}
@@ -61,7 +61,7 @@ module _ (L : Shape) (z : LockState) (regs cells log masks : List ℕ) (M : Glob
 
     -- the turn in the stretch
     abbrev seen : Step
-    seen = accessTurn (shapeBy (L .threads) cells) OWN m x view t
+    seen = accessTurn (shapeBy (L .threads) cells []) OWN m x view t
 
     abbrev kind : Kind
     kind = kindOf m (reg z t (x .a))
@@ -69,12 +69,12 @@ module _ (L : Shape) (z : LockState) (regs cells log masks : List ℕ) (M : Glob
     number : reg z t (cellByte m x) ≡ i
     number =
         unfold reg viewOf in
-        (number-is (L .threads) t view regs cells log (M .memory) h op d a t i m x o (A .known) (A .small) N ed ea (A .target) (A .source) refl)
+        (number-is (L .threads) t view regs cells log (M .memory) h op d a t i m x o (A .known) (A .small) N ed ea (A .target) (A .source) refl [])
 
     turn-by : turn ≡ globalStep L z t i kind seen
     turn-by =
         global-turn L z (M .sized) (L .threads) t m x
-        ∙ ap₂ (λ c k. globalStep L z t c kind (accessTurn (alone (L .threads) k) OWN m x view t)) number (sym count)
+        ∙ ap₂ (λ c k. globalStep L z t c kind (accessTurn (alone (L .threads) k []) OWN m x view t)) number (sym count)
 
     did : (y : Step) (w : Access) (regs′ cells′ log′ masks′ : List ℕ) → turn ≡ y → GlobalDid L z y w regs′ cells′ log′ masks′
         → GlobalDid L z turn w regs′ cells′ log′ masks′
@@ -102,7 +102,7 @@ module _ (L : Shape) (z : LockState) (regs cells log masks : List ℕ) (M : Glob
       goes =
           let alone = goes-alone op (getD regs (a * 32 + t) 0) bit i cells log P .1 in
           let single : bit < 2 ^ 32 = omega (arith, eb, pow-lt {i = t} {j = 32} (omega (arith, M .memory .few))) in
-          goes-turn (L .threads) t view regs cells log (M .memory) h op d a t i m x o (A .known) (A .small) N ed ea (A .target) (A .source) refl inside bit
+          goes-turn (L .threads) t view regs cells log (M .memory) h op d a t i m x o (A .known) (A .small) N ed ea (A .target) (A .source) refl [] inside bit
           (bitOr (testedWord op (getD regs (a * 32 + t) 0) (length cells) i log) bit) (getD regs (a * 32 + t) 0) eb refl refl (omega (arith, alone, single)) single alone
 
       abbrev groups : Mask

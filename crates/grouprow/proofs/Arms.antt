@@ -108,23 +108,23 @@ module _ (table ends : List ℕ) (n group : ℕ) (s : State) (regs cells log sav
         sized = R .sizes .masks-sized;
       }
 
-  module _ (counts stamps memo records : List ℕ) (C : Roomy (s .mask) (s .since + 1) counts) where
+  module _ (common counts stamps memo records : List ℕ) (C : Roomy (s .mask) (s .since + 1) counts) where
     -- What the row due of the group comes to.
     abbrev GroupRow : Next → (regs′ cells′ log′ saved′ openers′ global′ shared′ masks′ counts′ records′ stamps′ memo′ : List ℕ) → Type 0
     GroupRow r regs′ cells′ log′ saved′ openers′ global′ shared′ masks′ counts′ records′ stamps′ memo′ =
-        GroupSteps table n group s regs cells log saved openers global shared masks r regs′ cells′ log′ saved′ openers′ global′ shared′ masks′
+        GroupSteps table n group s common regs cells log saved openers global shared masks r regs′ cells′ log′ saved′ openers′ global′ shared′ masks′
         × NextCounted byte s r counts counts′
         × RowRecorded byte n group (cellDue table s regs) s r records records′ stamps′ memo′
 
     own-row-is : (18 < byte → byte < 32 → ⊥) → (r : Next) (regs′ cells′ log′ saved′ openers′ counts′ records′ stamps′ memo′ shared′ : List ℕ)
-        → OwnRow table n group s regs cells log saved openers counts records shared r regs′ cells′ log′ saved′ openers′ counts′ records′ stamps′ memo′ shared′
+        → OwnRow table n group s common regs cells log saved openers counts records shared r regs′ cells′ log′ saved′ openers′ counts′ records′ stamps′ memo′ shared′
         → GroupRow r regs′ cells′ log′ saved′ openers′ global shared′ masks counts′ records′ stamps′ memo′
     own-row-is f r regs′ cells′ log′ saved′ openers′ counts′ records′ stamps′ memo′ shared′ D =
         let S = D .0 in (
           record {
             counts = S .counts;
-            done = λ L z en eg G.
-                step-done table n group s regs cells log saved openers global shared masks r regs′ (R .inside) L z en G cells′ log′ saved′ openers′ S
+            done = λ L z en eg ec G.
+                step-done table n group s regs cells log saved openers global shared masks r regs′ (R .inside) L z en G common cells′ log′ saved′ openers′ ec S
                 (R .own-asks f .known) f shared′ (D .3);
             regs-are = record { numbered = λ e. absurd (f (omega arith) (omega arith)); others = λ g. S .regs-are };
             saved-are = S .saved-are;
@@ -136,13 +136,13 @@ module _ (table ends : List ℕ) (n group : ℕ) (s : State) (regs cells log sav
 
     pub access-is : 16 ≤ byte → byte < 19
         → (r : Next) (regs′ cells′ log′ records′ stamps′ memo′ : List ℕ)
-        → AccessDone byte n (x .d) (x .a) s regs cells log r regs′ cells′ log′ × KeptBut (x .d) n regs regs′ × StepsOn s r
+        → AccessDone byte n (x .d) (x .a) s common regs cells log r regs′ cells′ log′ × KeptBut (x .d) n regs regs′ × StepsOn s r
         × RowRecorded byte n group (cellIn byte (x .d) (x .a) regs) s r records records′ stamps′ memo′
         → GroupRow r regs′ cells′ log′ saved openers global shared masks counts records′ stamps′ memo′
     access-is low high r regs′ cells′ log′ records′ stamps′ memo′ D =
         let own : 18 < byte → byte < 32 → ⊥ = λ h l. omega (arith, high) in
         own-row-is own r regs′ cells′ log′ saved openers counts records′ stamps′ memo′ shared
-        (access-row-is table ends n group s regs cells log saved openers counts stamps memo records shared (own-ready own) C (x .d) (x .a) (X .d-is) (X .a-is) low (omega (arith, high))
+        (access-row-is table ends n group s common regs cells log saved openers counts stamps memo records shared (own-ready own) C (x .d) (x .a) (X .d-is) (X .a-is) low (omega (arith, high))
         r regs′ cells′ log′ records′ stamps′ memo′ D)
 
     module _ (O : Older (s .rows + 1) stamps) (M : Memo memo) where
@@ -151,7 +151,7 @@ module _ (table ends : List ℕ) (n group : ℕ) (s : State) (regs cells log sav
       compute-is high r regs′ D =
           let own : 18 < byte → byte < 32 → ⊥ = λ h l. omega (arith, high) in
           own-row-is own r regs′ cells log saved openers counts records stamps memo shared
-          (compute-row-is table ends n group s regs cells log saved openers counts stamps memo records shared (own-ready own) C O M (x .d) (x .a) (x .b) (X .d-is) (X .a-is) (X .b-is) high r regs′ D)
+          (compute-row-is table ends n group s common regs cells log saved openers counts stamps memo records shared (own-ready own) C O M (x .d) (x .a) (x .b) (X .d-is) (X .a-is) (X .b-is) high r regs′ D)
 
       pub construct-is : 32 ≤ byte → byte < 37
           → (r : Next) (saved′ openers′ counts′ : List ℕ) → ConstructCounted byte (x .a) (getD ends (s .row) 0) s regs saved openers counts r saved′ openers′ counts′
@@ -159,7 +159,7 @@ module _ (table ends : List ℕ) (n group : ℕ) (s : State) (regs cells log sav
       construct-is low high r saved′ openers′ counts′ D =
           let own : 18 < byte → byte < 32 → ⊥ = λ h l. omega (arith, low) in
           own-row-is own r regs cells log saved′ openers′ counts′ records stamps memo shared
-          (construct-row-is table ends n group s regs cells log saved openers counts stamps memo records shared (own-ready own) C O M (x .a) (X .a-is) low high
+          (construct-row-is table ends n group s common regs cells log saved openers counts stamps memo records shared (own-ready own) C O M (x .a) (X .a-is) low high
           r saved′ openers′ counts′ D)
 
       pub barrier-is : 37 ≤ byte → (r : Next) (log′ records′ shared′ : List ℕ)
@@ -168,7 +168,7 @@ module _ (table ends : List ℕ) (n group : ℕ) (s : State) (regs cells log sav
       barrier-is low r log′ records′ shared′ D =
           let own : 18 < byte → byte < 32 → ⊥ = λ h l. omega (arith, low) in
           own-row-is own r regs cells log′ saved openers counts records′ stamps memo shared′
-          (barrier-row-is table ends n group s regs cells log saved openers counts stamps memo records shared (own-ready own) C O M low r log′ records′ shared′ D)
+          (barrier-row-is table ends n group s common regs cells log saved openers counts stamps memo records shared (own-ready own) C O M low r log′ records′ shared′ D)
 
       pub launch-is : byte ≡ 19 → (r : Next) (regs′ : List ℕ) → LaunchDone n group (x .d) s regs r regs′
           → GroupRow r regs′ cells log saved openers global shared masks counts records stamps memo
@@ -178,7 +178,7 @@ module _ (table ends : List ℕ) (n group : ℕ) (s : State) (regs cells log sav
           let slots = slots-kept byte s saved openers (inl below) in (
             record {
               counts = left .0;
-              done = λ L z en eg G.
+              done = λ L z en eg ec G.
                   launch-done table n group s regs cells log saved openers global shared masks r regs′ (R .inside) L z en G eg (x .d) (X .d-is) (R .launch-asks is-launch) D;
               regs-are = record {
                 numbered = λ e. subst (λ k. Numbered n group (s .mask) k regs regs′) (X .d-is) (D .1);
@@ -200,7 +200,7 @@ module _ (table ends : List ℕ) (n group : ℕ) (s : State) (regs cells log sav
           let slots = slots-kept byte s saved openers (inl high) in (
             record {
               counts = left .0;
-              done = λ L z en eg G.
+              done = λ L z en eg ec G.
                   global-done table n group s regs cells log saved openers global shared masks r regs′ (R .inside) L z en G eg (x .d) (x .a) (X .d-is) (X .a-is) A global′ shared′ masks′ D;
               regs-are = record {
                 numbered = λ e. absurd (f e);

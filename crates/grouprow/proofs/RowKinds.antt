@@ -89,13 +89,14 @@ module _ (table : List ℕ) (n group : ℕ) (s : State) (regs cells log saved op
       ap length (G .own .memory .cells-are)
       ∙ part-size (ownFrom L) (L .cells) (z .cells) (omega (arith, G .globals .sized .cells-are, own-within L z (G .globals .sized)))
 
-  module _ (cells′ log′ saved′ openers′ : List ℕ) (S : Steps table n s regs cells log saved openers r regs′ cells′ log′ saved′ openers′) where
+  module _ (common cells′ log′ saved′ openers′ : List ℕ) (ec : L .common ≡ common) (S : Steps table n s common regs cells log saved openers r regs′ cells′ log′ saved′ openers′) where
     -- what the row comes to in the view of a group alone
-    alone-after : After (L .threads) (runRow T (alone (L .threads) (L .cells)) x view (x .op)) r regs′ cells′ log′ saved′ openers′
+    alone-after : After (L .threads) (runRow T (alone (L .threads) (L .cells) (L .common)) x view (x .op)) r regs′ cells′ log′ saved′ openers′
     unfolding viewOf
     alone-after =
-        subst₂ (λ k c. After k (runRow T (alone k c) x view (x .op)) r regs′ cells′ log′ saved′ openers′) (sym en) own-count
-        (S .done view (subst (λ k. Represents k view s regs cells log saved openers) en (G .own)))
+        subst (λ w. After (L .threads) (runRow T (alone (L .threads) (L .cells) w) x view (x .op)) r regs′ cells′ log′ saved′ openers′) (sym ec)
+        (subst₂ (λ k c. After k (runRow T (alone k c common) x view (x .op)) r regs′ cells′ log′ saved′ openers′) (sym en) own-count
+        (S .done view (subst (λ k. Represents k view s regs cells log saved openers) en (G .own))))
 
     own-done : byte ≤ 37 → (18 < byte → byte < 32 → ⊥) → (byte ≡ 37 → ⊥)
         → GroupAfter L (runRow T L x z (x .op)) r regs′ cells′ log′ saved′ openers′ global shared masks
@@ -109,7 +110,7 @@ module _ (table : List ℕ) (n group : ℕ) (s : State) (regs cells log saved op
         let is-barrier : x .op ≡ BARRIER = op-here ∙ ap opOf e ∙ byte-barrier in
         subst (λ o. GroupAfter L (runRow T L x z o) r regs′ cells′ log′ saved′ openers′ global shared′ masks) (sym is-barrier)
         (barrier-group L z s regs cells log saved openers global shared masks G T x r regs′ cells′ log′ saved′ openers′ shared′
-        (subst (λ o. After (L .threads) (runRow T (alone (L .threads) (L .cells)) x view o) r regs′ cells′ log′ saved′ openers′) is-barrier alone-after) C)
+        (subst (λ o. After (L .threads) (runRow T (alone (L .threads) (L .cells) (L .common)) x view o) r regs′ cells′ log′ saved′ openers′) is-barrier alone-after) C)
 
     -- by the byte
     pub step-done : byte ≤ 37 → (18 < byte → byte < 32 → ⊥) → (shared′ : List ℕ) → SharedLeft byte s r shared shared′

@@ -64,10 +64,10 @@ pub record GroupRegsAfter (op n group mask d a b : ℕ) (regs regs′ : List ℕ
   pub others : (op ≡ 19 → ⊥) → RegsAfter op n mask d a b regs regs′
 
 -- What a row comes to: what the definition's row comes to from the state that stands, and every word that no such state shows.
-pub record GroupSteps (table : List ℕ) (n group : ℕ) (s : State) (regs cells log saved openers global shared masks : List ℕ) (r : Next)
+pub record GroupSteps (table : List ℕ) (n group : ℕ) (s : State) (common regs cells log saved openers global shared masks : List ℕ) (r : Next)
     (regs′ cells′ log′ saved′ openers′ global′ shared′ masks′ : List ℕ) : Type 0 where
   pub counts : Counts s r
-  pub done : (L : Shape) (z : LockState) → L .threads ≡ n → L .group ≡ group → GroupStands L z s regs cells log saved openers global shared masks
+  pub done : (L : Shape) (z : LockState) → L .threads ≡ n → L .group ≡ group → L .common ≡ common → GroupStands L z s regs cells log saved openers global shared masks
       → GroupAfter L (runRow (rowsOf table) L (rowAt (rowsOf table) (z .row)) z (rowAt (rowsOf table) (z .row) .op)) r regs′ cells′ log′ saved′ openers′
       global′ shared′ masks′
   pub regs-are : GroupRegsAfter (getD table (s .row * 4) 0) n group (s .mask) (getD table (s .row * 4 + 1) 0) (getD table (s .row * 4 + 2) 0)

@@ -17,6 +17,7 @@ pub fn group_row(
     regs: &mut [u32; 512],
     cells: &mut [u32],
     log: &mut [u32],
+    common: &[u32],
     global: &mut [u32],
     shared: &mut [u32],
     masks: &mut [u32],
@@ -31,7 +32,7 @@ pub fn group_row(
     requires { ⌜ GroupReady (now table) (now ends) n group s (now regs) (now cells) (now log) (now saved) (now openers) (now global) (now shared) (now masks)
         × Roomy (s .mask) (s .since + 1) (now counts) × Older (s .rows + 1) (now stamps) × Memo (now memo)
         × RecordAsks (s .barriers + group) (s .rows) (now records) ⌝ }
-    ensures { λ r. ⌜ GroupSteps (now (table .entry)) n group s (now (regs .entry)) (now (cells .entry)) (now (log .entry)) (now (saved .entry))
+    ensures { λ r. ⌜ GroupSteps (now (table .entry)) n group s (now (common .entry)) (now (regs .entry)) (now (cells .entry)) (now (log .entry)) (now (saved .entry))
         (now (openers .entry)) (now (global .entry)) (now (shared .entry)) (now (masks .entry)) r
         (now (regs .exit)) (now (cells .exit)) (now (log .exit)) (now (saved .exit)) (now (openers .exit))
         (now (global .exit)) (now (shared .exit)) (now (masks .exit))
@@ -58,6 +59,7 @@ pub fn group_row(
             regs,
             cells,
             log,
+            common,
             stamps,
             memo,
             records,

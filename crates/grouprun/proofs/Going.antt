@@ -1,19 +1,19 @@
 -- A group's run, one row at a time. Assumes nothing.
 use mathlib.Core.Path.{_≡_, refl, sym, _∙_, ap, subst, subst₂}
 use mathlib.Core.Logic.{_⊎_, inl, inr, ⊎-elim}
-use mathlib.Core.List.{List, [], _∷_}
+use mathlib.Core.List.{List, [], _∷_, map}
 use mathlib.Core.Bool.{true, false}
 use Prim.Native.Nat.{ℕ, zero, suc, _+_, _-_, _*_, _/_, _^_, _<_, _≤_}
 use native.Mathlib.Omega.{arith}
 use native.Mathlib.Decide.{ℕ-discrete}
 use borrow.Author.Tests.{le-leb, lt-leb, eq-eqb, ne-eqb}
 use lib.ListN.{length, getD, replicate, length-replicate, getD-replicate}
-use Rattle.spec.specs.Limits.{logPerCell, recordsLent}
+use Rattle.spec.specs.Limits.{logPerCell, maxCommon, recordsLent}
 use Rattle.spec.specs.declared.Verdict.{Verdict}
 use Rattle.spec.specs.declared.Verdict.the-variants.{Passed, Spent}
 use Rattle.spec.specs.Mask.{Mask, maskWord, members}
 use Rattle.spec.specs.Op.{Op, CALC, LAUNCHTID, OWN, GLOBAL, Mem, MEM, IF, ELSE, ENDIF, WHILE, ENDWHILE, BARRIER, UNKNOWN, opOf}
-use Rattle.spec.specs.Table.{Table, Row, rowsOf, opening, role, rowAt, openBefore, openedBy, innermost, Fits, rowOf}
+use Rattle.spec.specs.Table.{Table, Row, rowsOf, cellByte, opening, role, rowAt, openBefore, openedBy, innermost, Fits, rowOf}
 use Rattle.spec.specs.Shape.{Shape}
 use Rattle.spec.specs.LockStep.{LockState, Step, continues, stops, topOpener, reg, runRow, LockResult, resultOf, runFrom}
 use Rattle.spec.specs.LockStep.{advance, countSteps, endifRow, pop, topMask}
@@ -44,7 +44,7 @@ use Rattle.layout.specs.Running.{RowAsks, Runnable, startState}
 use Rattle.layout.specs.Counting.{Roomy, Added, stepping, NextCounted, actedBefore, ThreadFits, Tally}
 use Rattle.stepcounts.proofs.RowSteps.{whoSteps, RowSteps, StoppedRow, row-steps}
 use Rattle.stepcounts.proofs.Tallies.{tally-start, tally-room, tally-row, tally-end, tally-fits, tally-stop-room, tally-stop}
-use Rattle.banks.specs.Counting.{AllCells, Older}
+use Rattle.banks.specs.Counting.{Known, Older, own}
 use Rattle.banks.specs.Remembering.{Memo}
 use Rattle.intervals.specs.Records.{released, recordsAfter, RecordAsks, Ledger}
 use Rattle.intervals.proofs.Ledger.{endsHere, ledger-asks, ledger-row, ledger-release}
@@ -55,12 +55,12 @@ use Rattle.grouprun.specs.declared.Ended.{Ended}
 use Rattle.grouprun.specs.Groups.{GroupStart, GroupEnd, SomeStart, followed}
 use Rattle.grouprun.proofs.RowBytes.{BytesAsk, row-asks}
 use Rattle.grouprun.proofs.Starting.{group-of, starts-sim, starts-stand}
-use Rattle.grouprun.proofs.Recording.{intervals-start, intervals-row, intervals-end, intervals-spent, release-free, grown-one, plain-free, used-are, own-below, last}
-use Rattle.grouprun.proofs.Recording.{all-cells, row-went, row-stopped, behind-none, behind-more, after-none, after-more, row-followed, end-followed}
+use Rattle.grouprun.proofs.Recording.{intervals-start, intervals-row, intervals-end, intervals-spent, release-free, grown-one, plain-free, numbers-are, used-own, own-known, last}
+use Rattle.grouprun.proofs.Recording.{row-went, row-stopped, behind-none, behind-more, after-none, after-more, row-followed, end-followed}
 
 -- Between two rows of a group: the code's state stands for some state of the lock-step run, which is simulated by the threads' machine, and from which the
 -- rest of the group's run comes to o. The lent list stands for the intervals that are left, those of later groups behind them.
-pub record Going (table : List ℕ) (n group limit : ℕ) (L : Shape) (o : LockResult) (whole : List Interval) (lent : List ℕ) (more : List Interval) (s : State)
+pub record Going (table : List ℕ) (n group limit : ℕ) (common : List ℕ) (L : Shape) (o : LockResult) (whole : List Interval) (lent : List ℕ) (more : List Interval) (s : State)
     (regs cells log saved openers global shared masks counts stamps memo records : List ℕ) : Type 0 where
   pub here : LockState
   pub frames : List Frame
@@ -68,6 +68,7 @@ pub record Going (table : List ℕ) (n group limit : ℕ) (L : Shape) (o : LockR
   pub sim : Sim (rowsOf table) L here frames threads
   pub threads-are : L .threads ≡ n
   pub group-is : L .group ≡ group
+  pub common-are : L .common ≡ common
   pub stands : GroupStands L here s regs cells log saved openers global shared masks
   pub same : runFrom (rowsOf table) L (limit - s .rows) here ≡ o
   pub tally : Tally here s counts
@@ -79,25 +80,26 @@ pub record Going (table : List ℕ) (n group limit : ℕ) (L : Shape) (o : LockR
   pub remembered : Memo memo
   pub ledger : Ledger whole lent (followed (intervalsFrom (rowsOf table) L (limit - s .rows) here) more) (s .barriers + group) (s .rows) records
 
-module _ (table ends : List ℕ) (n group limit rows barriers : ℕ) (L : Shape) (z : LockState) (cells global masks : List ℕ)
-    (S : GroupStart n group rows barriers cells global masks L z) (A : Runnable table ends) where
+module _ (table ends : List ℕ) (n group limit rows barriers : ℕ) (L : Shape) (z : LockState) (common cells global masks : List ℕ)
+    (S : GroupStart n group rows barriers common cells global masks L z) (A : Runnable table ends) where
   pub go-start : (whole : List Interval) (lent : List ℕ) (more : List Interval) (s : State) (log shared stamps memo records : List ℕ) → n ≤ 32
       → s ≡ startState (2 ^ n - 1) rows barriers → rows ≤ limit → barriers ≤ rows
       → log ≡ replicate (logPerCell * length cells) 0 → shared ≡ replicate (logPerCell * length global) 0 → Older (rows + 1) stamps → Memo memo
       → Ledger whole lent (followed (intervalsFrom (rowsOf table) L (limit - rows) z) more) (barriers + group) rows records
-      → Going table n group limit L (runFrom (rowsOf table) L (limit - rows) z) whole lent more s (replicate 512 0) cells log (replicate 8 0) (replicate 8 0)
+      → Going table n group limit common L (runFrom (rowsOf table) L (limit - rows) z) whole lent more s (replicate 512 0) cells log (replicate 8 0) (replicate 8 0)
       global shared masks (replicate 32 0) stamps memo records
   go-start whole lent more s log shared stamps memo records l es hr hb el eg O M B =
-      subst (λ x. Going table n group limit L (runFrom (rowsOf table) L (limit - rows) z) whole lent more x (replicate 512 0) cells log (replicate 8 0) (replicate 8 0)
+      subst (λ x. Going table n group limit common L (runFrom (rowsOf table) L (limit - rows) z) whole lent more x (replicate 512 0) cells log (replicate 8 0) (replicate 8 0)
       global shared masks (replicate 32 0) stamps memo records) (sym es)
       (record {
         here = z;
         frames = [];
-        threads = group-of n group rows barriers cells global masks L z S (rowsOf table);
-        sim = starts-sim n group rows barriers cells global masks L z S (rowsOf table) (well-formed (rowsOf table) (A .accepted));
+        threads = group-of n group rows barriers common cells global masks L z S (rowsOf table);
+        sim = starts-sim n group rows barriers common cells global masks L z S (rowsOf table) (well-formed (rowsOf table) (A .accepted));
         threads-are = S .threads-are;
         group-is = S .group-is;
-        stands = starts-stand n group rows barriers cells global masks L z S l log shared el eg;
+        common-are = S .common-are;
+        stands = starts-stand n group rows barriers common cells global masks L z S l log shared el eg;
         same = refl;
         tally = tally-start z _ (L .threads) (S .steps-are) refl;
         every = ap length (S .steps-are) ∙ length-replicate {A = ℕ} (L .threads) 0 ∙ S .threads-are;
@@ -178,9 +180,10 @@ run-spent : (T : Table) (L : Shape) (z : LockState) → z .row < length T → ru
 unfolding runFrom
 run-spent T L z h = rw (lt-leb (length T) (z .row) h)
 
-view-used : (m : Mem) (x : Row) (a k : ℕ) (z : LockState) → usedCells m x (viewOf a k z) ≡ usedCells m x z
-unfolding usedCells reg viewOf
-view-used m x a k z = refl
+view-numbers : (m : Mem) (x : Row) (a k : ℕ) (z : LockState) → map (λ t. reg (viewOf a k z) t (cellByte m x)) (members (viewOf a k z .enabled))
+    ≡ map (λ t. reg z t (cellByte m x)) (members (z .enabled))
+unfolding reg viewOf
+view-numbers m x a k z = refl
 
 first-followed : (is : Intervals) (more : List Interval) → followed is more .first .start ≡ is .first .start
 unfolding followed
@@ -287,9 +290,9 @@ module _ (n k d a b : ℕ) (own : (18 < k → k < 32 → ⊥) → RowAsks k d a 
       by (inr h) (inr p) (inl l) (inr w) = let A = global w l in plain (MEM GLOBAL (A .mem)) (A .names) l refl
       by (inr h) (inr p) (inr l) w = construct l
 
-module _ (table ends : List ℕ) (n group limit : ℕ) (L : Shape) (o : LockResult) (whole : List Interval) (lent : List ℕ) (more : List Interval) (s : State)
+module _ (table ends : List ℕ) (n group limit : ℕ) (common : List ℕ) (L : Shape) (o : LockResult) (whole : List Interval) (lent : List ℕ) (more : List Interval) (s : State)
     (regs cells log saved openers global shared masks counts stamps memo records : List ℕ)
-    (G : Going table n group limit L o whole lent more s regs cells log saved openers global shared masks counts stamps memo records) (A : Runnable table ends) where
+    (G : Going table n group limit common L o whole lent more s regs cells log saved openers global shared masks counts stamps memo records) (A : Runnable table ends) where
   abbrev T : Table
   T = rowsOf table
 
@@ -494,12 +497,12 @@ module _ (table ends : List ℕ) (n group limit : ℕ) (L : Shape) (o : LockResu
     counted : RowSteps (rowAt T (G .here .row) .op) (G .here) done
     counted = row-steps T L (rowAt T (G .here .row)) (G .here) (rowAt T (G .here .row) .op)
 
-    module _ (few-cells : length cells ≤ 1024) (r : Next) (regs′ cells′ log′ saved′ openers′ global′ shared′ masks′ counts′ stamps′ memo′ records′ : List ℕ)
-        (S : GroupSteps table n group s regs cells log saved openers global shared masks r regs′ cells′ log′ saved′ openers′ global′ shared′ masks′)
+    module _ (few-cells : length cells ≤ 1024) (few-common : length common ≤ maxCommon) (r : Next) (regs′ cells′ log′ saved′ openers′ global′ shared′ masks′ counts′ stamps′ memo′ records′ : List ℕ)
+        (S : GroupSteps table n group s common regs cells log saved openers global shared masks r regs′ cells′ log′ saved′ openers′ global′ shared′ masks′)
         (C : NextCounted (getD table (s .row * 4) 0) s r counts counts′)
         (K : RowRecorded (getD table (s .row * 4) 0) n group (cellDue table s regs) s r records records′ stamps′ memo′) where
       stepped : GroupAfter L done r regs′ cells′ log′ saved′ openers′ global′ shared′ masks′
-      stepped = S .done L (G .here) (G .threads-are) (G .group-is) (G .stands)
+      stepped = S .done L (G .here) (G .threads-are) (G .group-is) (G .common-are) (G .stands)
 
       -- what stands after the row
       abbrev Left : LockState → State → Type 0
@@ -555,14 +558,14 @@ module _ (table ends : List ℕ) (n group limit : ℕ) (L : Shape) (o : LockResu
               let regs-in = asked .own (λ a b. omega arith) .accesses h (omega arith) in
               let m = mem-op byte h small in
               let x = row-here table (L .threads) (viewOf (ownFrom L) (L .cells) (G .here)) s regs cells log saved openers (G .stands .own) inside in
-              let used = sym (view-used (m .0) (rowAt T (G .here .row)) (ownFrom L) (L .cells) (G .here))
-              ∙ used-are (L .threads) (viewOf (ownFrom L) (L .cells) (G .here)) regs cells log (G .stands .own .memory) (G .stands .own .enabled-size)
+              let numbers = sym (view-numbers (m .0) (rowAt T (G .here .row)) (ownFrom L) (L .cells) (G .here))
+              ∙ numbers-are (L .threads) (viewOf (ownFrom L) (L .cells) (G .here)) regs cells log (G .stands .own .memory) (G .stands .own .enabled-size)
               (rowAt T (G .here .row)) byte _ _ h small (regs-in .1) (regs-in .2) (ap (λ y. y .d) x) (ap (λ y. y .a) x) (m .0) (m .1) in
               let went = sym (ap (runRow T L (rowAt T (G .here .row)) (G .here)) (row-byte ∙ m .1)) ∙ d in
-              let all = own-below T L (rowAt T (G .here .row)) (G .here) z (m .0) went in
-              K .access h small s′ e (G .here .enabled) enabled-is enabled-size
-              (subst AllCells (used) (all-cells (L .cells) (omega (arith, own-count, few-cells)) (usedCells (m .0) (rowAt T (G .here .row)) (G .here)) all))
-              ∙ ap conflictCost (sym (used))
+              let known = own-known T L (rowAt T (G .here .row)) (G .here) z (m .0) (omega (arith, own-count, few-cells)) (omega (arith, ap length (G .common-are), few-common))
+              went in
+              K .access h small s′ e (G .here .enabled) enabled-is enabled-size (subst Known numbers known)
+              ∙ ap (λ cs. conflictCost (own cs)) (sym numbers) ∙ ap conflictCost (sym (used-own (m .0) (rowAt T (G .here .row)) (G .here)))
               ∙ sym (ap (rowCost (rowAt T (G .here .row)) (G .here)) (m .1) ∙ (unfold rowCost in refl))
 
       -- the intervals from here on, with the row taken off
@@ -625,7 +628,7 @@ module _ (table ends : List ℕ) (n group limit : ℕ) (L : Shape) (o : LockResu
               (first-followed after-row more ∙ intervals-start T L (limit - s′ .rows) z ∙ sym row)
               (words ∙ after-more group (K .cost) s s′ records (omega (arith, grew)) ∙ ap (λ k. released (s .barriers + group) (s′ .row) k records) (one .rows-one)))
 
-      pub go-next : (s′ : State) → r ≡ next.Go s′ → Going table n group limit L o whole lent more s′ regs′ cells′ log′ saved′ openers′ global′ shared′ masks′
+      pub go-next : (s′ : State) → r ≡ next.Go s′ → Going table n group limit common L o whole lent more s′ regs′ cells′ log′ saved′ openers′ global′ shared′ masks′
           counts′ stamps′ memo′ records′
       go-next s′ e = by done refl stepped sims came
         where
@@ -634,7 +637,7 @@ module _ (table ends : List ℕ) (n group limit : ℕ) (L : Shape) (o : LockResu
 
           by : (p : Step) → done ≡ p → GroupAfter L p r regs′ cells′ log′ saved′ openers′ global′ shared′ masks′ → RowDone T L (G .here) (G .threads) p
               → resultOf p (runFrom T L (limit - (s .rows + 1))) ≡ o
-              → Going table n group limit L o whole lent more s′ regs′ cells′ log′ saved′ openers′ global′ shared′ masks′ counts′ stamps′ memo′ records′
+              → Going table n group limit common L o whole lent more s′ regs′ cells′ log′ saved′ openers′ global′ shared′ masks′ counts′ stamps′ memo′ records′
           by (stops v z) d (u, f, R) W q = let y : _≡_ {A = ℕ} 0 1 = cc in absurd (omega arith)
           by (continues z) d (u, f, R) W q =
               let eu : u ≡ s′ = cc in
@@ -647,6 +650,7 @@ module _ (table ends : List ℕ) (n group limit : ℕ) (L : Shape) (o : LockResu
                 sim = W .sim;
                 threads-are = G .threads-are;
                 group-is = G .group-is;
+                common-are = G .common-are;
                 stands = stood;
                 same = ap (λ j. runFrom T L (limit - j) z) (one .rows-one) ∙ (unfold resultOf in q);
                 tally = tallied .0;
@@ -754,19 +758,19 @@ module _ (table ends : List ℕ) (n group limit : ℕ) (L : Shape) (o : LockResu
             }
 
 -- The same from every state that the buffers stood for at the start.
-abbrev pub GoesOn : (table : List ℕ) → (n group limit rows barriers : ℕ) → (cells₀ global₀ masks₀ records₀ : List ℕ) → State
+abbrev pub GoesOn : (table : List ℕ) → (n group limit rows barriers : ℕ) → (common cells₀ global₀ masks₀ records₀ : List ℕ) → State
     → (regs cells log saved openers global shared masks counts stamps memo records : List ℕ) → Type 0
-GoesOn table n group limit rows barriers cells₀ global₀ masks₀ records₀ s regs cells log saved openers global shared masks counts stamps memo records =
-    (L : Shape) (z : LockState) → GroupStart n group rows barriers cells₀ global₀ masks₀ L z → (whole : List Interval) (lent : List ℕ) (more : List Interval)
+GoesOn table n group limit rows barriers common cells₀ global₀ masks₀ records₀ s regs cells log saved openers global shared masks counts stamps memo records =
+    (L : Shape) (z : LockState) → GroupStart n group rows barriers common cells₀ global₀ masks₀ L z → (whole : List Interval) (lent : List ℕ) (more : List Interval)
     → Ledger whole lent (followed (intervalsFrom (rowsOf table) L (limit - rows) z) more) (barriers + group) rows records₀
-    → Going table n group limit L (runFrom (rowsOf table) L (limit - rows) z) whole lent more s regs cells log saved openers global shared masks counts stamps memo records
+    → Going table n group limit common L (runFrom (rowsOf table) L (limit - rows) z) whole lent more s regs cells log saved openers global shared masks counts stamps memo records
 
 -- One of them.
-pub some-going : (table : List ℕ) (n group limit rows barriers : ℕ) (cells₀ global₀ masks₀ records₀ : List ℕ) (s : State)
+pub some-going : (table : List ℕ) (n group limit rows barriers : ℕ) (common cells₀ global₀ masks₀ records₀ : List ℕ) (s : State)
     (regs cells log saved openers global shared masks counts stamps memo records : List ℕ)
-    → GoesOn table n group limit rows barriers cells₀ global₀ masks₀ records₀ s regs cells log saved openers global shared masks counts stamps memo records
-    → (S : SomeStart table n group limit rows barriers cells₀ global₀ masks₀ records₀)
-    → Going table n group limit (S .shape) (runFrom (rowsOf table) (S .shape) (limit - rows) (S .state)) (S .whole) (S .lent) (S .more) s regs cells log saved openers
+    → GoesOn table n group limit rows barriers common cells₀ global₀ masks₀ records₀ s regs cells log saved openers global shared masks counts stamps memo records
+    → (S : SomeStart table n group limit rows barriers common cells₀ global₀ masks₀ records₀)
+    → Going table n group limit common (S .shape) (runFrom (rowsOf table) (S .shape) (limit - rows) (S .state)) (S .whole) (S .lent) (S .more) s regs cells log saved openers
     global shared masks counts stamps memo records
-some-going table n group limit rows barriers cells₀ global₀ masks₀ records₀ s regs cells log saved openers global shared masks counts stamps memo records G S =
+some-going table n group limit rows barriers common cells₀ global₀ masks₀ records₀ s regs cells log saved openers global shared masks counts stamps memo records G S =
     G (S .shape) (S .state) (S .start) (S .whole) (S .lent) (S .more) (S .ledger)

@@ -9,6 +9,7 @@ use native.Mathlib.Decide.{ℕ-discrete}
 use borrow.Author.Tests.{le-leb, lt-leb, lt-ltb, le-ltb, eq-eqb, ne-eqb}
 use lib.Dec.{eqb, leb}
 use lib.ListN.{length, getD}
+use Rattle.spec.specs.Limits.{commonFrom, maxCommon}
 use Rattle.spec.specs.declared.Verdict.{Verdict}
 use Rattle.spec.specs.Mask.{Mask, members, membersFrom}
 use Rattle.spec.specs.Op.{Op, CALC, OWN, Mem, MEM, IF, ELSE, ENDIF, WHILE, ENDWHILE, BARRIER, UNKNOWN, opOf}
@@ -17,8 +18,8 @@ use Rattle.spec.specs.Shape.{Shape, bound}
 use Rattle.spec.specs.LockStep.{LockState, Step, continues, stops, reg, runRow}
 use Rattle.spec.specs.Intervals.{Interval, Intervals, usedCells, rowCost, allOf, started, withRow, behind, intervalsAfter, intervalsFrom}
 use Rattle.spec.proofs.Laws.{map-members, byte-if, byte-else, byte-endif, byte-while, byte-endwhile, byte-barrier}
-use Rattle.spec.proofs.UsedCells.{Below, used-below}
-use Rattle.banks.specs.Counting.{AllCells}
+use Rattle.spec.proofs.UsedCells.{Named, AllNamed, used-named}
+use Rattle.banks.specs.Counting.{Known, own}
 use Rattle.allruns.proofs.Counts.{passes, passedAt, grown}
 use Rattle.layout.proofs.LogTests.{mem-load, mem-store, mem-add, which}
 use Rattle.layout.specs.Memory.{Memory, cellIn}
@@ -111,22 +112,33 @@ module _ (x : Row) (s : LockState) (k d a b : ℕ) (asks : RowAsks k d a b) wher
       by (no f) (no g) (no i) (no j) (yes e) = at 36 ENDWHILE byte-endwhile e
       by (no f) (no g) (no i) (no j) (no l) = at 37 BARRIER byte-barrier (last k h (asks .known) f g i j l)
 
--- Numbers below the count of the cells are cells'.
-pub all-cells : (k : ℕ) → k ≤ 1024 → (cs : List ℕ) → Below k cs → AllCells cs
-all-cells k h [] b = tt
-all-cells k h (c ∷ cs) b = (let l = b .0 in omega arith, all-cells k h cs (b .1))
+-- Numbers below the count of the cells are cells'; of common cells there are few.
+all-known : (k m : ℕ) → k ≤ 1024 → m ≤ maxCommon → (cs : List ℕ) → AllNamed k m cs → Known cs
+all-known k m h l [] b = tt
+all-known k m h l (c ∷ cs) b = (by (b .0), all-known k m h l cs (b .1))
+  where
+    by : Named k m c → (c < 1024) ⊎ ((commonFrom ≤ c) × (c < commonFrom + 256))
+    by (inl q) = inl (omega arith)
+    by (inr q) = let below = q .1 in inr (q .0, omega arith)
 
--- The numbers that a finished row of own accesses used are below the count of own cells.
-pub own-below : (T : Table) (L : Shape) (x : Row) (s z : LockState) (m : Mem) → runRow T L x s (MEM OWN m) ≡ continues z → Below (L .cells) (usedCells m x s)
+-- So are the numbers that a finished row of own accesses used.
+pub own-known : (T : Table) (L : Shape) (x : Row) (s z : LockState) (m : Mem) → L .cells ≤ 1024 → length (L .common) ≤ maxCommon
+    → runRow T L x s (MEM OWN m) ≡ continues z → Known (map (λ t. reg s t (cellByte m x)) (members (s .enabled)))
 unfolding bound
-own-below T L x s z m e = used-below T L x s z OWN m e
+own-known T L x s z m h l e =
+    all-known (L .cells) (length (L .common)) h l (map (λ t. reg s t (cellByte m x)) (members (s .enabled))) (used-named T L x s z OWN m e)
 
--- The cells that a row of accesses uses, by its bytes and the registers.
-pub used-are : (n : ℕ) (s : LockState) (regs cells log : List ℕ) → Memory n s regs cells log → length (s .enabled) ≡ n → (x : Row) (k d a : ℕ)
+-- Those that can cost something are the cells that it uses.
+pub used-own : (m : Mem) (x : Row) (s : LockState) → usedCells m x s ≡ own (map (λ t. reg s t (cellByte m x)) (members (s .enabled)))
+unfolding usedCells
+used-own m x s = refl
+
+-- The numbers that a row of accesses uses, by its bytes and the registers.
+pub numbers-are : (n : ℕ) (s : LockState) (regs cells log : List ℕ) → Memory n s regs cells log → length (s .enabled) ≡ n → (x : Row) (k d a : ℕ)
     → 16 ≤ k → k ≤ 18 → d < 16 → a < 16 → x .d ≡ d → x .a ≡ a → (m : Mem) → opOf k ≡ MEM OWN m
-    → usedCells m x s ≡ map (cellIn k d a regs) (members (s .enabled))
-unfolding usedCells members reg cellIn
-used-are n s regs cells log M size x k d a low high hd ha ed ea m o = map-members _ _ 0 (s .enabled) (λ t l h. each t h)
+    → map (λ t. reg s t (cellByte m x)) (members (s .enabled)) ≡ map (cellIn k d a regs) (members (s .enabled))
+unfolding members reg cellIn
+numbers-are n s regs cells log M size x k d a low high hd ha ed ea m o = map-members _ _ 0 (s .enabled) (λ t l h. each t h)
   where
     found : (r q t : ℕ) → q ≡ r → r < 16 → t < n → getD (getD (s .regs) t []) q 0 ≡ getD regs (r * 32 + t) 0
     found r q t e h l = ap (λ z. getD (getD (s .regs) t []) z 0) e ∙ sym (M .regs-are .at t r l h)

@@ -61,7 +61,7 @@ blank-part n a k G e c l =
       unmarked = sym (part-at a k (G .marks) c false l) ∙ (unfold logPart emptyLog in (ap (λ P. getD (P .marks) c false) e ∙ getD-replicate k c false false l));
     }
 
-module _ (n group rows barriers : ℕ) (cells global masks : List ℕ) (L : Shape) (z : LockState) (S : GroupStart n group rows barriers cells global masks L z) where
+module _ (n group rows barriers : ℕ) (common cells global masks : List ℕ) (L : Shape) (z : LockState) (S : GroupStart n group rows barriers common cells global masks L z) where
   blank : (i : ℕ) → i < total L → reaches L i ≡ true → BlankAt (z .log) i
   unfolding reaches isOwn isGlobal total
   blank i l e = by (leb (ownFrom L) i && ltb i (ownFrom L + L .cells)) refl (leb (globalFrom L) i) refl e

@@ -24,10 +24,11 @@ use Rattle.grouprun.specs.declared.Ended.{Ended}
 
 -- A group starts at row 0 with all its threads enabled and all registers zero. Nothing is logged of the cells that it can name, and it has not entered
 -- the group masks. The buffers hold its own cells, the global ones and their group masks.
-pub record GroupStart (n group rows barriers : ℕ) (cells global masks : List ℕ) (L : Shape) (z : LockState) : Type 0 where
+pub record GroupStart (n group rows barriers : ℕ) (common cells global masks : List ℕ) (L : Shape) (z : LockState) : Type 0 where
   pub threads-are : L .threads ≡ n
   pub group-is : L .group ≡ group
   pub groups-few : L .groups ≤ 8
+  pub common-are : L .common ≡ common
   pub sized : Sized L z
   pub row-is : z .row ≡ 0
   pub enabled-is : z .enabled ≡ replicate (L .threads) true
@@ -68,20 +69,20 @@ followed is more = record { first = is .first; later = is .later ++ more }
 
 -- What is left after the run, from every state that the buffers stood for: the lent list, which stood for the intervals of this group and of later ones,
 -- stands for what is left of them, this group's last one and those of later groups.
-abbrev pub GroupRan : (table : List ℕ) → (n group limit rows barriers : ℕ) → (cells global masks records : List ℕ) → Ended
+abbrev pub GroupRan : (table : List ℕ) → (n group limit rows barriers : ℕ) → (common cells global masks records : List ℕ) → Ended
     → (cells′ log′ global′ shared′ masks′ records′ counts′ stamps′ memo′ : List ℕ) → Type 0
-GroupRan table n group limit rows barriers cells global masks records r cells′ log′ global′ shared′ masks′ records′ counts′ stamps′ memo′ =
-    (L : Shape) (z : LockState) → GroupStart n group rows barriers cells global masks L z
+GroupRan table n group limit rows barriers common cells global masks records r cells′ log′ global′ shared′ masks′ records′ counts′ stamps′ memo′ =
+    (L : Shape) (z : LockState) → GroupStart n group rows barriers common cells global masks L z
     → (whole : List Interval) (lent : List ℕ) (more : List Interval)
     → Ledger whole lent (followed (intervalsFrom (rowsOf table) L (limit - rows) z) more) (barriers + group) rows records
     → GroupEnd limit L (runFrom (rowsOf table) L (limit - rows) z) r cells′ log′ global′ shared′ masks′ counts′ stamps′ memo′
     × ((x : ℕ) × Ledger whole lent (followed (started x) more) (r .barriers + group) (r .rows) records′)
 
 -- Some state of a launch stands in the buffers, and the lent list for its intervals.
-pub record SomeStart (table : List ℕ) (n group limit rows barriers : ℕ) (cells global masks records : List ℕ) : Type 0 where
+pub record SomeStart (table : List ℕ) (n group limit rows barriers : ℕ) (common cells global masks records : List ℕ) : Type 0 where
   pub shape : Shape
   pub state : LockState
-  pub start : GroupStart n group rows barriers cells global masks shape state
+  pub start : GroupStart n group rows barriers common cells global masks shape state
   pub whole : List Interval
   pub lent : List ℕ
   pub more : List Interval

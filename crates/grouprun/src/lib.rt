@@ -2,7 +2,7 @@
 ghost use mathlib.Core.Path.{_≡_};
 ghost use Prim.Native.Nat.{_+_, _^_, _-_, _<_, _≤_};
 ghost use lib.ListN.{length};
-ghost use Rattle.spec.specs.Limits.{recordsLent};
+ghost use Rattle.spec.specs.Limits.{maxCommon, recordsLent};
 ghost use Rattle.layout.specs.Running.{Runnable, startState};
 ghost use Rattle.layout.specs.Counting.{Roomy, Added};
 ghost use Rattle.banks.specs.Counting.{Older};
@@ -49,7 +49,7 @@ fn start(n: u32, rows: u32, barriers: u32) -> layout::State
     }
 }
 
-// The run of a group of n threads over its own cells and the global ones, with at most `limit` rows of the launch; `log` and `shared` are their logs.
+// The run of a group of n threads over its own cells, the common ones and the global ones, with at most `limit` rows of the launch; `log` and `shared` are their logs.
 pub fn run_group(
     table: &[u8],
     ends: &[u8; 256],
@@ -60,6 +60,7 @@ pub fn run_group(
     barriers: u32,
     cells: &mut [u32],
     log: &mut [u32],
+    common: &[u32],
     global: &mut [u32],
     shared: &mut [u32],
     masks: &mut [u32],
@@ -69,11 +70,11 @@ pub fn run_group(
     memo: &mut [u32; 544],
 ) -> Ended
     requires { ⌜ Runnable (now table) (now ends) × (1 ≤ n) × (n ≤ 32) × (group < 8) × (limit ≤ 1000000) × (rows ≤ limit) × (barriers ≤ rows)
-        × BufferSizes (now cells) (now log) (now global) (now shared) (now masks) × (recordsLent ≤ length (now records))
+        × BufferSizes (now cells) (now log) (now global) (now shared) (now masks) × (length (now common) ≤ maxCommon) × (recordsLent ≤ length (now records))
         × Older (rows + 1) (now stamps) × Memo (now memo)
-        × SomeStart (now table) n group limit rows barriers (now cells) (now global) (now masks) (now records) ⌝ }
-    ensures { λ r. ⌜ GroupRan (now (table .entry)) n group limit rows barriers (now (cells .entry)) (now (global .entry)) (now (masks .entry))
-        (now (records .entry)) r (now (cells .exit)) (now (log .exit)) (now (global .exit)) (now (shared .exit)) (now (masks .exit)) (now (records .exit))
+        × SomeStart (now table) n group limit rows barriers (now common) (now cells) (now global) (now masks) (now records) ⌝ }
+    ensures { λ r. ⌜ GroupRan (now (table .entry)) n group limit rows barriers (now (common .entry)) (now (cells .entry)) (now (global .entry))
+        (now (masks .entry)) (now (records .entry)) r (now (cells .exit)) (now (log .exit)) (now (global .exit)) (now (shared .exit)) (now (masks .exit)) (now (records .exit))
         (now (counts .exit)) (now (stamps .exit)) (now (memo .exit)) ⌝ }
 {
     let count = table.len() / 4;
@@ -96,6 +97,7 @@ pub fn run_group(
             &mut regs,
             cells,
             log,
+            common,
             global,
             shared,
             masks,

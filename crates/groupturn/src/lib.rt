@@ -21,7 +21,7 @@ fn first_cell(group: u32, k: usize) -> usize
     (group as usize) * k
 }
 
-// A group's turn over its own k cells of all and the global ones. Its log goes to its place in the launch's, its steps to its threads'.
+// A group's turn over its own k cells of all, the common ones and the global ones. Its log goes to its place in the launch's, its steps to its threads'.
 pub fn turn(
     table: &[u8],
     ends: &[u8; 256],
@@ -32,6 +32,7 @@ pub fn turn(
     barriers: u32,
     k: usize,
     total: usize,
+    common: &[u32],
     cells: &mut [u32],
     global: &mut [u32],
     log: &mut [u32],
@@ -44,10 +45,10 @@ pub fn turn(
     stamps: &mut [u32; 1024],
     memo: &mut [u32; 544],
 ) -> grouprun::Ended
-    requires { ⌜ TurnAsks (now table) (now ends) n group limit rows barriers k total (now cells) (now global) (now log) (now own) (now shared) (now masks)
-        (now records) (now stamps) (now memo) ⌝ }
-    ensures { λ r. ⌜ TurnDone (now (table .entry)) n group limit rows barriers k total (now (cells .entry)) (now (global .entry)) (now (log .entry))
-        (now (masks .entry)) (now (records .entry)) (now (steps .entry)) r
+    requires { ⌜ TurnAsks (now table) (now ends) n group limit rows barriers k total (now common) (now cells) (now global) (now log) (now own) (now shared)
+        (now masks) (now records) (now stamps) (now memo) ⌝ }
+    ensures { λ r. ⌜ TurnDone (now (table .entry)) n group limit rows barriers k total (now (common .entry)) (now (cells .entry)) (now (global .entry))
+        (now (log .entry)) (now (masks .entry)) (now (records .entry)) (now (steps .entry)) r
         (now (cells .exit)) (now (global .exit)) (now (log .exit)) (now (own .exit)) (now (shared .exit)) (now (masks .exit)) (now (records .exit))
         (now (counts .exit)) (now (steps .exit)) (now (stamps .exit)) (now (memo .exit)) ⌝ }
 {
@@ -63,6 +64,7 @@ pub fn turn(
         barriers,
         &mut cells[at..at + k],
         own,
+        common,
         global,
         shared,
         masks,

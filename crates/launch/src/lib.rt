@@ -66,6 +66,7 @@ pub fn bare_launch(
         Admission::Accepted => {}
     }
     let each = admission::wide(count);
+    let none: [u32; 0] = [];
     Answer::Ran(launchrun::run_launch(
         table,
         &ends,
@@ -73,6 +74,7 @@ pub fn bare_launch(
         groups,
         each,
         limit,
+        &none,
         cells,
         global,
         log,

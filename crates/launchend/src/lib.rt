@@ -12,6 +12,7 @@ pub fn goes_on(v: spec::Verdict, g: u32, groups: u32) -> bool
         spec::Verdict::Race(_, _, _, _) => false,
         spec::Verdict::GroupRace(_, _, _, _) => false,
         spec::Verdict::Outside(_, _) => false,
+        spec::Verdict::Common(_, _) => false,
         spec::Verdict::Diverged(_, _) => false,
         spec::Verdict::Spent => false,
     }

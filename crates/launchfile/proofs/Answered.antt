@@ -1,10 +1,10 @@
 -- That an answer to what the lines come to is an answer to the lines. Assumes nothing.
-use mathlib.Core.Path.{_≡_, refl, ap, _∙_}
+use mathlib.Core.Path.{_≡_, refl, sym, subst, ap, _∙_}
 use mathlib.Core.List.{List}
 use Prim.Native.Nat.{ℕ, zero, suc, _+_, _-_, _*_}
 use native.Mathlib.Omega.{arith}
 use lib.ListN.{drop, replicate}
-use Rattle.spec.specs.Shape.{Sizes, allOwn}
+use Rattle.spec.specs.Shape.{Sizes, sizes, allOwn}
 use Rattle.spec.specs.LaunchFile.{Read, stop, contentLines}
 use Rattle.spec.specs.declared.Refusal.{Refusal}
 use Rattle.admission.specs.declared.Admission.{Admission}
@@ -36,7 +36,8 @@ module _ (Z : Sizes) (limit : ℕ) {rows count shared : ℕ} {rest table cells g
   unfolding answered
   contents-refused e h = refuses (C .answer Z limit c g ∙ rw e) h
 
-  pub contents-accepted : r ≡ Accepted → table ≡ replicate 1024 0 → cells ≡ replicate 1024 0 → global ≡ replicate 1024 0 → Within Z limit rows
+  -- without common cells
+  pub contents-accepted : (plain : Z ≡ sizes (Z .threads) (Z .cells) (Z .groups) (Z .global)) → r ≡ Accepted → table ≡ replicate 1024 0 → cells ≡ replicate 1024 0 → global ≡ replicate 1024 0 → Within Z limit rows
       → ReadAs (contentLines Z limit rows (2 + lineCount) rest)
       (record {
         answer = Accepted;
@@ -54,17 +55,17 @@ module _ (Z : Sizes) (limit : ℕ) {rows count shared : ℕ} {rest table cells g
         };
       })
   unfolding answered
-  contents-accepted e t w v within =
+  contents-accepted plain e t w v within =
       let f = C .filled e in
       rw (C .answer Z limit c g, e)
       (record {
         answer = refl;
-        sizesAre = rw g;
+        sizesAre = rw g (sym plain);
         limit = refl;
         table = refl;
         cells = refl;
         own = c;
-        within = rw g within;
+        within = rw g (subst (λ Y. Within Y limit rows) plain within);
         tableLong = f .tableLong;
         cellsLong = f .cellsLong;
         globalLong = f .globalLong;

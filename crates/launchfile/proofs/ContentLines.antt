@@ -1,6 +1,6 @@
 -- What the lines behind the numbers come to: the first line that is not due, or the launch. Assumes nothing.
 use mathlib.Core.Path.{_≡_, refl, _∙_, subst}
-use mathlib.Core.List.{List, [], _∷_, _++_}
+use mathlib.Core.List.{List, [], _++_}
 use mathlib.Core.Bool.{Bool, true, false}
 use Prim.Native.Nat.{ℕ, suc, _+_, _*_, _<_, _≤_}
 use native.Mathlib.Numerals.{add-one}
@@ -15,24 +15,13 @@ use Rattle.spec.specs.declared.Refusal.{Refusal}
 use Rattle.spec.specs.declared.Refusal.the-variants.{LineNotDue}
 use Rattle.filelines.specs.Lines.{keyedValue, nextIn, lineRead}
 use Rattle.filelines.specs.Values.{exactBytes, wordIn, rowBytes}
-use Rattle.filelines.proofs.DueLines.{due-word}
+use Rattle.filelines.proofs.DueLines.{due-word, ended, not-ended}
 use Rattle.contents.specs.Taken.{taken, foursOf, RowsTaken, CellsTaken}
 use Rattle.contents.proofs.RowLoop.{rows-lines}
 use Rattle.numberlines.specs.Answered.{lineCount, answered}
 use Rattle.admission.specs.declared.Admission.the-variants.{Accepted, Refused}
 use Rattle.launchfile.specs.Parsed.{ContentsRead}
 use Rattle.spec.specs.Launch as definition
-
--- Whether anything stands behind the last line.
-ended : (line : ℕ) (rest : List ℕ) → length rest ≡ 0 → fileEnds line rest ≡ read tt line []
-unfolding fileEnds
-ended line [] e = refl
-ended line (b ∷ rest) e = absurd (omega arith)
-
-not-ended : (line : ℕ) (rest : List ℕ) → (length rest ≡ 0 → ⊥) → fileEnds line rest ≡ stop (LineNotDue line)
-unfolding fileEnds
-not-ended line [] n = absurd (n refl)
-not-ended line (b ∷ rest) n = refl
 
 -- What the lines of every launch with so many own and global cells come to.
 abbrev Comes : (rest : List ℕ) → (rows count shared line : ℕ) → (Sizes → ℕ → Read definition.Launch) → Type 0
@@ -106,9 +95,10 @@ module _ {rest table table′ own : List ℕ} {rows good : ℕ} (R : RowsTaken r
           unfolding continue lineRead _>>_ gives
           all-there n Z limit c g = at-end Z limit c g ∙ rw (f, ← q, ended (suc endLine) more n, ← add-one endLine)
 
-          pub accepts : length more ≡ 0 → line ≡ 2 + lineCount → ContentsRead rest rows count shared table cells global Accepted table′ cells′ global′
+          pub accepts : length cells ≡ 1024 → length global ≡ 1024 → length more ≡ 0 → line ≡ 2 + lineCount
+              → ContentsRead rest rows count shared table cells global Accepted table′ cells′ global′
           unfolding answered
-          accepts n e =
+          accepts c g n e =
               let r : good ≡ rows = omega (arith, R .within) in
               let k : filled ≡ count = omega (arith, C .within) in
               let m : found ≡ shared = omega (arith, G .within) in
@@ -121,8 +111,8 @@ module _ {rest table table′ own : List ℕ} {rows good : ℕ} (R : RowsTaken r
                         lines = subst (λ k. (line : ℕ) → times k (due "row" rowBytes) line rest ≡ read (foursOf (take (4 * k) table′)) (line + k) own) r (R .front);
                       };
                       tableLong = R .long;
-                      cellsLong = C .long;
-                      globalLong = G .long;
+                      cellsLong = C .long ∙ c;
+                      globalLong = G .long ∙ g;
                       tableKept = subst (λ k. drop (4 * k) table′ ≡ drop (4 * k) table) r (R .kept);
                       cellsKept = subst (λ k. drop k cells′ ≡ drop k cells) k (C .kept);
                       globalKept = subst (λ k. drop k global′ ≡ drop k global) m (G .kept);

@@ -158,12 +158,13 @@ module _ (table : List ℕ) (Z : Sizes) (limit : ℕ) (W : Buffers) (some : 1 �
       ∙ take-all (Z .global) global (omega (arith, global-long)))
 
   start : (masks : List ℕ) → masks ≡ replicate (groupsPerCell * Z .global) 0
-      → GroupStart (Z .threads) 0 0 0 (part (0 * Z .cells) (Z .cells) cells) global masks L s
+      → GroupStart (Z .threads) 0 0 0 (Z .common) (part (0 * Z .cells) (Z .cells) cells) global masks L s
   start masks em =
       record {
         threads-are = refl;
         group-is = refl;
         groups-few = few;
+        common-are = refl;
         sized = sized;
         row-is = unfold initialState in refl;
         enabled-is = unfold initialState in refl;

@@ -10,7 +10,7 @@ use native.Mathlib.Decide.{ℕ-discrete}
 use lib.ListN.{length, getD, replicate, take, drop, length-append, length-replicate, length-drop}
 use lib.Seq.{take-append-seam, take-append-le, drop-append-le}
 use Rattle.spec.specs.declared.Verdict.{Verdict}
-use Rattle.spec.specs.declared.Verdict.the-variants.{Passed, Race, GroupRace, Outside, Diverged, Spent}
+use Rattle.spec.specs.declared.Verdict.the-variants.{Passed, Race, GroupRace, Outside, Common, Diverged, Spent}
 use Rattle.spec.specs.Answers.{isPassed}
 use Rattle.spec.specs.Access.{Mode, reads, writes, adds}
 use Rattle.spec.specs.Limits.{logPerCell, recordsLent, maxRecords, groupsPerCell}
@@ -106,6 +106,7 @@ passed-is Passed e = refl
 passed-is (Race t o k a) e = absurd (true≢false (sym e))
 passed-is (GroupRace t h k a) e = absurd (true≢false (sym e))
 passed-is (Outside t a) e = absurd (true≢false (sym e))
+passed-is (Common t a) e = absurd (true≢false (sym e))
 passed-is (Diverged t o) e = absurd (true≢false (sym e))
 passed-is Spent e = absurd (true≢false (sym e))
 
@@ -132,7 +133,7 @@ pub record Launched (table : List ℕ) (Z : Sizes) (limit : ℕ) (all lent : Lis
   pub runs-are : groupRuns (rowsOf table) Z all limit ≡ before ++ runsFrom (rowsOf table) Z limit j g state
   pub count : length before ≡ g
   pub done-long : length (joined (map (stepsOf (rowsOf table) limit) before)) ≡ g * Z .threads
-  pub start : GroupStart (Z .threads) g rows barriers (part (g * Z .cells) (Z .cells) (W .cells)) (W .global) (W .masks) (shapeOf Z g) state
+  pub start : GroupStart (Z .threads) g rows barriers (Z .common) (part (g * Z .cells) (Z .cells) (W .cells)) (W .global) (W .masks) (shapeOf Z g) state
   pub cells-are : W .cells ++ W .global ≡ state .cells
   pub cells-long : length (W .cells) ≡ Z .groups * Z .cells
   pub global-long : length (W .global) ≡ Z .global
@@ -191,7 +192,7 @@ module _ (table : List ℕ) (Z : Sizes) (limit : ℕ) (all lent : List ℕ) (j g
   result-is = ap (λ r. runFrom T L (limit - r) s) (P .start .rows-is)
 
   -- what the turn asks
-  pub some-start : SomeStart table (Z .threads) g limit rows barriers (part (g * Z .cells) (Z .cells) cells) global (W .masks) (W .records)
+  pub some-start : SomeStart table (Z .threads) g limit rows barriers (Z .common) (part (g * Z .cells) (Z .cells) cells) global (W .masks) (W .records)
   some-start = record { shape = L; state = s; start = P .start; whole = whole; lent = lent; more = more; ledger = P .ledger }
 
   pub place-in : g * Z .cells + Z .cells ≤ length cells
@@ -207,7 +208,7 @@ module _ (table : List ℕ) (Z : Sizes) (limit : ℕ) (all lent : List ℕ) (j g
       omega (arith, h, e)
 
   module _ (all-cells : ℕ) (et : all-cells ≡ Z .groups * Z .cells + Z .global) (r : Ended) (W′ : Buffers)
-      (D : TurnDone table (Z .threads) g limit rows barriers (Z .cells) all-cells cells global (W .log) (W .masks) (W .records) steps r
+      (D : TurnDone table (Z .threads) g limit rows barriers (Z .cells) all-cells (Z .common) cells global (W .log) (W .masks) (W .records) steps r
       (W′ .cells) (W′ .global) (W′ .log) (W′ .own) (W′ .shared) (W′ .masks) (W′ .records) (W′ .counts) (W′ .steps) (W′ .stamps) (W′ .memo)) where
     abbrev cells′ : List ℕ
     cells′ = W′ .cells
@@ -397,6 +398,7 @@ module _ (table : List ℕ) (Z : Sizes) (limit : ℕ) (all lent : List ℕ) (j g
               threads-are = refl;
               group-is = refl;
               groups-few = few;
+              common-are = refl;
               sized = next-sized Z g s z sizedₛ (ending .sized) keeps few-more;
               row-is = refl;
               enabled-is = refl;

@@ -29,8 +29,9 @@ pub record Between : Type 0 where
   pub groups : ℕ
   pub k : ℕ
   pub limit : ℕ
+  pub common : List ℕ
   pub lent : Buffers
-  pub asks : LaunchAsks table ends n groups k limit (lent .cells) (lent .global) (lent .log) (lent .records)
+  pub asks : LaunchAsks table ends n groups k limit common (lent .cells) (lent .global) (lent .log) (lent .records)
   pub fresh : Fresh k (lent .global) (lent .log) (lent .own) (lent .shared) (lent .masks) (lent .records) (lent .steps) (lent .stamps) (lent .memo)
   pub left : ℕ
   pub g : ℕ
@@ -38,10 +39,10 @@ pub record Between : Type 0 where
   pub barriers : ℕ
   pub at : Buffers
   pub kept : Kept lent at
-  pub launched : Launched table (sizesBy n groups k (lent .global)) limit (lent .cells ++ lent .global) (lent .records) left g rows barriers at
+  pub launched : Launched table (sizesBy n groups k common (lent .global)) limit (lent .cells ++ lent .global) (lent .records) left g rows barriers at
 
 abbrev pub sizes : Between → Sizes
-sizes B = sizesBy (B .n) (B .groups) (B .k) (B .lent .global)
+sizes B = sizesBy (B .n) (B .groups) (B .k) (B .common) (B .lent .global)
 
 abbrev pub cellCount : Between → ℕ
 cellCount B = length (B .lent .cells) + length (B .lent .global)
@@ -51,7 +52,7 @@ pub record Turned (B : Between) : Type 0 where
   pub ended : Ended
   pub after : Buffers
   pub done : TurnDone (B .table) (B .n) (B .g) (B .limit) (B .rows) (B .barriers) (B .k) (cellCount B)
-      (B .at .cells) (B .at .global) (B .at .log) (B .at .masks) (B .at .records) (B .at .steps) ended
+      (B .common) (B .at .cells) (B .at .global) (B .at .log) (B .at .masks) (B .at .records) (B .at .steps) ended
       (after .cells) (after .global) (after .log) (after .own) (after .shared) (after .masks) (after .records) (after .counts) (after .steps) (after .stamps) (after .memo)
   pub kept : Kept (B .lent) after
 
@@ -63,7 +64,7 @@ module _ (B : Between) where
   few-groups = omega (arith, B .launched .behind, B .asks .few-groups)
 
   pub turn-asks : TurnAsks (B .table) (B .ends) (B .n) (B .g) (B .limit) (B .rows) (B .barriers) (B .k) (cellCount B)
-      (B .at .cells) (B .at .global) (B .at .log) (B .at .own) (B .at .shared) (B .at .masks) (B .at .records) (B .at .stamps) (B .at .memo)
+      (B .common) (B .at .cells) (B .at .global) (B .at .log) (B .at .own) (B .at .shared) (B .at .masks) (B .at .records) (B .at .stamps) (B .at .memo)
   turn-asks =
       let A = B .asks in
       let N = B .kept in
@@ -79,6 +80,7 @@ module _ (B : Between) where
         cells-in = place-in (B .table) (sizes B) (B .limit) (B .lent .cells ++ B .lent .global) (B .lent .records) (B .left) (B .g) (B .rows) (B .barriers) (B .at) P;
         cells-few = omega (arith, N .cells-long, N .global-long);
         total-few = omega (arith, count-is, A .total-few);
+        common-few = A .common-few;
         threads-in = threads-in (B .table) (sizes B) (B .limit) (B .lent .cells ++ B .lent .global) (B .lent .records) (B .left) (B .g) (B .rows) (B .barriers) (B .at) P
             (A .few-groups) (A .few-threads);
         log-sized = omega (arith, N .log-long, A .log-sized, count-is);

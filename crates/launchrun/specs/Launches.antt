@@ -4,8 +4,8 @@ use mathlib.Core.List.{List, _++_}
 use Prim.Native.Nat.{ℕ, _+_, _*_, _≤_}
 use lib.ListN.{length, replicate}
 use Rattle.spec.specs.declared.Outcome.{Outcome}
-use Rattle.spec.specs.Limits.{logPerCell, recordsLent, groupsPerCell, maxLaunchThreads}
-use Rattle.spec.specs.Shape.{Sizes}
+use Rattle.spec.specs.Limits.{logPerCell, maxCommon, recordsLent, groupsPerCell, maxLaunchThreads}
+use Rattle.spec.specs.Shape.{Sizes, sizes, withCommon}
 use Rattle.spec.specs.Table.{rowsOf}
 use Rattle.spec.specs.LockStep.{outcomeOf}
 use Rattle.spec.specs.LaunchRun.{lastGroup, lockstep, stepsByLaunch}
@@ -18,7 +18,7 @@ use Rattle.banks.specs.Remembering.{Memo}
 use Rattle.intervals.specs.Records.{begun}
 
 -- What a launch asks, and what it leaves: all is that of the lock-step run of its groups. All cells are the own ones and then the global ones.
-pub record LaunchAsks (table ends : List ℕ) (n groups k limit : ℕ) (cells global log records : List ℕ) : Type 0 where
+pub record LaunchAsks (table ends : List ℕ) (n groups k limit : ℕ) (common cells global log records : List ℕ) : Type 0 where
   pub runnable : Runnable table ends
   pub some-threads : 1 ≤ n
   pub few-threads : n ≤ 32
@@ -27,6 +27,7 @@ pub record LaunchAsks (table ends : List ℕ) (n groups k limit : ℕ) (cells gl
   pub few-rows : limit ≤ 1000000
   pub cells-are : length cells ≡ groups * k
   pub total-few : groups * k + length global ≤ 1024
+  pub common-few : length common ≤ maxCommon
   pub log-sized : length log ≡ (logPerCell + groupsPerCell) * (groups * k + length global)
   pub lent : recordsLent ≤ length records
 
@@ -37,9 +38,9 @@ pub record LaunchIs (table : List ℕ) (Z : Sizes) (limit : ℕ) (all lent : Lis
   pub records-are : records ≡ over (recordWords (intervalRecords (rowsOf table) Z all limit)) lent
   pub steps-are : steps ≡ over (stepsByLaunch (rowsOf table) Z all limit) (replicate 256 0)
 
--- The sizes of a launch, by its numbers and its global cells.
-abbrev pub sizesBy : (n groups k : ℕ) → (global : List ℕ) → Sizes
-sizesBy n groups k global = record { threads = n; cells = k; groups = groups; global = length global }
+-- The sizes of a launch, by its numbers, the common cells and its global ones.
+abbrev pub sizesBy : (n groups k : ℕ) → (common global : List ℕ) → Sizes
+sizesBy n groups k common global = withCommon common (sizes n k groups (length global))
 
 -- The buffers at the launch: nothing is logged or counted, and the first record is begun.
 pub record Fresh (k : ℕ) (global log own shared masks records steps stamps memo : List ℕ) : Type 0 where

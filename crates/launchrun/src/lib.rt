@@ -14,6 +14,7 @@ fn run_groups(
     groups: u32,
     k: usize,
     limit: u32,
+    common: &[u32],
     cells: &mut [u32],
     global: &mut [u32],
     log: &mut [u32],
@@ -26,10 +27,10 @@ fn run_groups(
     stamps: &mut [u32; 1024],
     memo: &mut [u32; 544],
 ) -> spec::Outcome
-    requires { ⌜ LaunchAsks (now table) (now ends) n groups k limit (now cells) (now global) (now log) (now records)
+    requires { ⌜ LaunchAsks (now table) (now ends) n groups k limit (now common) (now cells) (now global) (now log) (now records)
         × Fresh k (now global) (now log) (now own) (now shared) (now masks) (now records) (now steps) (now stamps) (now memo) ⌝ }
-    ensures { λ r. ⌜ LaunchIs (now (table .entry)) (sizesBy n groups k (now (global .entry))) limit (now (cells .entry) ++ now (global .entry)) (now (records .entry)) r
-        (now (cells .exit)) (now (global .exit)) (now (log .exit)) (now (records .exit)) (now (steps .exit)) ⌝ }
+    ensures { λ r. ⌜ LaunchIs (now (table .entry)) (sizesBy n groups k (now (common .entry)) (now (global .entry))) limit (now (cells .entry) ++ now (global .entry))
+        (now (records .entry)) r (now (cells .exit)) (now (global .exit)) (now (log .exit)) (now (records .exit)) (now (steps .exit)) ⌝ }
 {
     let m = global.len();
     let at = cells.len();
@@ -48,6 +49,7 @@ fn run_groups(
             barriers,
             k,
             total,
+            common,
             cells,
             global,
             log,
@@ -71,7 +73,7 @@ fn run_groups(
     }
 }
 
-// The run of a launch. `cells` holds the own cells of all groups, k each, `log` eight words for each cell of the launch, the global ones too.
+// The run of a launch over these common cells. `cells` holds the own cells of all groups, k each, `log` eight words for each cell of the launch, the global ones too.
 pub fn run_launch(
     table: &[u8],
     ends: &[u8; 256],
@@ -79,15 +81,16 @@ pub fn run_launch(
     groups: u32,
     k: usize,
     limit: u32,
+    common: &[u32],
     cells: &mut [u32],
     global: &mut [u32],
     log: &mut [u32],
     records: &mut [u32],
     steps: &mut [u32; 256],
 ) -> spec::Outcome
-    requires { ⌜ LaunchAsks (now table) (now ends) n groups k limit (now cells) (now global) (now log) (now records) ⌝ }
-    ensures { λ r. ⌜ RunIs (bareLaunch (now (table .entry)) (sizesBy n groups k (now (global .entry))) limit (now (cells .entry)) (now (global .entry)))
-        (now (records .entry)) r (now (cells .exit)) (now (global .exit)) (now (log .exit)) (now (records .exit)) (now (steps .exit)) ⌝ }
+    requires { ⌜ LaunchAsks (now table) (now ends) n groups k limit (now common) (now cells) (now global) (now log) (now records) ⌝ }
+    ensures { λ r. ⌜ RunIs (bareLaunch (now (table .entry)) (sizesBy n groups k (now (common .entry)) (now (global .entry))) limit (now (cells .entry))
+        (now (global .entry))) (now (records .entry)) r (now (cells .exit)) (now (global .exit)) (now (log .exit)) (now (records .exit)) (now (steps .exit)) ⌝ }
 {
     let m = global.len();
     let mut own: [u32; 5120] = [0; 5120];
@@ -107,6 +110,7 @@ pub fn run_launch(
         groups,
         k,
         limit,
+        common,
         cells,
         global,
         log,

@@ -1,12 +1,12 @@
 -- A thread's access of a global cell, by what it comes to in the global cells seen as those of a group alone. Assumes nothing.
 use mathlib.Core.Path.{_≡_, refl, sym, _∙_, ap, ap₂}
 use mathlib.Core.List.{List, []}
-use mathlib.Core.Bool.{Bool, true, false, cond, not, _||_}
-use Prim.Native.Nat.{ℕ, _+_, _*_, _<_, _≤_}
+use mathlib.Core.Bool.{Bool, true, false, cond, not, _&&_, _||_}
+use Prim.Native.Nat.{ℕ, _+_, _-_, _*_, _<_, _≤_}
 use native.Mathlib.Omega.{arith}
 use native.Mathlib.Decide.{decLt}
-use borrow.Author.Tests.{le-leb, lt-leb}
-use lib.Dec.{eqb, leb}
+use borrow.Author.Tests.{le-leb, lt-leb, le-ltb}
+use lib.Dec.{eqb, leb, ltb}
 use lib.ListN.{length, getD, set}
 use Rattle.spec.specs.declared.Verdict.{Verdict}
 use Rattle.spec.specs.declared.Verdict.the-variants.{Race, GroupRace, Outside}
@@ -16,9 +16,10 @@ use Rattle.spec.specs.Log.{Log, masksOf, nobody, withThread, firstValue, unequa
 use Rattle.spec.specs.GroupLog.{GroupLog, groupMasksOf, groupLogged, conflictingGroups, groupConflictMask, groupRaceKind}
 use Rattle.spec.specs.Op.{OWN, GLOBAL, Mem}
 use Rattle.spec.specs.Table.{Row, cellByte, kindOf}
-use Rattle.spec.specs.Shape.{Shape, total, bound, address}
+use Rattle.spec.specs.Shape.{Shape, Past, nowhere, atCommon, inCommon, isCommon, past, total, bound, address}
+use Rattle.spec.specs.Limits.{commonFrom}
 use Rattle.spec.specs.Steps.{stepped}
-use Rattle.spec.specs.LockStep.{LockState, Step, continues, stops, update, reg, madeAccess, enterGroup, rivals, tryAccess, accessTurn}
+use Rattle.spec.specs.LockStep.{LockState, Step, continues, stops, update, reg, madeAccess, enterGroup, rivals, tryAccess, pastTurn, accessTurn}
 use Rattle.spec.proofs.LogLaws.{same, masks-logged, groups-logged}
 use Rattle.layout.specs.Views.{part, putPart, logPart, putLog, viewOf, putView, globalFrom, alone, Sized}
 use Rattle.layout.specs.Shared.{groupPart, putGroups}
@@ -185,7 +186,7 @@ module _ (L : Shape) (z : LockState) (S : Sized L z) where
 
   module _ (n t : ℕ) where
     abbrev own : Shape
-    own = alone n (L .global)
+    own = alone n (L .global) []
 
     module _ (d c : ℕ) (x : Kind) (h : c < L .global) where
       abbrev others : Mask
@@ -239,21 +240,41 @@ module _ (L : Shape) (z : LockState) (S : Sized L z) where
           regs-same : (r : ℕ) → reg view t r ≡ reg z t r
           regs-same r = unfold reg viewOf in refl
 
+          -- in neither is there a common cell that the row could name
+          far : past L GLOBAL cell kind ≡ nowhere
+          far = unfold past isCommon in refl
+
+          none : (c : ℕ) (k : Kind) → past own OWN c k ≡ nowhere
+          none c k =
+              unfold past isCommon inCommon in
+              (by (decLt c commonFrom))
+            where
+              by : Dec (c < commonFrom) → cond (leb commonFrom c && ltb c (commonFrom + 0)) (atCommon k (getD [] (c - commonFrom) 0)) nowhere ≡ nowhere
+              by (yes l) = ap (λ b. cond (b && ltb c (commonFrom + 0)) (atCommon k (getD [] (c - commonFrom) 0)) nowhere) (lt-leb commonFrom c l)
+              by (no l) =
+                  ap₂ (λ a b. cond (a && b) (atCommon k (getD [] (c - commonFrom) 0)) nowhere) (le-leb commonFrom c (omega arith))
+                  (le-ltb c (commonFrom + 0) (omega arith))
+
+          beyond : (s : LockState) (c : ℕ) (q : Past) → q ≡ nowhere → pastTurn s t (x .d) c q ≡ stops (Outside t c) s
+          beyond s c q e = ap (pastTurn s t (x .d) c) e ∙ (unfold pastTurn in refl)
+
           seen : accessTurn own OWN m x view t
               ≡ cond (leb (L .global) cell) (stops (Outside t cell) view) (tryAccess own OWN view t (x .d) cell kind)
           seen =
-              ap₂ (λ c y. cond (leb (L .global) c) (stops (Outside t c) view) (tryAccess own OWN view t (x .d) c (kindOf m y)))
+              ap₂ (λ c y. cond (leb (L .global) c) (pastTurn view t (x .d) c (past own OWN c (kindOf m y))) (tryAccess own OWN view t (x .d) c (kindOf m y)))
               (regs-same (cellByte m x)) (regs-same (x .a))
+              ∙ ap (λ y. cond (leb (L .global) cell) y (tryAccess own OWN view t (x .d) cell kind)) (beyond view cell _ (none cell kind))
 
           by : Dec (cell < L .global)
-              → cond (leb (L .global) cell) (stops (Outside t cell) z) (tryAccess L GLOBAL z t (x .d) cell kind)
+              → cond (leb (L .global) cell) (pastTurn z t (x .d) cell (past L GLOBAL cell kind)) (tryAccess L GLOBAL z t (x .d) cell kind)
               ≡ globalStep L z t cell kind (accessTurn own OWN m x view t)
           by (yes l) =
-              ap (λ b. cond b (stops (Outside t cell) z) (tryAccess L GLOBAL z t (x .d) cell kind)) (lt-leb (L .global) cell l)
+              ap (λ b. cond b (pastTurn z t (x .d) cell (past L GLOBAL cell kind)) (tryAccess L GLOBAL z t (x .d) cell kind)) (lt-leb (L .global) cell l)
               ∙ tried (x .d) cell kind l
               ∙ sym (ap (globalStep L z t cell kind) (seen ∙ ap (λ b. cond b (stops (Outside t cell) view) (tryAccess own OWN view t (x .d) cell kind)) (lt-leb (L .global) cell l)))
           by (no l) =
               let g = le-leb (L .global) cell (omega arith) in
-              ap (λ b. cond b (stops (Outside t cell) z) (tryAccess L GLOBAL z t (x .d) cell kind)) g
+              ap (λ b. cond b (pastTurn z t (x .d) cell (past L GLOBAL cell kind)) (tryAccess L GLOBAL z t (x .d) cell kind)) g
+              ∙ beyond z cell _ far
               ∙ sym (ap (globalStep L z t cell kind) (seen ∙ ap (λ b. cond b (stops (Outside t cell) view) (tryAccess own OWN view t (x .d) cell kind)) g)
               ∙ (unfold globalStep in refl))

@@ -138,15 +138,15 @@ module _ (L : Shape) (z : LockState) (s : State) (regs cells log saved openers g
 
   -- One that names no global cell, tells no group by its number and is no BARRIER: as in a group alone.
   module _ (o : Op) (own-op : isOwnRow o ≡ true) (r : Next) (regs′ cells′ log′ saved′ openers′ : List ℕ) where
-    pub own-group : After n (runRow T (alone n (L .cells)) x view o) r regs′ cells′ log′ saved′ openers′
+    pub own-group : After n (runRow T (alone n (L .cells) (L .common)) x view o) r regs′ cells′ log′ saved′ openers′
         → GroupAfter L (runRow T L x z o) r regs′ cells′ log′ saved′ openers′ global shared masks
     own-group A =
-        put-back r regs′ cells′ log′ saved′ openers′ (runRow T L x z o) (runRow T (alone n (L .cells)) x view o) (own-row L z sized T x o own-op)
+        put-back r regs′ cells′ log′ saved′ openers′ (runRow T L x z o) (runRow T (alone n (L .cells) (L .common)) x view o) (own-row L z sized T x o own-op)
         (own-row-after L z sized T x o own-op) (sized-after L z sized T x o) (groups-after T L x o z (own-is-no-global o own-op)) A
 
   -- BARRIER: where it is passed, the global log is cleared too.
   module _ (r : Next) (regs′ cells′ log′ saved′ openers′ shared′ : List ℕ) where
-    pub barrier-group : After n (runRow T (alone n (L .cells)) x view BARRIER) r regs′ cells′ log′ saved′ openers′ → SharedAfter s r shared shared′
+    pub barrier-group : After n (runRow T (alone n (L .cells) (L .common)) x view BARRIER) r regs′ cells′ log′ saved′ openers′ → SharedAfter s r shared shared′
         → GroupAfter L (runRow T L x z BARRIER) r regs′ cells′ log′ saved′ openers′ global shared′ masks
     unfolding viewOf
     barrier-group A C =
@@ -159,7 +159,7 @@ module _ (L : Shape) (z : LockState) (s : State) (regs cells log saved openers g
         back y = putView (ownFrom L) y (outside L z sized y)
 
         alone-row : Step
-        alone-row = runRow T (alone n (L .cells)) x view BARRIER
+        alone-row = runRow T (alone n (L .cells) (L .common)) x view BARRIER
 
         same : runRow T L x z BARRIER ≡ mapStep back alone-row
         same = barrier-row L z sized T x
@@ -202,7 +202,7 @@ module _ (L : Shape) (z : LockState) (s : State) (regs cells log saved openers g
             (s′, e, here w O Y g (memory-by (ltb (z .barriers) (w .barriers)) (says ∙ ap (λ b. cond b (replicate (length shared) 0) shared) tells)) s′ R)
         by (stops v w) q O Y g (s′, e, R) =
             let says : shared′ ≡ shared = subst (λ y. SharedAfter s y shared shared′) e C in
-            let stays = outside-stays L z sized w (stop-stays T (alone n (L .cells)) x view v w q) in
+            let stays = outside-stays L z sized w (stop-stays T (alone n (L .cells) (L .common)) x view v w q) in
             (s′, e, here w O Y g (subst (λ u. Memory n (viewOf (globalFrom L) (L .global) u) regs global shared′) (sym stays) (kept says)) s′ R)
 
   -- A row's accesses of global cells.

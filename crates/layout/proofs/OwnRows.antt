@@ -10,16 +10,16 @@ use lib.Dec.{leb, ltb}
 use lib.ListN.{getD}
 use Rattle.spec.specs.declared.AccessKind.{AccessKind}
 use Rattle.spec.specs.declared.Verdict.{Verdict}
-use Rattle.spec.specs.declared.Verdict.the-variants.{Race, Outside, Diverged}
+use Rattle.spec.specs.declared.Verdict.the-variants.{Race, Diverged}
 use Rattle.spec.specs.Access.{Kind}
 use Rattle.spec.specs.Op.{Calc, SET, TID, COUNT, LAUNCHTID, ADD, SUB, MUL, AND, OR, XOR, SHR, SAR, EQ, LT, SLT, CALC, value}
 use Rattle.spec.specs.Op.{Op, Space, OWN, GLOBAL, Mem, MEM, IF, ELSE, ENDIF, WHILE, ENDWHILE, BARRIER, UNKNOWN}
 use Rattle.spec.specs.Table.{Table, Row, cellByte, kindOf, endOf}
-use Rattle.spec.specs.Shape.{Shape, launchNumber, total, bound, address, isGlobal, isOwn, reaches}
+use Rattle.spec.specs.Shape.{Shape, Past, nowhere, loads, changes, past, isCommon, launchNumber, total, bound, address, isGlobal, isOwn, reaches}
 use Rattle.spec.specs.Mask.{Mask, members, any, full, lowest, holding}
 use Rattle.spec.specs.Log.{cleared, conflictMask, raceKind}
 use Rattle.spec.specs.LockStep.{Saved, LockState, Step, continues, stops, andThen, inTurn, update, advance, reg, setReg, computeTurn, madeAccess, enterGroup}
-use Rattle.spec.specs.LockStep.{rivals, tryAccess, accessTurn, forEnabled, countSteps, topMask, pop, savedAtWhile, ifRow, elseRow, endifRow, leaveOrStay}
+use Rattle.spec.specs.LockStep.{rivals, tryAccess, pastTurn, accessTurn, forEnabled, countSteps, topMask, pop, savedAtWhile, ifRow, elseRow, endifRow, leaveOrStay}
 use Rattle.spec.specs.LockStep.{whileRow, endwhileRow, passBarrier, barrierRow, runRow}
 use Rattle.layout.specs.Memory.{stateOf}
 use Rattle.layout.specs.Views.{part, putPart, logPart, putLog, viewOf, putView, mapStep, ownFrom, globalFrom, alone, withCleared, Sized}
@@ -165,19 +165,19 @@ module _ (L : Shape) (z : LockState) (S : Sized L z) where
   abbrev Own : LockState → Type 0
   Own y = StateFits (L .threads) (L .cells) y
 
-  alone-place : (c : ℕ) → address (alone (L .threads) (L .cells)) OWN c ≡ c
+  alone-place : (c : ℕ) → address (alone (L .threads) (L .cells) (L .common)) OWN c ≡ c
   unfolding address
   alone-place c = omega arith
 
   access-back : (y : LockState) → Own y → (t d c : ℕ) (x : Kind) → c < L .cells
-      → tryAccess L OWN (own y) t d c x ≡ mapStep own (tryAccess (alone (L .threads) (L .cells)) OWN y t d c x)
+      → tryAccess L OWN (own y) t d c x ≡ mapStep own (tryAccess (alone (L .threads) (L .cells) (L .common)) OWN y t d c x)
   unfolding address putView
   access-back y Y t d c x l =
       own-try L (own y) t d c x
       ∙ (λ i. tried (conflicts i) (λ u. races u i) t c (own y) (made i))
       ∙ tried-back own (any (conflictMask (y .log) c t x)) (Race t (lowest (conflictMask (y .log) c t x)) (raceKind (y .log) c (lowest (conflictMask (y .log) c t x)) x) c)
       y (madeAccess y t d c x)
-      ∙ ap (mapStep own) (sym (own-try (alone (L .threads) (L .cells)) y t d c x
+      ∙ ap (mapStep own) (sym (own-try (alone (L .threads) (L .cells) (L .common)) y t d c x
       ∙ ap (λ i. tried (conflictMask (y .log) i t x) (λ u. raceKind (y .log) i u x) t c y (madeAccess y t d i x)) (alone-place c)))
     where
       F : StateFits (L .threads) (total L) z
@@ -194,8 +194,8 @@ module _ (L : Shape) (z : LockState) (S : Sized L z) where
       made = placed-made (L .threads) (total L) (ownFrom L) (L .cells) z y F Y (own-within L z S) t d c x l
 
   own-turn : (m : Mem) (x : Row) (y : LockState) (t : ℕ) → Own y
-      → accessTurn L OWN m x (own y) t ≡ mapStep own (accessTurn (alone (L .threads) (L .cells)) OWN m x y t)
-  unfolding accessTurn reg putView bound
+      → accessTurn L OWN m x (own y) t ≡ mapStep own (accessTurn (alone (L .threads) (L .cells) (L .common)) OWN m x y t)
+  unfolding accessTurn reg putView bound past isCommon
   own-turn m x y t Y = by (leb (L .cells) c) (λ e. leb-false (L .cells) c e)
     where
       c : ℕ
@@ -204,9 +204,15 @@ module _ (L : Shape) (z : LockState) (S : Sized L z) where
       κ : Kind
       κ = kindOf m (getD (getD (y .regs) t []) (x .a) 0)
 
-      by : (b : Bool) → (b ≡ false → c < L .cells) → cond b (stops (Outside t c) (own y)) (tryAccess L OWN (own y) t (x .d) c κ)
-          ≡ mapStep own (cond b (stops (Outside t c) y) (tryAccess (alone (L .threads) (L .cells)) OWN y t (x .d) c κ))
-      by true l = refl
+      -- past the cells both come to the same
+      beyond : (q : Past) → pastTurn (own y) t (x .d) c q ≡ mapStep own (pastTurn y t (x .d) c q)
+      beyond nowhere = unfold pastTurn in refl
+      beyond (loads v) = unfold pastTurn setReg update in refl
+      beyond changes = unfold pastTurn in refl
+
+      by : (b : Bool) → (b ≡ false → c < L .cells) → cond b (pastTurn (own y) t (x .d) c (past L OWN c κ)) (tryAccess L OWN (own y) t (x .d) c κ)
+          ≡ mapStep own (cond b (pastTurn y t (x .d) c (past L OWN c κ)) (tryAccess (alone (L .threads) (L .cells) (L .common)) OWN y t (x .d) c κ))
+      by true l = beyond (past L OWN c κ)
       by false l = access-back y Y t (x .d) c κ (l refl)
 
   -- ---- rows, from a state with any view that has the right size put back
@@ -217,13 +223,13 @@ module _ (L : Shape) (z : LockState) (S : Sized L z) where
       (λ s t U. compute-fits (L .threads) (L .cells) x f s t U) y Y
 
   access-from : (m : Mem) (x : Row) (y : LockState) → Own y
-      → forEnabled (accessTurn L OWN m x) (own y) ≡ mapStep own (forEnabled (accessTurn (alone (L .threads) (L .cells)) OWN m x) y)
+      → forEnabled (accessTurn L OWN m x) (own y) ≡ mapStep own (forEnabled (accessTurn (alone (L .threads) (L .cells) (L .common)) OWN m x) y)
   access-from m x y Y =
-      enabled-back (L .threads) (L .cells) (ownFrom L) z (accessTurn L OWN m x) (accessTurn (alone (L .threads) (L .cells)) OWN m x)
-      (λ s t U. own-turn m x s t U) (λ s t U. alone-turn-fits (L .threads) (L .cells) OWN m x s t U) y Y
+      enabled-back (L .threads) (L .cells) (ownFrom L) z (accessTurn L OWN m x) (accessTurn (alone (L .threads) (L .cells) (L .common)) OWN m x)
+      (λ s t U. own-turn m x s t U) (λ s t U. alone-turn-fits (L .threads) (L .cells) (L .common) OWN m x s t U) y Y
 
   mem-from : (x : Row) (p : Space) (m : Mem) → isOwnSpace p ≡ true → (y : LockState) → Own y
-      → forEnabled (accessTurn L p m x) (own y) ≡ mapStep own (forEnabled (accessTurn (alone (L .threads) (L .cells)) p m x) y)
+      → forEnabled (accessTurn L p m x) (own y) ≡ mapStep own (forEnabled (accessTurn (alone (L .threads) (L .cells) (L .common)) p m x) y)
   unfolding isOwnSpace
   mem-from x OWN m e y Y = access-from m x y Y
   mem-from x GLOBAL m e y Y = absurd (true≢false (sym e))
@@ -231,13 +237,13 @@ module _ (L : Shape) (z : LockState) (S : Sized L z) where
   -- Every op but the launch number gives the same whatever the group's number is.
   calc-from : (x : Row) (c : Calc) → isOwnCalc c ≡ true → (y : LockState) → Own y
       → forEnabled (computeTurn x (λ t p q. value c (L .threads) t (launchNumber L t) (x .a) (x .b) p q)) (own y)
-      ≡ mapStep own (forEnabled (computeTurn x (λ t p q. value c (L .threads) t (launchNumber (alone (L .threads) (L .cells)) t) (x .a) (x .b) p q)) y)
+      ≡ mapStep own (forEnabled (computeTurn x (λ t p q. value c (L .threads) t (launchNumber (alone (L .threads) (L .cells) (L .common)) t) (x .a) (x .b) p q)) y)
   calc-from x c e y Y =
-      ap (λ f. forEnabled (computeTurn x f) (own y)) (λ i t p q. own-value c e (L .threads) t (launchNumber L t) (launchNumber (alone (L .threads) (L .cells)) t) (x .a) (x .b) p q i)
-      ∙ compute-from x (λ t p q. value c (L .threads) t (launchNumber (alone (L .threads) (L .cells)) t) (x .a) (x .b) p q) y Y
+      ap (λ f. forEnabled (computeTurn x f) (own y)) (λ i t p q. own-value c e (L .threads) t (launchNumber L t) (launchNumber (alone (L .threads) (L .cells) (L .common)) t) (x .a) (x .b) p q i)
+      ∙ compute-from x (λ t p q. value c (L .threads) t (launchNumber (alone (L .threads) (L .cells) (L .common)) t) (x .a) (x .b) p q) y Y
 
   pub own-row-from : (T : Table) (x : Row) (o : Op) → isOwnRow o ≡ true → (y : LockState) → Own y
-      → runRow T L x (own y) o ≡ mapStep own (runRow T (alone (L .threads) (L .cells)) x y o)
+      → runRow T L x (own y) o ≡ mapStep own (runRow T (alone (L .threads) (L .cells) (L .common)) x y o)
   unfolding isOwnRow runRow
   own-row-from T x (CALC c) e y Y = calc-from x c e y Y
   own-row-from T x (MEM p m) e y Y = mem-from x p m e y Y
@@ -265,21 +271,21 @@ module _ (L : Shape) (z : LockState) (S : Sized L z) where
   compute-rows x f = ap (forEnabled (computeTurn x f)) (sym own-is) ∙ compute-from x f view own-fits
 
   pub own-access : (m : Mem) (x : Row) → forEnabled (accessTurn L OWN m x) z
-      ≡ mapStep (λ y. putView (ownFrom L) y z) (forEnabled (accessTurn (alone (L .threads) (L .cells)) OWN m x) (viewOf (ownFrom L) (L .cells) z))
+      ≡ mapStep (λ y. putView (ownFrom L) y z) (forEnabled (accessTurn (alone (L .threads) (L .cells) (L .common)) OWN m x) (viewOf (ownFrom L) (L .cells) z))
   own-access m x = ap (forEnabled (accessTurn L OWN m x)) (sym own-is) ∙ access-from m x view own-fits
 
   pub own-row : (T : Table) (x : Row) (o : Op) → isOwnRow o ≡ true → runRow T L x z o
-      ≡ mapStep (λ y. putView (ownFrom L) y z) (runRow T (alone (L .threads) (L .cells)) x (viewOf (ownFrom L) (L .cells) z) o)
+      ≡ mapStep (λ y. putView (ownFrom L) y z) (runRow T (alone (L .threads) (L .cells) (L .common)) x (viewOf (ownFrom L) (L .cells) z) o)
   own-row T x o e = ap (λ s. runRow T L x s o) (sym own-is) ∙ own-row-from T x o e view own-fits
 
   -- ---- BARRIER
 
-  own-reached : (c : ℕ) → c < L .cells → reaches L (ownFrom L + c) ≡ reaches (alone (L .threads) (L .cells)) c
+  own-reached : (c : ℕ) → c < L .cells → reaches L (ownFrom L + c) ≡ reaches (alone (L .threads) (L .cells) (L .common)) c
   unfolding reaches isOwn
   own-reached c l =
       ap₂ (λ p q. (p && q) || isGlobal L (ownFrom L + c)) (le-leb (ownFrom L) (ownFrom L + c) (omega arith))
       (lt-ltb (ownFrom L + c) (ownFrom L + L .cells) (omega arith))
-      ∙ sym (ap₂ (λ p q. (p && q) || isGlobal (alone (L .threads) (L .cells)) c) (le-leb (0 * L .cells) c (omega arith))
+      ∙ sym (ap₂ (λ p q. (p && q) || isGlobal (alone (L .threads) (L .cells) (L .common)) c) (le-leb (0 * L .cells) c (omega arith))
       (lt-ltb c (0 * L .cells + L .cells) (omega arith)))
 
   below-reached : (i : ℕ) → i < ownFrom L → reaches L i ≡ isGlobal L i
@@ -292,18 +298,18 @@ module _ (L : Shape) (z : LockState) (S : Sized L z) where
 
   -- what a BARRIER clears: the own log, and the global one
   barrier-log : cleared (reaches L) (z .log)
-      ≡ putLog (ownFrom L) (cleared (reaches (alone (L .threads) (L .cells))) (logPart (ownFrom L) (L .cells) (z .log))) (cleared (isGlobal L) (z .log))
+      ≡ putLog (ownFrom L) (cleared (reaches (alone (L .threads) (L .cells) (L .common))) (logPart (ownFrom L) (L .cells) (z .log))) (cleared (isGlobal L) (z .log))
   barrier-log =
       cleared-put (L .threads) (total L) (z .log) F (reaches L) (isGlobal L) (ownFrom L) (L .cells) (own-within L z S) below-reached (λ i l m. above-reached i l)
       ∙ ap (λ P. putLog (ownFrom L) P (cleared (isGlobal L) (z .log)))
       (cleared-like (L .threads) (L .cells) (logPart (ownFrom L) (L .cells) (z .log))
       (log-part-fits (L .threads) (total L) (z .log) F (ownFrom L) (L .cells) (own-within L z S))
-      (λ c. reaches L (ownFrom L + c)) (reaches (alone (L .threads) (L .cells))) own-reached)
+      (λ c. reaches L (ownFrom L + c)) (reaches (alone (L .threads) (L .cells) (L .common))) own-reached)
     where
       F : LogFits (L .threads) (total L) (z .log)
       F = sized-fits L z S .log-fits
 
-  pass-back : passBarrier L z ≡ putView (ownFrom L) (passBarrier (alone (L .threads) (L .cells)) view) (withCleared (isGlobal L) z)
+  pass-back : passBarrier L z ≡ putView (ownFrom L) (passBarrier (alone (L .threads) (L .cells) (L .common)) view) (withCleared (isGlobal L) z)
   unfolding passBarrier putView viewOf withCleared
   pass-back =
       let kept : z .cells ≡ putPart (ownFrom L) (part (ownFrom L) (L .cells) (z .cells)) (z .cells) =
@@ -334,11 +340,11 @@ module _ (L : Shape) (z : LockState) (S : Sized L z) where
   abbrev ended : LockState → LockState
   ended y = putView (ownFrom L) y (outside y)
 
-  passed : passBarrier L z ≡ ended (passBarrier (alone (L .threads) (L .cells)) view)
+  passed : passBarrier L z ≡ ended (passBarrier (alone (L .threads) (L .cells) (L .common)) view)
   unfolding passBarrier viewOf
   passed =
-      pass-back ∙ ap (putView (ownFrom L) (passBarrier (alone (L .threads) (L .cells)) view))
-      (sym (outside-clears (passBarrier (alone (L .threads) (L .cells)) view) refl))
+      pass-back ∙ ap (putView (ownFrom L) (passBarrier (alone (L .threads) (L .cells) (L .common)) view))
+      (sym (outside-clears (passBarrier (alone (L .threads) (L .cells) (L .common)) view) refl))
 
   gone : advance (suc (z .row)) (z .enabled) (z .saved) z ≡ ended (advance (suc (view .row)) (view .enabled) (view .saved) view)
   unfolding advance viewOf
@@ -352,7 +358,7 @@ module _ (L : Shape) (z : LockState) (S : Sized L z) where
   unmoved = sym own-is ∙ ap (putView (ownFrom L) view) (sym (outside-stays view refl))
 
   pub barrier-row : (T : Table) (x : Row) → runRow T L x z BARRIER
-      ≡ mapStep (λ y. putView (ownFrom L) y (outside y)) (runRow T (alone (L .threads) (L .cells)) x (viewOf (ownFrom L) (L .cells) z) BARRIER)
+      ≡ mapStep (λ y. putView (ownFrom L) y (outside y)) (runRow T (alone (L .threads) (L .cells) (L .common)) x (viewOf (ownFrom L) (L .cells) z) BARRIER)
   unfolding runRow barrierRow viewOf
   barrier-row T x = by (any (z .enabled)) (full (z .enabled))
     where
@@ -360,7 +366,7 @@ module _ (L : Shape) (z : LockState) (S : Sized L z) where
       diverged = Diverged (lowest (z .enabled)) (lowest (map not (z .enabled)))
 
       by : (b₁ b₂ : Bool) → cond b₁ (cond b₂ (continues (passBarrier L z)) (stops diverged z)) (continues (advance (suc (z .row)) (z .enabled) (z .saved) z))
-          ≡ mapStep ended (cond b₁ (cond b₂ (continues (passBarrier (alone (L .threads) (L .cells)) view)) (stops diverged view))
+          ≡ mapStep ended (cond b₁ (cond b₂ (continues (passBarrier (alone (L .threads) (L .cells) (L .common)) view)) (stops diverged view))
           (continues (advance (suc (view .row)) (view .enabled) (view .saved) view)))
       by true true = ap continues passed
       by true false = ap (stops diverged) unmoved
@@ -399,11 +405,11 @@ module _ (L : Shape) (z : LockState) (S : Sized L z) where
       logs b m (inr h) = unfold viewOf in log-above (L .threads) (total L) u U (ownFrom L) (L .cells) w W within b m h
 
   pub own-row-after : (T : Table) (x : Row) (o : Op) → isOwnRow o ≡ true
-      → OwnAfter L z (stateOf (runRow T L x z o)) (stateOf (runRow T (alone (L .threads) (L .cells)) x (viewOf (ownFrom L) (L .cells) z) o))
+      → OwnAfter L z (stateOf (runRow T L x z o)) (stateOf (runRow T (alone (L .threads) (L .cells) (L .common)) x (viewOf (ownFrom L) (L .cells) z) o))
   own-row-after T x o e =
-      subst (λ y. OwnAfter L z y (stateOf (runRow T (alone (L .threads) (L .cells)) x view o)))
-      (sym (ap stateOf (own-row T x o e) ∙ step-state own (runRow T (alone (L .threads) (L .cells)) x view o)))
-      (own-after z _ (sized-fits L z S) (alone-fits (L .threads) (L .cells) T x o view own-fits))
+      subst (λ y. OwnAfter L z y (stateOf (runRow T (alone (L .threads) (L .cells) (L .common)) x view o)))
+      (sym (ap stateOf (own-row T x o e) ∙ step-state own (runRow T (alone (L .threads) (L .cells) (L .common)) x view o)))
+      (own-after z _ (sized-fits L z S) (alone-fits (L .threads) (L .cells) (L .common) T x o view own-fits))
 
   pub compute-rows-after : (x : Row) (f : ℕ → ℕ → ℕ → ℕ)
       → OwnAfter L z (stateOf (forEnabled (computeTurn x f) z)) (stateOf (forEnabled (computeTurn x f) (viewOf (ownFrom L) (L .cells) z)))
@@ -412,12 +418,12 @@ module _ (L : Shape) (z : LockState) (S : Sized L z) where
       (sym (ap stateOf (compute-rows x f) ∙ step-state own (forEnabled (computeTurn x f) view)))
       (own-after z _ (sized-fits L z S) (compute-row-fits (L .threads) (L .cells) x f view own-fits))
 
-  pub barrier-after : (T : Table) (x : Row) → let w = stateOf (runRow T (alone (L .threads) (L .cells)) x (viewOf (ownFrom L) (L .cells) z) BARRIER) in
+  pub barrier-after : (T : Table) (x : Row) → let w = stateOf (runRow T (alone (L .threads) (L .cells) (L .common)) x (viewOf (ownFrom L) (L .cells) z) BARRIER) in
       OwnAfter L (outside w) (stateOf (runRow T L x z BARRIER)) w
   barrier-after T x =
-      let q : Step = runRow T (alone (L .threads) (L .cells)) x view BARRIER in
+      let q : Step = runRow T (alone (L .threads) (L .cells) (L .common)) x view BARRIER in
       subst (λ y. OwnAfter L (outside (stateOf q)) y (stateOf q)) (sym (ap stateOf (barrier-row T x) ∙ step-state ended q))
-      (own-after (outside (stateOf q)) (stateOf q) (outside-fits (stateOf q)) (alone-fits (L .threads) (L .cells) T x BARRIER view own-fits))
+      (own-after (outside (stateOf q)) (stateOf q) (outside-fits (stateOf q)) (alone-fits (L .threads) (L .cells) (L .common) T x BARRIER view own-fits))
 
   -- The log that a BARRIER clears outside the view: that of all global cells, and of no others.
   pub global-cleared : logPart (globalFrom L) (L .global) (withCleared (isGlobal L) z .log) ≡ cleared (λ c. true) (logPart (globalFrom L) (L .global) (z .log))

@@ -4,10 +4,11 @@ use mathlib.Core.List.{List}
 use mathlib.Core.Bool.{Bool, true, false, cond}
 use Prim.Native.Nat.{ℕ, zero, suc, _+_, _*_, _%_, _<_, _≤_}
 use native.Mathlib.Omega.{arith}
-use lib.Bits.{bitOr, or-comm, or-add-and, and-le-r}
+use lib.Bits.{bitOr, or-comm, or-add-and, and-le-r, or-mod}
 use lib.Dec.{eqb}
 use lib.ListN.{length, getD, set, replicate}
 use lib.Seq.{getD-set-other}
+use Rattle.spec.specs.Limits.{commonFrom}
 use Rattle.spec.specs.Access.{writes}
 use Rattle.spec.proofs.ClearingLaws.{place-cell, cells-rest}
 use Rattle.spec.specs.Log.{cellsCleared}
@@ -51,6 +52,12 @@ entered-but op v k i bit log log′ h e =
 pub same-more : (g i k k′ : ℕ) (log₀ log log′ : List ℕ) → SameAbove g k log₀ log → k′ ≡ k → SameBut i k′ log log′ → SameAbove (bitOr g i) k log₀ log′
 same-more g i k k′ log₀ log log′ A e B j h =
     B j (λ z. let y : j % k ≡ i = ap (λ (x : ℕ). j % x) (sym e) ∙ z in omega (arith, or-right g i)) ∙ A j (omega (arith, or-left g i))
+
+-- The same of numbers below the first common cell's: a common one is as good as the number that it stands at in its table.
+pub same-below : (g i k k′ : ℕ) (log₀ log log′ : List ℕ) → SameAbove (g % commonFrom) k log₀ log → k′ ≡ k → SameBut (i % commonFrom) k′ log log′
+    → SameAbove (bitOr g i % commonFrom) k log₀ log′
+same-below g i k k′ log₀ log log′ A e B =
+    subst (λ h. SameAbove h k log₀ log′) (sym (or-mod g i 16)) (same-more (g % commonFrom) (i % commonFrom) k k′ log₀ log log′ A e B)
 
 module _ (k : ℕ) (log : List ℕ) where
   pub empty-more : (g h : ℕ) (log′ : List ℕ) → EmptyAbove g k log → SameAbove h k log log′ → EmptyAbove (bitOr g h) k log′

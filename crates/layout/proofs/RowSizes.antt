@@ -8,15 +8,14 @@ use borrow.Author.Tests.{leb-false}
 use lib.Dec.{leb}
 use lib.ListN.{length, getD, set, length-set}
 use Rattle.spec.specs.Access.{Kind, load, store, atomicAdd, cellAfter, Mode, reads, writes, adds}
-use Rattle.spec.specs.declared.Verdict.the-variants.{Outside}
 use Rattle.spec.specs.Op.{Op, CALC, Space, OWN, GLOBAL, Mem, MEM, IF, ELSE, ENDIF, WHILE, ENDWHILE, BARRIER, UNKNOWN, value}
 use Rattle.spec.specs.Table.{Table, Row, cellByte, kindOf, endOf}
-use Rattle.spec.specs.Shape.{Shape, launchNumber, total, bound, address, reaches}
+use Rattle.spec.specs.Shape.{Shape, Past, nowhere, loads, changes, past, launchNumber, total, bound, address, reaches}
 use Rattle.spec.specs.Mask.{Mask, members, any, full}
 use Rattle.spec.specs.Log.{Log, cleared, withThread, conflictMask}
 use Rattle.spec.specs.GroupLog.{GroupLog, groupMasksOf, groupLogged}
 use Rattle.spec.specs.LockStep.{Saved, LockState, Step, continues, stops, andThen, inTurn, update, advance, reg, setReg, computeTurn, madeAccess, enterGroup}
-use Rattle.spec.specs.LockStep.{rivals, tryAccess, accessTurn, forEnabled, countSteps, topMask, pop, ifRow, elseRow, endifRow}
+use Rattle.spec.specs.LockStep.{rivals, tryAccess, pastTurn, accessTurn, forEnabled, countSteps, topMask, pop, ifRow, elseRow, endifRow}
 use Rattle.spec.specs.LockStep.{leaveOrStay, whileRow, endwhileRow, passBarrier, barrierRow, runRow}
 use Rattle.layout.specs.Memory.{Masks, stateOf}
 use Rattle.layout.specs.Views.{alone, Sized}
@@ -78,8 +77,13 @@ module _ (P : List ℕ → Log → GroupLog → Type 0) where
         c = reg s t (cellByte m x)
 
         by : (b : Bool) → (b ≡ false → c < bound L p)
-            → Holds (stateOf (cond b (stops (Outside t c) s) (tryAccess L p s t (x .d) c (kindOf m (reg s t (x .a))))))
-        by true l = H
+            → Holds (stateOf (cond b (pastTurn s t (x .d) c (past L p c (kindOf m (reg s t (x .a))))) (tryAccess L p s t (x .d) c (kindOf m (reg s t (x .a))))))
+        by true l = beyond (past L p c (kindOf m (reg s t (x .a))))
+          where
+            beyond : (q : Past) → Holds (stateOf (pastTurn s t (x .d) c q))
+            beyond nowhere = unfold pastTurn in H
+            beyond (loads v) = unfold pastTurn setReg update in H
+            beyond changes = unfold pastTurn in H
         by false l = try-keeps K s t (x .d) c (kindOf m (reg s t (x .a))) (l refl) H
 
   countSteps-keeps : (m : Mask) (s : LockState) → Holds s → Holds (countSteps m s)
@@ -126,30 +130,30 @@ compute-row-fits n k x f y Y =
     let r = enabled-keep (LogSized n k) (computeTurn x f) (compute-keeps (LogSized n k) x f) y (Y .cells-fit, Y .log-fits) in
     record { cells-fit = r .0; log-fits = r .1 }
 
-alone-own : (n k c : ℕ) → c < bound (alone n k) OWN → address (alone n k) OWN c < k
+alone-own : (n k : ℕ) (common : List ℕ) (c : ℕ) → c < bound (alone n k common) OWN → address (alone n k common) OWN c < k
 unfolding bound address
-alone-own n k c l = omega arith
+alone-own n k common c l = omega arith
 
-alone-global : (n k c : ℕ) → c < bound (alone n k) GLOBAL → ⊥
+alone-global : (n k : ℕ) (common : List ℕ) (c : ℕ) → c < bound (alone n k common) GLOBAL → ⊥
 unfolding bound
-alone-global n k c l = omega arith
+alone-global n k common c l = omega arith
 
 -- A group alone: the view of a stretch keeps its size in every turn and every row, and its group masks are not looked at.
-module _ (n k : ℕ) where
-  alone-makes : (p : Space) → Makes (LogSized n k) (alone n k) p
+module _ (n k : ℕ) (common : List ℕ) where
+  alone-makes : (p : Space) → Makes (LogSized n k) (alone n k common) p
   unfolding enterGroup
-  alone-makes OWN s t d c x l H = made-sized n k s t d (address (alone n k) OWN c) x (alone-own n k c l) H
-  alone-makes GLOBAL s t d c x l H = absurd (alone-global n k c l)
+  alone-makes OWN s t d c x l H = made-sized n k s t d (address (alone n k common) OWN c) x (alone-own n k common c l) H
+  alone-makes GLOBAL s t d c x l H = absurd (alone-global n k common c l)
 
-  pub alone-turn-fits : (p : Space) (m : Mem) (x : Row) (y : LockState) (t : ℕ) → StateFits n k y → StateFits n k (stateOf (accessTurn (alone n k) p m x y t))
+  pub alone-turn-fits : (p : Space) (m : Mem) (x : Row) (y : LockState) (t : ℕ) → StateFits n k y → StateFits n k (stateOf (accessTurn (alone n k common) p m x y t))
   alone-turn-fits p m x y t Y =
-      let r = access-keeps (LogSized n k) (alone n k) p m x (alone-makes p) y t (Y .cells-fit, Y .log-fits) in record { cells-fit = r .0; log-fits = r .1 }
+      let r = access-keeps (LogSized n k) (alone n k common) p m x (alone-makes p) y t (Y .cells-fit, Y .log-fits) in record { cells-fit = r .0; log-fits = r .1 }
 
   module _ (T : Table) (x : Row) (o : Op) (y : LockState) where
-    pub alone-fits : StateFits n k y → StateFits n k (stateOf (runRow T (alone n k) x y o))
+    pub alone-fits : StateFits n k y → StateFits n k (stateOf (runRow T (alone n k common) x y o))
     alone-fits Y =
-        let r = row-keeps (LogSized n k) T (alone n k) x o (λ p m e. alone-makes p)
-        (λ e s (c, F). (c, log-cleared-fits n k (s .log) F (reaches (alone n k)))) y (Y .cells-fit, Y .log-fits) in
+        let r = row-keeps (LogSized n k) T (alone n k common) x o (λ p m e. alone-makes p)
+        (λ e s (c, F). (c, log-cleared-fits n k (s .log) F (reaches (alone n k common)))) y (Y .cells-fit, Y .log-fits) in
         record { cells-fit = r .0; log-fits = r .1 }
 
 -- The sizes of a launch's state, group masks too.

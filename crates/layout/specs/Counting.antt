@@ -6,7 +6,7 @@ use Prim.Native.Nat.{ℕ, _+_, _-_, _*_, _/_, _%_, _^_, _<_, _≤_}
 use lib.Dec.{eqb}
 use lib.ListN.{length, getD}
 use Rattle.spec.specs.declared.Verdict.{Verdict}
-use Rattle.spec.specs.declared.Verdict.the-variants.{Passed, Race, GroupRace, Outside, Diverged, Spent}
+use Rattle.spec.specs.declared.Verdict.the-variants.{Passed, Race, GroupRace, Outside, Common, Diverged, Spent}
 use Rattle.spec.specs.LockStep.{LockState}
 use Rattle.layout.specs.declared.State.{State}
 use Rattle.layout.specs.declared.Next.{Next}
@@ -63,6 +63,7 @@ actedBefore Passed mask = 0
 actedBefore (Race thread other kind at) mask = mask % 2 ^ thread
 actedBefore (GroupRace thread group kind at) mask = mask % 2 ^ thread
 actedBefore (Outside thread at) mask = mask % 2 ^ thread
+actedBefore (Common thread at) mask = mask % 2 ^ thread
 actedBefore (Diverged thread other) mask = 0
 actedBefore Spent mask = 0
 
@@ -72,6 +73,7 @@ ThreadFits Passed = Unit {0}
 ThreadFits (Race thread other kind at) = thread < 32
 ThreadFits (GroupRace thread group kind at) = thread < 32
 ThreadFits (Outside thread at) = thread < 32
+ThreadFits (Common thread at) = thread < 32
 ThreadFits (Diverged thread other) = Unit {0}
 ThreadFits Spent = Unit {0}
 

@@ -9,18 +9,18 @@ use lib.ListN.{length, getD, set}
 use Rattle.spec.specs.declared.Verdict.{Verdict}
 use Rattle.spec.specs.Mask.{Mask, maskWord, members, nonzero}
 use Rattle.spec.specs.Access.{Mode}
-use Rattle.spec.specs.Limits.{logPerCell}
+use Rattle.spec.specs.Limits.{logPerCell, commonFrom}
 use Rattle.spec.specs.Log.{Log, masksOf, logWords}
 use Rattle.spec.specs.Op.{Calc, CALC, OWN, Mem, MEM, opOf, value}
 use Rattle.spec.specs.Table.{Row}
 use Rattle.spec.specs.LockStep.{LockState, Step, continues, stops, inTurn, accessTurn}
-use Rattle.spec.specs.Shape.{Shape, shapeOf, oneGroup}
+use Rattle.spec.specs.Shape.{Shape, inCommon, shapeOf, oneGroup, withCommon}
 use Rattle.spec.specs.Word.{add}
 use Rattle.layout.specs.declared.Access.{Access}
 use Rattle.layout.specs.declared.Access.the-variants.{Done, Stop}
 use Rattle.layout.specs.declared.Halt.{Halt}
 use Rattle.layout.specs.declared.Turns.{Turns}
-use Rattle.layout.specs.Logging.{SameAbove, testedWord}
+use Rattle.layout.specs.Logging.{SameAbove, SameBut, testedWord}
 
 -- Register r of thread t stands at r * 32 + t.
 pub record Regs (n : ℕ) (regs : List (List ℕ)) (flat : List ℕ) : Type 0 where
@@ -153,19 +153,26 @@ pub record CellNumber (op d a t : ℕ) (regs : List ℕ) (x : ℕ) : Type 0 wher
   pub word : x ≡ getD regs (register * 32 + t) 0
 
 -- The shape of the one group, by the code's numbers.
-abbrev pub shapeBy : (n : ℕ) → (cells : List ℕ) → Shape
-shapeBy n cells = shapeOf (oneGroup n cells) 0
+abbrev pub shapeBy : (n : ℕ) → (cells common : List ℕ) → Shape
+shapeBy n cells common = shapeOf (withCommon common (oneGroup n cells)) 0
 
 -- One thread's access, and a row's accesses, in a launch of n threads.
-abbrev pub AccessOne : (op t d a : ℕ) → (regs cells log : List ℕ) → Access → (regs′ cells′ log′ : List ℕ) → Type 0
-AccessOne op t d a regs cells log r regs′ cells′ log′ =
+abbrev pub AccessOne : (op t d a : ℕ) → (common regs cells log : List ℕ) → Access → (regs′ cells′ log′ : List ℕ) → Type 0
+AccessOne op t d a common regs cells log r regs′ cells′ log′ =
     (n : ℕ) (m : Mem) (x : Row) → opOf op ≡ MEM OWN m → t < n → x .d ≡ d → x .a ≡ a
-    → OneTurn (accessTurn (shapeBy n cells) OWN m x) n t regs cells log r regs′ cells′ log′
+    → OneTurn (accessTurn (shapeBy n cells common) OWN m x) n t regs cells log r regs′ cells′ log′
 
-abbrev pub AccessAll : (op n mask d a : ℕ) → (regs cells log : List ℕ) → Access → (regs′ cells′ log′ : List ℕ) → Type 0
-AccessAll op n mask d a regs cells log r regs′ cells′ log′ =
+-- One that goes on without looking at the common cells; one that stops, of a number that is no common cell's.
+abbrev pub AccessMade : (op t d a : ℕ) → (regs cells log regs′ cells′ log′ : List ℕ) → Type 0
+AccessMade op t d a regs cells log regs′ cells′ log′ = (common : List ℕ) → AccessOne op t d a common regs cells log Done regs′ cells′ log′
+
+abbrev pub AccessStopped : (op t d a x : ℕ) → (regs cells log : List ℕ) → Verdict → Type 0
+AccessStopped op t d a x regs cells log v = (common : List ℕ) → inCommon common x ≡ false → AccessOne op t d a common regs cells log (Stop v) regs cells log
+
+abbrev pub AccessAll : (op n mask d a : ℕ) → (common regs cells log : List ℕ) → Access → (regs′ cells′ log′ : List ℕ) → Type 0
+AccessAll op n mask d a common regs cells log r regs′ cells′ log′ =
     (m : Mem) (x : Row) → opOf op ≡ MEM OWN m → x .d ≡ d → x .a ≡ a
-    → AllTurns (accessTurn (shapeBy n cells) OWN m x) n mask regs cells log r regs′ cells′ log′
+    → AllTurns (accessTurn (shapeBy n cells common) OWN m x) n mask regs cells log r regs′ cells′ log′
 
 -- Whether an access by op of the cell numbered x goes on: the cell is there, and nobody is met but the acting thread, of this bit. A STORE stores v.
 unfoldable pub goesOn : (op v bit x : ℕ) → (cells log : List ℕ) → Bool
@@ -179,29 +186,44 @@ pub record TestAsks (op a : ℕ) (cells log : List ℕ) : Type 0 where
   pub sized : length log ≡ logPerCell * length cells
   pub cells-few : length cells ≤ 1024
 
+-- Whether an access by op of the cell numbered x is a LOAD of a common cell.
+unfoldable pub takesCommon : (op x : ℕ) → (common : List ℕ) → Bool
+takesCommon op x common = cond (eqb op 16) (inCommon common x) false
+
+-- One thread's turn: it went on, or it changed nothing and is one that stops. In the log only words of its own cell have changed, of a common one none.
+pub record TurnMade (op t d a x bit : ℕ) (common regs cells log : List ℕ) (r : Bool) (regs′ cells′ log′ : List ℕ) : Type 0 where
+  pub went : r ≡ true → AccessOne op t d a common regs cells log Done regs′ cells′ log′
+  pub regs-kept : KeptBut d (t + 1) regs regs′
+  pub log-same : SameBut (x % commonFrom) (length cells) log log′
+  pub cells-size : length cells′ ≡ length cells
+  pub log-size : length log′ ≡ length log
+  pub stays : r ≡ false → (regs′ ≡ regs) × (cells′ ≡ cells) × (log′ ≡ log)
+      × (goesOn op (getD regs (a * 32 + t) 0) bit x cells log ≡ false) × (takesCommon op x common ≡ false)
+
 -- A row's accesses up to the thread at which they halt, whose access does not go on: where that one stops, the row stops with the same verdict.
-pub record Halted (op n mask d a : ℕ) (regs cells log : List ℕ) (r : Halt) (regs′ cells′ log′ : List ℕ) : Type 0 where
+pub record Halted (op n mask d a : ℕ) (common regs cells log : List ℕ) (r : Halt) (regs′ cells′ log′ : List ℕ) : Type 0 where
   pub inside : r .thread < n
   pub bit-is : r .bit ≡ 2 ^ r .thread
   pub number : CellNumber op d a (r .thread) regs′ (r .cell)
   pub refused : goesOn op (getD regs′ (a * 32 + r .thread) 0) (r .bit) (r .cell) cells′ log′ ≡ false
-  pub stops : (v : Verdict) → AccessOne op (r .thread) d a regs′ cells′ log′ (Stop v) regs′ cells′ log′
-      → AccessAll op n mask d a regs cells log (Stop v) regs′ cells′ log′
+  pub untaken : takesCommon op (r .cell) common ≡ false
+  pub stops : (v : Verdict) → AccessOne op (r .thread) d a common regs′ cells′ log′ (Stop v) regs′ cells′ log′
+      → AccessAll op n mask d a common regs cells log (Stop v) regs′ cells′ log′
 
-abbrev pub AccessLoop : (op n mask d a : ℕ) → (regs cells log : List ℕ) → Halt → (regs′ cells′ log′ : List ℕ) → Type 0
-AccessLoop op n mask d a regs cells log r regs′ cells′ log′ =
-    (r .thread ≡ n → AccessAll op n mask d a regs cells log Done regs′ cells′ log′)
-    × ((r .thread ≡ n → ⊥) → Halted op n mask d a regs cells log r regs′ cells′ log′)
+abbrev pub AccessLoop : (op n mask d a : ℕ) → (common regs cells log : List ℕ) → Halt → (regs′ cells′ log′ : List ℕ) → Type 0
+AccessLoop op n mask d a common regs cells log r regs′ cells′ log′ =
+    (r .thread ≡ n → AccessAll op n mask d a common regs cells log Done regs′ cells′ log′)
+    × ((r .thread ≡ n → ⊥) → Halted op n mask d a common regs cells log r regs′ cells′ log′)
     × (length cells′ ≡ length cells) × (length log′ ≡ length log)
-    × KeptBut d n regs regs′ × SameAbove (r .reach) (length cells) log log′
+    × KeptBut d n regs regs′ × SameAbove (r .reach % commonFrom) (length cells) log log′
 
 -- What a row's accesses ask, and what they come to.
 abbrev pub AccessRowAsks : (op n d a : ℕ) → (regs cells log : List ℕ) → Type 0
 AccessRowAsks op n d a regs cells log = AccessAsks op d a cells log × InMemory n regs cells log
 
-abbrev pub AccessRow : (op n mask d a : ℕ) → (regs cells log : List ℕ) → Turns → (regs′ cells′ log′ : List ℕ) → Type 0
-AccessRow op n mask d a regs cells log r regs′ cells′ log′ =
-    AccessAll op n mask d a regs cells log (r .access) regs′ cells′ log′ × KeptBut d n regs regs′ × SameAbove (r .reach) (length cells) log log′
+abbrev pub AccessRow : (op n mask d a : ℕ) → (common regs cells log : List ℕ) → Turns → (regs′ cells′ log′ : List ℕ) → Type 0
+AccessRow op n mask d a common regs cells log r regs′ cells′ log′ =
+    AccessAll op n mask d a common regs cells log (r .access) regs′ cells′ log′ × KeptBut d n regs regs′ × SameAbove (r .reach) (length cells) log log′
 
 -- A LOAD moves cell i to place `to` of the registers; a STORE moves place `from` to cell i, an ATOMIC ADD adds it there.
 unfoldable pub cellBy : (op old word : ℕ) → ℕ

@@ -42,11 +42,11 @@ pub record Runnable (table ends : List ℕ) : Type 0 where
   pub ends-are : (r : ℕ) → r < length (rowsOf table) → rowAt (rowsOf table) r .op ≡ WHILE → getD ends r 0 ≡ endOf (rowsOf table) r
 
 -- What an access row comes to.
-abbrev pub AccessDone : (op n d a : ℕ) (s : State) → (regs cells log : List ℕ) → (r : Next) → (regs′ cells′ log′ : List ℕ) → Type 0
-AccessDone op n d a s regs cells log r regs′ cells′ log′ =
+abbrev pub AccessDone : (op n d a : ℕ) (s : State) → (common regs cells log : List ℕ) → (r : Next) → (regs′ cells′ log′ : List ℕ) → Type 0
+AccessDone op n d a s common regs cells log r regs′ cells′ log′ =
     Counts s r × ((saved openers : List ℕ) (T : Table) (x : Row) (z : LockState) → x .op ≡ opOf op → x .d ≡ d → x .a ≡ a
     → Represents n z s regs cells log saved openers
-    → After n (runRow T (shapeBy n cells) x z (x .op)) r regs′ cells′ log′ saved openers)
+    → After n (runRow T (shapeBy n cells common) x z (x .op)) r regs′ cells′ log′ saved openers)
 
 -- The registers after a row, by its op.
 pub record RegsAfter (op n mask d a b : ℕ) (regs regs′ : List ℕ) : Type 0 where
@@ -55,11 +55,11 @@ pub record RegsAfter (op n mask d a b : ℕ) (regs regs′ : List ℕ) : Type 0 
   pub kept : 32 ≤ op → regs′ ≡ regs
 
 -- What a step comes to: what the definition's row comes to from the state that stands, and every word that no such state shows.
-pub record Steps (table : List ℕ) (n : ℕ) (s : State) (regs cells log saved openers : List ℕ) (r : Next)
+pub record Steps (table : List ℕ) (n : ℕ) (s : State) (common regs cells log saved openers : List ℕ) (r : Next)
     (regs′ cells′ log′ saved′ openers′ : List ℕ) : Type 0 where
   pub counts : Counts s r
   pub done : (z : LockState) → Represents n z s regs cells log saved openers
-      → After n (runRow (rowsOf table) (shapeBy n cells) (rowAt (rowsOf table) (z .row)) z (rowAt (rowsOf table) (z .row) .op)) r regs′ cells′ log′
+      → After n (runRow (rowsOf table) (shapeBy n cells common) (rowAt (rowsOf table) (z .row)) z (rowAt (rowsOf table) (z .row) .op)) r regs′ cells′ log′
       saved′ openers′
   pub regs-are : RegsAfter (getD table (s .row * 4) 0) n (s .mask) (getD table (s .row * 4 + 1) 0) (getD table (s .row * 4 + 2) 0)
       (getD table (s .row * 4 + 3) 0) regs regs′

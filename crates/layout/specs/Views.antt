@@ -82,9 +82,9 @@ ownFrom L = L .group * L .cells
 abbrev pub globalFrom : Shape → ℕ
 globalFrom L = L .groups * L .cells
 
--- A group alone with k cells.
-abbrev pub alone : (n k : ℕ) → Shape
-alone n k = record { threads = n; cells = k; groups = 1; global = 0; group = 0 }
+-- A group alone with k cells, beside the common ones.
+abbrev pub alone : (n k : ℕ) → (common : List ℕ) → Shape
+alone n k common = record { threads = n; cells = k; groups = 1; global = 0; common = common; group = 0 }
 
 -- The state with the log of the places for which p holds cleared.
 unfoldable pub withCleared : (p : ℕ → Bool) → LockState → LockState

@@ -8,7 +8,7 @@ use lib.Dec.{eqb}
 use Rattle.spec.specs.declared.AccessKind.{AccessKind}
 use Rattle.spec.specs.declared.AccessKind.the-variants.{ReadWrite, WriteRead, WriteWrite, ReadAdd, AddRead, WriteAdd, AddWrite}
 use Rattle.spec.specs.declared.Verdict.{Verdict}
-use Rattle.spec.specs.declared.Verdict.the-variants.{Passed, Race, GroupRace, Outside, Diverged, Spent}
+use Rattle.spec.specs.declared.Verdict.the-variants.{Passed, Race, GroupRace, Outside, Common, Diverged, Spent}
 use Rattle.spec.specs.declared.Value.{Value}
 use Rattle.spec.specs.declared.Value.the-variants as value
 use Rattle.spec.specs.Lists.{every}
@@ -29,6 +29,7 @@ verdict-clean Passed = refl
 verdict-clean (Race thread other kind at) = refl
 verdict-clean (GroupRace thread group kind at) = refl
 verdict-clean (Outside thread at) = refl
+verdict-clean (Common thread at) = refl
 verdict-clean (Diverged thread other) = refl
 verdict-clean Spent = refl
 

@@ -5,3 +5,4 @@ pub mod Back
 pub mod Ends
 pub mod Reports
 pub mod Runs
+pub mod Pairs

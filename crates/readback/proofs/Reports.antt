@@ -12,7 +12,7 @@ use Rattle.spec.specs.declared.Subject.{Subject}
 use Rattle.spec.specs.declared.Subject.the-variants as subject
 use Rattle.spec.specs.declared.Value.the-variants as value
 use Rattle.spec.specs.declared.Verdict.{Verdict}
-use Rattle.spec.specs.declared.Verdict.the-variants.{Passed, Race, GroupRace, Outside, Diverged, Spent}
+use Rattle.spec.specs.declared.Verdict.the-variants.{Passed, Race, GroupRace, Outside, Common, Diverged, Spent}
 use Rattle.spec.specs.Lists.{anyOf, every, equalList}
 use Rattle.spec.specs.Text.{text, decimal, equals}
 use Rattle.spec.specs.Report.{Line, _is_, verdictText, valueText, bytesOf, headWith, headLines, intervalLines, eachLine, endLine, runLines, runReport}
@@ -153,6 +153,7 @@ passed-line Passed = refl
 passed-line (Race thread other kind at) = refl
 passed-line (GroupRace thread group kind at) = refl
 passed-line (Outside thread at) = refl
+passed-line (Common thread at) = refl
 passed-line (Diverged thread other) = refl
 passed-line Spent = refl
 
@@ -209,6 +210,7 @@ only-passed Passed e = refl
 only-passed (Race thread other kind at) e = absurd (false≢true e)
 only-passed (GroupRace thread group kind at) e = absurd (false≢true e)
 only-passed (Outside thread at) e = absurd (false≢true e)
+only-passed (Common thread at) e = absurd (false≢true e)
 only-passed (Diverged thread other) e = absurd (false≢true e)
 only-passed Spent e = absurd (false≢true e)
 
@@ -222,6 +224,7 @@ spent-line Passed e = absurd (false≢true e)
 spent-line (Race thread other kind at) e = absurd (false≢true e)
 spent-line (GroupRace thread group kind at) e = absurd (false≢true e)
 spent-line (Outside thread at) e = absurd (false≢true e)
+spent-line (Common thread at) e = absurd (false≢true e)
 spent-line (Diverged thread other) e = absurd (false≢true e)
 spent-line Spent e = refl
 

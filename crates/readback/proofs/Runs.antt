@@ -19,23 +19,27 @@ use Rattle.spec.specs.Report.{reportOf}
 use Rattle.spec.specs.Reading.{beginsWith, numbersAt, hasPassed, Readable}
 use Rattle.spec.specs.Answers.{isPassed}
 use Rattle.spec.specs.Entries.{launchReport, printed, checkPrints, subjectOf}
-use Rattle.spec.specs.Demands.{LaunchDemand3, RunsEndWell, countedIn, PassedReport, ReportDemand3, FileReadable}
+use Rattle.spec.specs.Demands.{LaunchDemand3, RunsEndWell, countedIn, PassedReport, CheckedDemand3, ReportDemand3, FileReadable}
 use Rattle.allruns.proofs.Launches.{file-demand3}
 use Rattle.readback.proofs.Reports.{readable, begins-passed, begins-spent, spent-begins, only-passed, is-passed}
 use Rattle.readback.proofs.Reports.{steps-read, barriers-read, conflicts-read, rows-read, cells-read, global-read}
 
+-- What is printed may be gone by as every report.
+pub checked-readable : (found : Checked Launch) → Readable (subjectOf found) (printed found)
+unfolding subjectOf printed launchReport reportOf
+checked-readable (refused why) = readable (subject.Refused (refusalNumber why) (refusalPlace why)) [] [] []
+checked-readable (accepted launch) = readable (subject.Ran (launchOutcome launch)) (launchSteps launch) (ownAfter launch) (globalAfter launch)
+
 pub file-readable : (file : List ℕ) → FileReadable file (checkPrints file)
 unfolding checkPrints
-file-readable file = by (fileLaunch file)
-  where
-    by : (x : Checked Launch) → Readable (subjectOf x) (printed x)
-    by (refused why) = unfold subjectOf printed reportOf in (readable (subject.Refused (refusalNumber why) (refusalPlace why)) [] [] [])
-    by (accepted launch) =
-        unfold subjectOf printed launchReport reportOf in
-        (readable (subject.Ran (launchOutcome launch)) (launchSteps launch) (ownAfter launch) (globalAfter launch))
+file-readable file = checked-readable (fileLaunch file)
 
--- An accepted launch.
-module _ (file : List ℕ) (launch : Launch) (e : fileLaunch file ≡ accepted launch) where
+-- What a launch's own run comes to, as demand 3 has it.
+abbrev pub Sound : Launch → Type 0
+Sound launch = LaunchDemand3 launch (launchOutcome launch) (launchSteps launch) (ownAfter launch ++ globalAfter launch)
+
+-- The report of an accepted launch.
+module _ (launch : Launch) (demand : Sound launch) where
   abbrev outcome : Outcome
   outcome = launchOutcome launch
 
@@ -48,10 +52,7 @@ module _ (file : List ℕ) (launch : Launch) (e : fileLaunch file ≡ accepted l
   abbrev global : List ℕ
   global = globalAfter launch
 
-  demand : LaunchDemand3 launch outcome steps (own ++ global)
-  demand = file-demand3 file launch e
-
-  has-passed : beginsWith "verdict=passed" (launchReport launch) ≡ true → outcome .verdict ≡ Passed
+  pub has-passed : beginsWith "verdict=passed" (launchReport launch) ≡ true → outcome .verdict ≡ Passed
   unfolding launchReport
   has-passed b = only-passed (outcome .verdict) (sym (begins-passed outcome steps own global) ∙ b)
 
@@ -67,7 +68,7 @@ module _ (file : List ℕ) (launch : Launch) (e : fileLaunch file ≡ accepted l
   unfolding launchReport
   unspent b q = false≢true (sym b ∙ spent-begins outcome steps own global q)
 
-  passed-report : outcome .verdict ≡ Passed → PassedReport launch (launchReport launch)
+  pub passed-report : outcome .verdict ≡ Passed → PassedReport launch (launchReport launch)
   unfolding launchReport
   passed-report p =
       record {
@@ -83,7 +84,7 @@ module _ (file : List ℕ) (launch : Launch) (e : fileLaunch file ≡ accepted l
         says = demand .passed p;
       }
 
-  exactly : beginsWith "verdict=spent" (launchReport launch) ≡ false → beginsWith "verdict=passed" (launchReport launch) ≡ true ↔ RunsEndWell launch
+  pub exactly : beginsWith "verdict=spent" (launchReport launch) ≡ false → beginsWith "verdict=passed" (launchReport launch) ≡ true ↔ RunsEndWell launch
   exactly b = let iff = demand .exactly (unspent b) in (λ q. iff .0 (has-passed q), λ r. says-passed (iff .1 r))
 
   counted : numbersAt "barriers" (launchReport launch) ≡ some (countedInAll (countedIn launch)) ∷ []
@@ -99,41 +100,46 @@ pub conflicts-said : (launch : Launch) → numbersAt "conflicts" (launchReport l
 unfolding launchReport launchOutcome outcomeOf
 conflicts-said launch = conflicts-read (launchOutcome launch) (launchSteps launch) (ownAfter launch) (globalAfter launch)
 
--- What is printed for an accepted file is its launch's report; what is printed for any other does not begin with `verdict=passed`.
+-- What is printed for an accepted launch is its report; what is printed for any other does not begin with `verdict=passed`.
 pub launch-printed : (file : List ℕ) (launch : Launch) → fileLaunch file ≡ accepted launch → checkPrints file ≡ launchReport launch
 unfolding checkPrints printed
 launch-printed file launch e = ap printed e
 
-printed-for : (P : List ℕ → Type 0) (file : List ℕ) (launch : Launch) → fileLaunch file ≡ accepted launch → P (launchReport launch) → P (checkPrints file)
-printed-for P file launch e h = subst P (sym (launch-printed file launch e)) h
+module _ (found : Checked Launch) where
+  pub printed-for : (P : List ℕ → Type 0) (launch : Launch) → found ≡ accepted launch → P (launchReport launch) → P (printed found)
+  unfolding printed
+  printed-for P launch e h = subst P (sym (ap printed e)) h
 
-refused-not : (file : List ℕ) (why : Refusal) → fileLaunch file ≡ refused why → beginsWith "verdict=passed" (checkPrints file) ≡ false
-unfolding hasPassed subjectOf
-refused-not file why e = file-readable file .begins ∙ ap (λ x. hasPassed (subjectOf x)) e
+  refused-not : (why : Refusal) → found ≡ refused why → beginsWith "verdict=passed" (printed found) ≡ false
+  unfolding hasPassed subjectOf
+  refused-not why e = checked-readable found .begins ∙ ap (λ x. hasPassed (subjectOf x)) e
 
-module _ (file : List ℕ) where
-  passed : beginsWith "verdict=passed" (checkPrints file) ≡ true
-      → (launch : Launch) × (fileLaunch file ≡ accepted launch) × PassedReport launch (checkPrints file)
-  passed b = by (fileLaunch file) refl
-    where
-      by : (x : Checked Launch) → fileLaunch file ≡ x → (launch : Launch) × (fileLaunch file ≡ accepted launch) × PassedReport launch (checkPrints file)
-      by (refused why) e = absurd (false≢true (sym (refused-not file why e) ∙ b))
-      by (accepted launch) e = (
-        launch,
-        e,
-        printed-for (λ r. beginsWith "verdict=passed" r ≡ true → PassedReport launch r) file launch e
-            (λ q. passed-report file launch e (has-passed file launch e q)) b,
-      )
+  module _ (sound : (launch : Launch) → found ≡ accepted launch → Sound launch) where
+    passed : beginsWith "verdict=passed" (printed found) ≡ true → (launch : Launch) × (found ≡ accepted launch) × PassedReport launch (printed found)
+    passed b = by found refl
+      where
+        by : (x : Checked Launch) → found ≡ x → (launch : Launch) × (found ≡ accepted launch) × PassedReport launch (printed found)
+        by (refused why) e = absurd (false≢true (sym (refused-not why e) ∙ b))
+        by (accepted launch) e = (
+          launch,
+          e,
+          printed-for (λ r. beginsWith "verdict=passed" r ≡ true → PassedReport launch r) launch e
+              (λ q. passed-report launch (sound launch e) (has-passed launch (sound launch e) q)) b,
+        )
 
-  pub report-demand3 : ReportDemand3 file (checkPrints file)
-  report-demand3 =
-      record {
-        passed = passed;
-        exactly = λ launch e.
-            printed-for (λ r. beginsWith "verdict=spent" r ≡ false → beginsWith "verdict=passed" r ≡ true ↔ RunsEndWell launch) file launch e
-            (exactly file launch e);
-        counted = λ launch e.
-            printed-for (λ r. numbersAt "barriers" r ≡ some (countedInAll (countedIn launch)) ∷ []) file launch e (counted file launch e);
-        spent = λ launch e.
-            printed-for (λ r. beginsWith "verdict=spent" r ≡ true → numbersAt "rows" r ≡ some (launch .limit) ∷ []) file launch e (spent file launch e);
-      }
+    pub checked-demand3 : CheckedDemand3 found (printed found)
+    checked-demand3 =
+        record {
+          passed = passed;
+          exactly = λ launch e.
+              printed-for (λ r. beginsWith "verdict=spent" r ≡ false → beginsWith "verdict=passed" r ≡ true ↔ RunsEndWell launch) launch e
+              (exactly launch (sound launch e));
+          counted = λ launch e.
+              printed-for (λ r. numbersAt "barriers" r ≡ some (countedInAll (countedIn launch)) ∷ []) launch e (counted launch (sound launch e));
+          spent = λ launch e.
+              printed-for (λ r. beginsWith "verdict=spent" r ≡ true → numbersAt "rows" r ≡ some (launch .limit) ∷ []) launch e (spent launch (sound launch e));
+        }
+
+pub report-demand3 : (file : List ℕ) → ReportDemand3 file (checkPrints file)
+unfolding checkPrints
+report-demand3 file = checked-demand3 (fileLaunch file) (file-demand3 file)

@@ -27,5 +27,6 @@ pub fn words(why: Refusal) -> [u32; 2]
         Refusal::RecordsLength => [30, 0],
         Refusal::GroupsOutOfRange(place) => [32, place],
         Refusal::TooManyCells(place) => [33, place],
+        Refusal::CommonFile(place) => [37, place],
     }
 }

@@ -27,7 +27,7 @@ as-word {w = w} e s = subst (λ r. Spells r w) e s
 pub as-digits : {r : Spelling} {n : ℕ} {w : List ℕ} → r ≡ Digits n → Spells r w → decimal n ≡ w
 as-digits {w = w} e s = subst (λ r. Spells r w) e s
 
-pub few-words : {i : ℕ} {w : List ℕ} → IsWord i w → i < 14
+pub few-words : {i : ℕ} {w : List ℕ} → IsWord i w → i < 15
 unfolding words
 few-words d = d .listed
 

@@ -8,7 +8,7 @@ use Rattle.reportlines.specs.declared.Spelling.{Spelling}
 use Rattle.reportlines.specs.declared.Spelling.the-variants.{Word, Digits}
 
 unfoldable pub words : List (List ℕ)
-words = map text ("-" ∷ "passed" ∷ "race" ∷ "outside" ∷ "diverged" ∷ "spent" ∷ "rw" ∷ "wr" ∷ "ww" ∷ "ra" ∷ "ar" ∷ "wa" ∷ "aw" ∷ "report" ∷ [])
+words = map text ("-" ∷ "passed" ∷ "race" ∷ "outside" ∷ "diverged" ∷ "spent" ∷ "rw" ∷ "wr" ∷ "ww" ∷ "ra" ∷ "ar" ∷ "wa" ∷ "aw" ∷ "report" ∷ "common" ∷ [])
 
 -- Word i of the table is w.
 pub record IsWord (i : ℕ) (w : List ℕ) : Type 0 where

@@ -9,6 +9,9 @@ ghost use Rattle.spec.specs.Entries.{bareAnswer, bareCells, bareGlobal, bareLog
 ghost use Rattle.spec.specs.Entries.{fileAnswer, fileCellsAfter, fileGlobalAfter, fileLogAfter, fileRecordsAfter, fileOutputAfter};
 ghost use Rattle.spec.specs.Reading.{Readable};
 ghost use Rattle.spec.specs.Demands.{ReportDemand3, FileReadable, OfLength};
+ghost use Rattle.spec.specs.PairFiles.{pairAnswer, pairOutputAfter};
+ghost use Rattle.spec.specs.PairDemands.{PairDemand3};
+ghost use Rattle.pairfiles.specs.BothReports.{CutShort};
 ghost use Rattle.answerwords.specs.Codes.{lengthIn, refusalIn, ranIn, outcomeIn, whyIn, outcomeFrom, RanDemand3};
 
 #[no_mangle]
@@ -39,6 +42,24 @@ pub extern "C" fn sekufoyi_check_file(
     ensures runs { λ r. ⌜ OfLength (ReportDemand3 (now (file .entry))) r (now (output .exit)) ⌝ }
 {
     let answer = checkfile::check_file(file, cells, global, log, records, output);
+    answerwords::tell_written(answer, refusal)
+}
+
+#[no_mangle]
+pub extern "C" fn sekufoyi_pair_files(
+    filter: &[u8],
+    trigger: &[u8],
+    common: &[u8],
+    output: &mut [u8],
+    refusal: &mut [u32; 2],
+) -> usize
+    ensures answer { λ r. ⌜ r ≡ lengthIn (pairAnswer (now (filter .entry)) (now (trigger .entry)) (now (common .entry)) (now (output .entry))) ⌝ }
+    ensures refusal { λ _. ⌜ now (refusal .exit) ≡ refusalIn (pairAnswer (now (filter .entry)) (now (trigger .entry)) (now (common .entry)) (now (output .entry))) ⌝ }
+    ensures output { λ _. ⌜ now (output .exit) ≡ pairOutputAfter (now (filter .entry)) (now (trigger .entry)) (now (common .entry)) (now (output .entry)) ⌝ }
+    ensures runs { λ r. ⌜ OfLength (PairDemand3 (now (filter .entry)) (now (trigger .entry)) (now (common .entry))) r (now (output .exit)) ⌝ }
+    ensures enough { λ _. ⌜ CutShort (now (filter .entry)) (now (trigger .entry)) (now (common .entry)) ⌝ }
+{
+    let answer = pairfiles::pair_files(filter, trigger, common, output);
     answerwords::tell_written(answer, refusal)
 }
 

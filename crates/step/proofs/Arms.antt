@@ -38,7 +38,7 @@ pub tested-small : (table ends : List ℕ) (n : ℕ) (s : State) (regs cells log
 tested-small table ends n s regs cells log saved openers P a ea =
     ((λ e. subst (λ k. k < 16) (sym ea) (P .asks .ifs e)), (λ e. subst (λ k. k < 16) (sym ea) (P .asks .whiles e)))
 
-module _ (table ends : List ℕ) (n group : ℕ) (s : State) (regs cells log saved openers counts stamps memo records shared : List ℕ)
+module _ (table ends : List ℕ) (n group : ℕ) (s : State) (common regs cells log saved openers counts stamps memo records shared : List ℕ)
     (P : Ready table ends n s regs cells log saved openers) (C : Roomy (s .mask) (s .since + 1) counts) where
   abbrev T : Table
   T = rowsOf table
@@ -52,12 +52,12 @@ module _ (table ends : List ℕ) (n group : ℕ) (s : State) (regs cells log sav
   module _ (O : Older (s .rows + 1) stamps) (M : Memo memo) where
     pub compute-row-is : (d a b : ℕ) → d ≡ getD table (s .row * 4 + 1) 0 → a ≡ getD table (s .row * 4 + 2) 0 → b ≡ getD table (s .row * 4 + 3) 0
         → code < 16 → (r : Next) (regs′ : List ℕ) → (r ≡ next.Go (movedOn s)) × Computed code n (s .mask) d a b regs regs′
-        → OwnRow table n group s regs cells log saved openers counts records shared r regs′ cells log saved openers counts records stamps memo shared
+        → OwnRow table n group s common regs cells log saved openers counts records shared r regs′ cells log saved openers counts records stamps memo shared
     compute-row-is d a b ed ea eb h r regs′ D =
-        subst (λ q. OwnRow table n group s regs cells log saved openers counts records shared q regs′ cells log saved openers counts records stamps memo shared)
+        subst (λ q. OwnRow table n group s common regs cells log saved openers counts records shared q regs′ cells log saved openers counts records stamps memo shared)
         (sym (D .0)) moved
       where
-        moved : OwnRow table n group s regs cells log saved openers counts records shared (next.Go (movedOn s)) regs′ cells log saved openers counts records
+        moved : OwnRow table n group s common regs cells log saved openers counts records shared (next.Go (movedOn s)) regs′ cells log saved openers counts records
             stamps memo shared
         moved =
             let asks = P .asks .computes h in
@@ -68,7 +68,7 @@ module _ (table ends : List ℕ) (n group : ℕ) (s : State) (regs cells log sav
                 done = λ z R.
                     let x = rowAt T (z .row) in
                     let E = here z R in
-                    compute-after n z s regs cells log saved openers R T x (op .0) (movedOn s) regs′ (ap (λ y. y .op) E ∙ op .1)
+                    compute-after n z s regs cells log saved openers R T x common (op .0) (movedOn s) regs′ (ap (λ y. y .op) E ∙ op .1)
                     (compute-did n (s .mask) d regs (R .memory .regs-are .size) x (ap (λ y. y .d) E ∙ sym ed) cells log z
                     (R .enabled-is) (R .enabled-size) (R .memory) regs′ 0 code a b
                     (compute-asks _ _ _ _ _ _ _ ed ea eb asks) (op .0) (op .1)
@@ -86,12 +86,12 @@ module _ (table ends : List ℕ) (n group : ℕ) (s : State) (regs cells log sav
 
     pub construct-row-is : (a : ℕ) → a ≡ getD table (s .row * 4 + 2) 0 → 32 ≤ code → code < 37
         → (r : Next) (saved′ openers′ counts′ : List ℕ) → ConstructCounted code a (getD ends (s .row) 0) s regs saved openers counts r saved′ openers′ counts′
-        → OwnRow table n group s regs cells log saved openers counts records shared r regs cells log saved′ openers′ counts′ records stamps memo shared
+        → OwnRow table n group s common regs cells log saved openers counts records shared r regs cells log saved′ openers′ counts′ records stamps memo shared
     construct-row-is a ea low high r saved′ openers′ counts′ D =
-        subst (λ q. OwnRow table n group s regs cells log saved openers counts records shared q regs cells log saved′ openers′ counts′ records stamps memo shared)
+        subst (λ q. OwnRow table n group s common regs cells log saved openers counts records shared q regs cells log saved′ openers′ counts′ records stamps memo shared)
         (sym (D .result-is)) settled
       where
-        settled : OwnRow table n group s regs cells log saved openers counts records shared (next.Go (D .after)) regs cells log saved′ openers′ counts′ records
+        settled : OwnRow table n group s common regs cells log saved openers counts records shared (next.Go (D .after)) regs cells log saved′ openers′ counts′ records
             stamps memo shared
         settled =
             let S = D .settled in
@@ -101,8 +101,8 @@ module _ (table ends : List ℕ) (n group : ℕ) (s : State) (regs cells log sav
                 done = λ z R.
                     let x = rowAt T (z .row) in
                     let E = here z R in
-                    after-settled n (runRow T (shapeBy n cells) x z (x .op)) (D .gone) (D .after) regs cells log saved′ openers′
-                    (construct-after n z s regs cells log saved openers R T (shapeBy n cells) x code
+                    after-settled n (runRow T (shapeBy n cells common) x z (x .op)) (D .gone) (D .after) regs cells log saved′ openers′
+                    (construct-after n z s regs cells log saved openers R T (shapeBy n cells common) x code
                     (ap (λ y. y .op) E) a (getD ends (s .row) 0) (ap (λ y. y .a) E ∙ sym ea)
                     (λ w. P .ends-right (ap (λ k. rowAt T k .op) (R .row-is) ∙ w) ∙ ap (endOf T) (R .row-is))
                     (tested-small table ends n s regs cells log saved openers P a ea) (P .depths) low (omega (arith, high)) (D .gone) saved′ openers′ (D .done)) (S .state-is);
@@ -118,15 +118,15 @@ module _ (table ends : List ℕ) (n group : ℕ) (s : State) (regs cells log sav
 
     pub barrier-row-is : 37 ≤ code → (r : Next) (log′ records′ shared′ : List ℕ)
         → (r ≡ barrierNext n s) × (log′ ≡ barrierLog n s (length cells) log) × (records′ ≡ recordsAfter group 0 s r records) × SharedAfter s r shared shared′
-        → OwnRow table n group s regs cells log saved openers counts records shared r regs cells log′ saved openers counts records′ stamps memo shared′
+        → OwnRow table n group s common regs cells log saved openers counts records shared r regs cells log′ saved openers counts records′ stamps memo shared′
     barrier-row-is low r log′ records′ shared′ D =
         let e : code ≡ 37 = omega (arith, low, P .asks .known) in
         let slots = slots-kept code s saved openers (inr (omega arith)) in (
           record {
             counts = subst (Counts s) (sym (D .0)) (barrier-counts n s);
             done = λ z R.
-                barrier-after n z s regs cells log saved openers R T (shapeBy n cells) (rowAt T (z .row)) code
-                (ap (λ x. x .op) (here z R)) (P .some) e r log′ (D .0, D .1);
+                barrier-after n z s regs cells log saved openers R T (shapeBy n cells common) (rowAt T (z .row)) code
+                (ap (λ x. x .op) (here z R)) common (P .some) e r log′ (D .0, D .1);
             regs-are = regs-kept code n (s .mask) _ _ _ regs (omega arith);
             saved-are = slots .0;
             openers-are = slots .1;
@@ -138,9 +138,9 @@ module _ (table ends : List ℕ) (n group : ℕ) (s : State) (regs cells log sav
 
   pub access-row-is : (d a : ℕ) → d ≡ getD table (s .row * 4 + 1) 0 → a ≡ getD table (s .row * 4 + 2) 0 → 16 ≤ code → code < 32
       → (r : Next) (regs′ cells′ log′ records′ stamps′ memo′ : List ℕ)
-      → AccessDone code n d a s regs cells log r regs′ cells′ log′ × KeptBut d n regs regs′ × StepsOn s r
+      → AccessDone code n d a s common regs cells log r regs′ cells′ log′ × KeptBut d n regs regs′ × StepsOn s r
       × RowRecorded code n group (cellIn code d a regs) s r records records′ stamps′ memo′
-      → OwnRow table n group s regs cells log saved openers counts records shared r regs′ cells′ log′ saved openers counts records′ stamps′ memo′ shared
+      → OwnRow table n group s common regs cells log saved openers counts records shared r regs′ cells′ log′ saved openers counts records′ stamps′ memo′ shared
   access-row-is d a ed ea low high r regs′ cells′ log′ records′ stamps′ memo′ D =
       let slots = slots-kept code s saved openers (inl high) in (
         record {

@@ -26,13 +26,13 @@ module _ (n : ℕ) (z : LockState) (s : State) (regs cells log saved openers : L
   row-after L f a r regs′ cells′ log′ q D E e =
       subst (λ o. After n o r regs′ cells′ log′ saved openers) (sym q) (plain-after n z s regs cells log saved openers R f a r regs′ cells′ log′ D E e)
 
-  pub compute-after : (c : Calc) (r : State) (regs′ : List ℕ) → x .op ≡ CALC c
+  pub compute-after : (common : List ℕ) (c : Calc) (r : State) (regs′ : List ℕ) → x .op ≡ CALC c
       → Did n z (inTurn (computeTurn x (λ t p q. value c n t (0 * n + t) (x .a) (x .b) p q)) (members (z .enabled)) z) Done regs′ cells log → r ≡ movedOn s
-      → After n (runRow T (shapeBy n cells) x z (x .op)) (next.Go r) regs′ cells log saved openers
+      → After n (runRow T (shapeBy n cells common) x z (x .op)) (next.Go r) regs′ cells log saved openers
   unfolding runRow launchNumber
-  compute-after c r regs′ q D e =
-      row-after (shapeBy n cells) (computeTurn x (λ t p q. value c n t (0 * n + t) (x .a) (x .b) p q)) Done (next.Go r) regs′ cells log
-      (ap (runRow T (shapeBy n cells) x z) q) D (R .reach-is) (ap next.Go e)
+  compute-after common c r regs′ q D e =
+      row-after (shapeBy n cells common) (computeTurn x (λ t p q. value c n t (0 * n + t) (x .a) (x .b) p q)) Done (next.Go r) regs′ cells log
+      (ap (runRow T (shapeBy n cells common) x z) q) D (R .reach-is) (ap next.Go e)
 
   pub access-after : (L : Shape) (p : Space) (m : Mem) (a : Access) (r : Next) (regs′ cells′ log′ : List ℕ) → x .op ≡ MEM p m
       → Did n z (inTurn (accessTurn L p m x) (members (z .enabled)) z) a regs′ cells′ log′ → EmptyAbove (s .reach) (length cells′) log′ → r ≡ accessed s a

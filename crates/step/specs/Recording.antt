@@ -12,7 +12,7 @@ use Rattle.layout.specs.declared.Next.the-variants as next
 use Rattle.layout.specs.Memory.{cellIn}
 use Rattle.layout.specs.declared.Access.{Access}
 use Rattle.layout.specs.declared.Access.the-variants.{Done, Stop}
-use Rattle.banks.specs.Counting.{AllCells, Older}
+use Rattle.banks.specs.Counting.{Known, Older, own}
 use Rattle.banks.specs.Remembering.{Memo}
 use Rattle.intervals.specs.Records.{charged, recordsAfter}
 
@@ -31,7 +31,7 @@ pub record RowRecorded (op n group : ℕ) (cell : ℕ → ℕ) (s : State) (r : 
   pub few : cost ≤ 31
   pub plain : (op < 16) ⊎ (18 < op) → cost ≡ 0
   pub access : 16 ≤ op → op ≤ 18 → (q : State) → r ≡ next.Go q → (E : Mask) → s .mask ≡ maskWord E → length E ≡ n
-      → AllCells (map cell (members E)) → cost ≡ conflictCost (map cell (members E))
+      → Known (map cell (members E)) → cost ≡ conflictCost (own (map cell (members E)))
   pub words : records′ ≡ recordsAfter group cost s r records
   pub older : Older (s .rows + 2) stamps′
   pub memo : Memo memo′

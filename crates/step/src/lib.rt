@@ -100,6 +100,7 @@ pub fn access_row(
     regs: &mut [u32; 512],
     cells: &mut [u32],
     log: &mut [u32],
+    common: &[u32],
     stamps: &mut [u32; 1024],
     memo: &mut [u32; 544],
     records: &mut [u32],
@@ -112,7 +113,7 @@ pub fn access_row(
 ) -> layout::Next
     requires { ⌜ Room s × (group < 8) × (s .mask < 2 ^ n) × AccessAsks op d a (now cells) (now log) × InMemory n (now regs) (now cells) (now log)
         × Older (s .rows + 1) (now stamps) × Memo (now memo) × RecordAsks (s .barriers + group) (s .rows) (now records) ⌝ }
-    ensures { λ r. ⌜ AccessDone op n d a s (now (regs .entry)) (now (cells .entry)) (now (log .entry)) r
+    ensures { λ r. ⌜ AccessDone op n d a s (now (common .entry)) (now (regs .entry)) (now (cells .entry)) (now (log .entry)) r
         (now (regs .exit)) (now (cells .exit)) (now (log .exit)) × KeptBut d n (now (regs .entry)) (now (regs .exit)) × StepsOn s r
         × RowRecorded op n group (cellIn op d a (now (regs .entry))) s r (now (records .entry)) (now (records .exit)) (now (stamps .exit)) (now (memo .exit)) ⌝ }
 {
@@ -129,7 +130,7 @@ pub fn access_row(
     );
     after_access(
         records,
-        memory::access_row(regs, cells, log, n, s.mask, op, d, a),
+        memory::access_row(regs, cells, log, common, n, s.mask, op, d, a),
         cost,
         group,
         s,

@@ -5,17 +5,17 @@ use mathlib.Core.Bool.{Bool, true, false, cond, not}
 use Prim.Native.Nat.{ℕ, suc}
 use lib.Dec.{leb}
 use Rattle.spec.specs.declared.Verdict.{Verdict}
-use Rattle.spec.specs.declared.Verdict.the-variants.{Passed, Race, GroupRace, Outside, Diverged, Spent}
+use Rattle.spec.specs.declared.Verdict.the-variants.{Passed, Race, GroupRace, Outside, Common, Diverged, Spent}
 use Rattle.spec.specs.Access.{Kind}
 use Rattle.spec.specs.Mask.{Mask, members, membersFrom, any, full, lowest}
 use Rattle.spec.specs.Log.{conflictMask, raceKind}
 use Rattle.spec.specs.GroupLog.{groupRaceKind}
 use Rattle.spec.specs.Op.{Op, Calc, CALC, Space, OWN, GLOBAL, Mem, MEM, IF, ELSE, ENDIF, WHILE, ENDWHILE, BARRIER, UNKNOWN}
-use Rattle.spec.specs.Shape.{Shape, bound, address}
+use Rattle.spec.specs.Shape.{Shape, Past, changes, loads, nowhere, past, bound, address}
 use Rattle.spec.specs.Table.{Table, Row, cellByte, kindOf}
 use Rattle.spec.specs.Steps.{stepped, allStepped}
 use Rattle.spec.specs.LockStep.{LockState, Step, continues, stops, andThen, inTurn, advance, setReg, computeTurn, madeAccess, enterGroup}
-use Rattle.spec.specs.LockStep.{rivals, tryAccess, accessTurn}
+use Rattle.spec.specs.LockStep.{rivals, tryAccess, pastTurn, accessTurn, update}
 use Rattle.spec.specs.LockStep.{reg, forEnabled, countSteps, topMask, ifRow, elseRow, endifRow, leaveOrStay, whileRow, endwhileRow, passBarrier, barrierRow}
 use Rattle.spec.specs.LockStep.{runRow}
 
@@ -25,6 +25,7 @@ StopsAt Passed t = ⊥
 StopsAt (Race thread other kind at) t = thread ≡ t
 StopsAt (GroupRace thread group kind at) t = thread ≡ t
 StopsAt (Outside thread at) t = thread ≡ t
+StopsAt (Common thread at) t = thread ≡ t
 StopsAt (Diverged thread other) t = ⊥
 StopsAt Spent t = ⊥
 
@@ -104,11 +105,16 @@ access-one L p m x s t = by (leb (bound L p) c) (any others) (any groups)
     entered OWN = unfold enterGroup madeAccess in refl
     entered GLOBAL = unfold enterGroup madeAccess in refl
 
-    by : (b o g : Bool) → OneStep s t (cond b (stops (Outside t c) s)
+    beyond : (q : Past) → OneStep s t (pastTurn s t (x .d) c q)
+    beyond nowhere = unfold pastTurn in (refl, refl)
+    beyond (loads v) = unfold pastTurn setReg update in refl
+    beyond changes = unfold pastTurn in (refl, refl)
+
+    by : (b o g : Bool) → OneStep s t (cond b (pastTurn s t (x .d) c (past L p c k))
         (cond o (stops (Race t (lowest others) (raceKind (s .log) i (lowest others) k) c) s)
         (cond g (stops (GroupRace t (lowest groups) (groupRaceKind (s .groupLog) i (lowest groups) k) c) s)
         (continues (enterGroup p (L .group) i k (madeAccess s t (x .d) i k))))))
-    by true o g = (refl, refl)
+    by true o g = beyond (past L p c k)
     by false true g = (refl, refl)
     by false false true = (refl, refl)
     by false false false = entered p
@@ -131,6 +137,7 @@ StoppedRow s Passed z = ⊥
 StoppedRow s (Race t o k c) z = Before (members (s .enabled)) s (Race t o k c) z
 StoppedRow s (GroupRace t h k c) z = Before (members (s .enabled)) s (GroupRace t h k c) z
 StoppedRow s (Outside t c) z = Before (members (s .enabled)) s (Outside t c) z
+StoppedRow s (Common t c) z = Before (members (s .enabled)) s (Common t c) z
 StoppedRow s (Diverged t o) z = z .steps ≡ s .steps
 StoppedRow s Spent z = ⊥
 
@@ -143,6 +150,7 @@ stopped-row s Passed z h = h .stopper
 stopped-row s (Race t o k c) z h = h
 stopped-row s (GroupRace t h k c) z b = b
 stopped-row s (Outside t c) z h = h
+stopped-row s (Common t c) z h = h
 stopped-row s (Diverged t o) z h = absurd (h .stopper)
 stopped-row s Spent z h = h .stopper
 

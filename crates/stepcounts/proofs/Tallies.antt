@@ -7,7 +7,7 @@ use Prim.Native.Nat.{ℕ, zero, suc, _+_, _-_, _*_, _%_, _^_, _<_, _≤_}
 use native.Mathlib.Omega.{arith}
 use lib.ListN.{length, getD, take, drop, replicate, length-replicate, length-append, length-take}
 use Rattle.spec.specs.declared.Verdict.{Verdict}
-use Rattle.spec.specs.declared.Verdict.the-variants.{Passed, Race, GroupRace, Outside, Diverged, Spent}
+use Rattle.spec.specs.declared.Verdict.the-variants.{Passed, Race, GroupRace, Outside, Common, Diverged, Spent}
 use Rattle.spec.specs.Mask.{Mask, maskWord, members}
 use Rattle.spec.specs.Op.{Op}
 use Rattle.spec.specs.Steps.{allStepped}
@@ -122,6 +122,7 @@ module _ (z : LockState) (s : State) (counts : List ℕ) (T : Tally z s counts) 
         by (Race at o k c) B = at-access (Race at o k c) at t B (B .stopper)
         by (GroupRace at g k c) B = at-access (GroupRace at g k c) at t B (B .stopper)
         by (Outside at c) B = at-access (Outside at c) at t B (B .stopper)
+        by (Common at c) B = at-access (Common at c) at t B (B .stopper)
         by (Diverged at o) e =
             ap (λ x. getD x t 0) e ∙ (let y : getD (z .steps) t 0 ≡ getD (z .steps) t 0 + bitOf 0 t = omega (arith, nobody-bit t) in y)
         by Spent h = absurd h
@@ -137,6 +138,7 @@ module _ (z : LockState) (s : State) (counts : List ℕ) (T : Tally z s counts) 
         by (Race at o k c) B = below (Race at o k c) at B (B .stopper)
         by (GroupRace at g k c) B = below (GroupRace at g k c) at B (B .stopper)
         by (Outside at c) B = below (Outside at c) at B (B .stopper)
+        by (Common at c) B = below (Common at c) at B (B .stopper)
         by (Diverged at o) e = tt
         by Spent h = absurd h
 
@@ -155,6 +157,7 @@ module _ (z : LockState) (s : State) (counts : List ℕ) (T : Tally z s counts) 
         by (Race at o k c) B = ap length (B .counted) ∙ all-stepped-size (z .steps) (B .acted)
         by (GroupRace at g k c) B = ap length (B .counted) ∙ all-stepped-size (z .steps) (B .acted)
         by (Outside at c) B = ap length (B .counted) ∙ all-stepped-size (z .steps) (B .acted)
+        by (Common at c) B = ap length (B .counted) ∙ all-stepped-size (z .steps) (B .acted)
         by (Diverged at o) e = ap length e
         by Spent h = absurd h
 

@@ -1,7 +1,8 @@
 -- `access::verdict` meets its contract: outside, or a race. Assumes nothing.
-use mathlib.Core.Path.{refl, sym, subst}
+use mathlib.Core.Path.{refl, sym, ap, _∙_, subst}
 use native.Mathlib.Omega.{arith}
 use lib.ListN.{length}
+use Rattle.spec.specs.Shape.{inCommon}
 use Rattle.layout.specs.Memory.{CellNumber}
 use Rattle.access.proofs.Accesses.{bit-met, refused-foe, outside-did, race-did}
 use borrow.Author.Needs.{needs}
@@ -16,9 +17,10 @@ returns c =
     let args = start .args in
     let pre = start .pre .1 in
     let number = subst (CellNumber (args .op) (args .d) (args .a) (args .t) (args .regs .now)) (sym (cell .ensures)) (start .pre .3) in
-    λ n m x o h ed ea s M.
+    λ common f n m x o h ed ea s M.
     outside-did n (args .t) s (args .regs .now) (args .cells .now) (args .log .now) M h (args .op) (args .d) (args .a) (thread .result) (cell .result) m x o
-    (pre .known) (pre .small) number ed ea (pre .target) (pre .source) (thread .ensures) _ (sym (cell .ensures)) (c .if1 .taken)
+    (pre .known) (pre .small) number ed ea (pre .target) (pre .source) (thread .ensures) common _ (sym (cell .ensures)) (c .if1 .taken)
+    (ap (inCommon common) (cell .ensures) ∙ f)
 
 sub-lowest : tie.Need-sub-lowest
 sub-lowest c =
@@ -55,9 +57,9 @@ returns-2 c =
     let foe = refused-foe (args .op) (args .a) (args .t) (args .regs .now) (args .cells .now) (args .log .now) (thread .result) (args .x) (cell .result)
     (met .result) (args .bit) (start .pre .4) (thread .ensures) (cell .ensures) (omega (arith, within)) (met .ensures) in
     let number = subst (CellNumber (args .op) (args .d) (args .a) (args .t) (args .regs .now)) (sym (cell .ensures)) (start .pre .3) in
-    λ n m x o h ed ea s M.
+    λ common f n m x o h ed ea s M.
     race-did n (args .t) s (args .regs .now) (args .cells .now) (args .log .now) M h (args .op) (args .d) (args .a) (thread .result) (cell .result) m x o
-    (pre .known) (pre .small) number ed ea (pre .target) (pre .source) (thread .ensures)
+    (pre .known) (pre .small) number ed ea (pre .target) (pre .source) (thread .ensures) common
     (omega (arith, within)) (args .bit) (met .result) _ (start .pre .2) refl (met .ensures) (omega arith) (omega arith) _ _ _ (sym (cell .ensures)) foe
     (lowest .ensures .0) (c .race-kind .ensures)
 

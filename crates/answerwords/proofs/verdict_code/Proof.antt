@@ -10,10 +10,11 @@ unfolding verdictCode
 verdict-code-spec =
     tie.close
     (tie.spec
-    (λ c. search needs) (λ c. search needs) (λ c. search needs) (λ c. search needs) (λ c. search needs) (λ c. search needs)
+    (λ c. search needs) (λ c. search needs) (λ c. search needs) (λ c. search needs) (λ c. search needs) (λ c. search needs) (λ c. search needs)
     (λ c. sym (ap verdictCode (c .enum-told .given .1)))
     (λ c. sym (ap verdictCode (c .enum-told2 .given .1)))
     (λ c. sym (ap verdictCode (c .enum-told3 .given .1)))
     (λ c. sym (ap verdictCode (c .enum-told4 .given .1)))
     (λ c. sym (ap verdictCode (c .enum-told5 .given .1)))
-    (λ c. sym (ap verdictCode (c .enum-told6 .given .1))))
+    (λ c. sym (ap verdictCode (c .enum-told6 .given .1)))
+    (λ c. sym (ap verdictCode (c .enum-told7 .given .1))))

@@ -40,13 +40,27 @@ returns-5 c =
 returns-6 : tie.Need-returns-6
 unfolding verdictFrom
 returns-6 c =
-    let test = c .before .before .before .before .if1 in
+    let test = c .before .before .before .before .before .if1 in
     rw (
       ne-eqb _ 1 (test .left),
-      ne-eqb _ 2 (c .before .before .before .if2 .left),
-      ne-eqb _ 3 (c .before .before .if3 .left),
-      ne-eqb _ 4 (c .before .if4 .left),
-      ne-eqb _ 6 (c .if5 .left),
+      ne-eqb _ 2 (c .before .before .before .before .if2 .left),
+      ne-eqb _ 3 (c .before .before .before .if3 .left),
+      ne-eqb _ 4 (c .before .before .if4 .left),
+      ne-eqb _ 6 (c .before .if5 .left),
+      eq-eqb _ 7 (c .if6 .taken),
+    )
+
+returns-7 : tie.Need-returns-7
+unfolding verdictFrom
+returns-7 c =
+    let test = c .before .before .before .before .before .if1 in
+    rw (
+      ne-eqb _ 1 (test .left),
+      ne-eqb _ 2 (c .before .before .before .before .if2 .left),
+      ne-eqb _ 3 (c .before .before .before .if3 .left),
+      ne-eqb _ 4 (c .before .before .if4 .left),
+      ne-eqb _ 6 (c .before .if5 .left),
+      ne-eqb _ 7 (c .if6 .left),
     )
 
 pub verdict-from-spec : {M : Type 1} → statement M
@@ -60,4 +74,4 @@ verdict-from-spec =
     returns-4
     (λ c κs. search needs)
     returns-5
-    returns-6)
+    returns-6 returns-7)

@@ -1,7 +1,6 @@
 -- `banks::row_cost` meets its contract: a row is told by what is remembered, or counted. Assumes nothing.
 use borrow.Author.Needs.{needs}
-use native.Mathlib.Omega.{arith}
-use Rattle.banks.proofs.Memory.{costs-alone, costs-again, costs-outside, costs-new}
+use Rattle.banks.proofs.Memory.{costs-alone, costs-again, costs-part, costs-new}
 use Rattle.banks.proofs.row_cost.Statement.{statement}
 use Rattle.banks.proofs.row_cost.Tie as tie
 
@@ -10,33 +9,28 @@ returns c =
     let pre = c .before .pre in
     costs-alone _ _ _ _ _ _ (pre .5) (c .if1 .taken) (pre .4)
 
-element : tie.Need-element-copy-out-result
-element c = let pre = c .before .before .before .before .pre in omega (arith, pre .5 .size, pre .6)
-
 returns-2 : tie.Need-returns-2
 returns-2 c =
     let pre = c .before .before .before .before .before .pre in
     let recalled = c .before .before .recalls .ensures (c .before .if2 .taken) in
-    costs-again _ _ _ _ _ _ (pre .5) _ (pre .6) (pre .2) (pre .4) (recalled .0) (recalled .1)
+    costs-again _ _ _ _ _ _ (pre .5) _ (pre .6) (pre .2) (pre .4) (recalled .0) (recalled .1) (recalled .2)
 
 returns-3 : tie.Need-returns-3
 returns-3 c =
     let pre = c .before .before .before .before .before .before .before .pre in
-    costs-outside _ _ _ _ _ _ (pre .5) (c .before .count-row .result) (omega (arith, c .if3 .taken)) (pre .2) (c .before .count-row .ensures)
+    costs-part _ _ _ _ _ _ (pre .5) _ (c .before .count-new .ensures) (pre .2) (c .if3 .taken)
 
 returns-4 : tie.Need-returns-4
 returns-4 c =
-    let count-row = c .before .before .before .count-row in
     let pre = c .before .before .before .before .before .before .before .before .before .pre in
-    costs-new _ _ _ _ _ _ (pre .5) (count-row .result) _ _ (c .before .before .if3 .left) (pre .2) (count-row .ensures) (c .remember .ensures)
+    costs-new _ _ _ _ _ _ (pre .5) _ (c .before .before .before .count-new .ensures) (pre .2) _ _ (c .before .before .if3 .left) (c .remember .ensures)
 
 pub row-cost-spec : {M : Type 1} → statement M
 row-cost-spec =
     tie.close
     (tie.spec
     returns
-    (λ c. search needs) (λ c κs. search needs) (λ c. search needs) (λ c. search needs)
-    element
+    (λ c. search needs) (λ c κs. search needs) (λ c. search needs) (λ c. search needs) (λ c. search needs)
     returns-2
     (λ c κs. search needs)
     returns-3

@@ -15,7 +15,12 @@ abbrev μ-loop : tie.MeasureT-loop
 μ-loop file key n cells₀ good₀ rest₀ k₀ cells good rest k = n - k
 
 loop-holds : tie.Need-loop-holds Inv-loop μ-loop
-loop-holds c = cells-start _ _ _ _ (c .before .before .pre .1)
+loop-holds c = cells-start _ _ _ _
+
+same-length : tie.Need-same-length Inv-loop μ-loop
+same-length c =
+    let at-number = c .before .before in
+    at-number .before .before .loop .inv .long
 
 returns : tie.Need-returns Inv-loop μ-loop
 returns c =
@@ -27,8 +32,8 @@ returns c =
 mul-cells : tie.Need-mul-cells Inv-loop μ-loop
 mul-cells c = omega arith
 
-element-write-cells : tie.Need-element-write-cells Inv-loop μ-loop
-element-write-cells c = omega arith
+slice-write-cells : tie.Need-slice-write-cells Inv-loop μ-loop
+slice-write-cells c = omega arith
 
 add-k : tie.Need-add-k Inv-loop μ-loop
 add-k c = omega arith
@@ -42,9 +47,12 @@ loop-again c =
     let at-number = at-word .before .before in
     let in-loop = at-number .before in
     let at-loop = in-loop .before in
-    let start = at-loop .before .before .before in
-    cells-more (at-loop .loop .inv) (start .pre .0) (in-loop .loop-test .taken)
+    let start = at-loop .before .before .before .before in
+    cells-more (at-loop .loop .inv) (start .pre) (in-loop .loop-test .taken)
     (at-number .number-line .ensures ∙ ap numberOf (at-word .word .given .1)) (c .next .ensures)
+
+same-length-2 : tie.Need-same-length-2 Inv-loop μ-loop
+same-length-2 c = c .before .loop .inv .long
 
 returns-2 : tie.Need-returns-2 Inv-loop μ-loop
 returns-2 c = cells-end (c .before .loop .inv) (c .loop-test .left)
@@ -57,11 +65,13 @@ read-cells-spec =
     μ-loop
     loop-holds
     (λ c κs. search needs) (λ c. search needs) (λ c. search needs)
+    same-length
     returns
     mul-cells
-    element-write-cells
+    slice-write-cells
     (λ c κs. search needs)
     add-k
     loop-less
     loop-again
+    same-length-2
     returns-2)

@@ -1,12 +1,13 @@
 -- `globals::access_one` meets its contract: stopped in the group, a race with another group, or made. Assumes nothing.
 use mathlib.Core.Path.{refl, sym, ap, _∙_}
+use mathlib.Core.List.{[]}
 use Prim.Native.Nat.{ℕ}
 use native.Mathlib.Omega.{arith}
 use lib.ListN.{length}
 use Rattle.layout.specs.Logging.{maskEntered}
 use Rattle.layout.specs.Views.{viewOf, globalFrom}
 use Rattle.layout.specs.Shared.{rivalsWord}
-use Rattle.access.proofs.Accesses.{halts, passes}
+use Rattle.access.proofs.Accesses.{halts, none-common, passes}
 use Rattle.globals.proofs.GlobalAccesses.{group-asks, stopped-did, race-did, made-did}
 use borrow.Author.Needs.{needs}
 use Rattle.globals.proofs.access_one.Statement.{statement}
@@ -25,7 +26,7 @@ returns c =
       λ L z m x o ed ea h eo M.
           stopped-did L z (args .regs .now) (args .cells .now) (args .log .now) (args .masks .now) M (args .t) h (args .op) (args .d) (args .a) (args .own) (args .x)
           m x o ed ea (pre .3 .access) (pre .2) eo (c .verdict .result)
-          (c .verdict .ensures (L .threads) m x o h ed ea (viewOf (globalFrom L) (L .global) z) (M .memory)),
+          (c .verdict .ensures [] (none-common _) (L .threads) m x o h ed ea (viewOf (globalFrom L) (L .global) z) (M .memory)),
       λ i off. refl,
       λ j f. refl,
     )
@@ -89,7 +90,7 @@ returns-3 c =
           made-did L z (args .regs .now) (args .cells .now) (args .log .now) (args .masks .now) M (args .t) h (args .op) (args .d) (args .a) (args .own) (args .x)
           m x o ed ea (pre .3 .access) (pre .2) eo (args .bit) (pre .1) goes (make .last .0) (make .last .1 .0) (make .last .1 .1 .0) _
           (ap (λ (i : ℕ). rivalsWord (args .op) count i (args .own) (args .masks .now)) (sym index) ∙ sym (others .ensures) ∙ none-met .if2 .left)
-          (make .ensures .0 (L .threads) m x o h ed ea (viewOf (globalFrom L) (L .global) z) (M .memory)) (make .kept .1 .0)
+          (make .ensures .0 [] (L .threads) m x o h ed ea (viewOf (globalFrom L) (L .global) z) (M .memory)) (make .kept .1 .0)
           (c .before .before .enter .ensures ∙ ap (λ (i : ℕ). maskEntered (args .op) count i (args .own) (args .masks .now)) index),
       make .ensures .1,
       make .ensures .2,

@@ -8,7 +8,7 @@ use Rattle.grouprow.proofs.group_row.Tie as tie
 
 -- The function's start, from where the row's bytes have been read.
 abbrev start : tie.After-row-operands → tie.Start
-start c = c .before .before .before .before .before .before .before .before .before
+start c = c .before .before .before .before .before .before .before .before .before .before
 
 compute-row-requires : tie.Need-compute-row-requires
 compute-row-requires c κs =
@@ -30,7 +30,7 @@ returns c =
     let P = start at-bytes .pre in
     let o = c .compute-row in
     compute-is (A .table .now) (A .ends .now) (A .n) (A .group) (A .s) (A .regs .now) (A .cells .now) (A .log .now) (A .saved .now) (A .openers .now)
-    (A .global .now) (A .shared .now) (A .masks .now) (P .0) (x .result) (x .ensures) (A .counts .now) (A .stamps .now) (A .memo .now) (A .records .now) (P .1) (P .2) (P .3)
+    (A .global .now) (A .shared .now) (A .masks .now) (P .0) (x .result) (x .ensures) (A .common .now) (A .counts .now) (A .stamps .now) (A .memo .now) (A .records .now) (P .1) (P .2) (P .3)
     (c .before .before .if1 .taken) (o .result) (o .last .0) (o .ensures)
 
 construct-row-requires : tie.Need-construct-row-requires
@@ -56,7 +56,7 @@ returns-2 c =
     let o = c .construct-row in
     let exit = o .last in
     construct-is (A .table .now) (A .ends .now) (A .n) (A .group) (A .s) (A .regs .now) (A .cells .now) (A .log .now) (A .saved .now) (A .openers .now)
-    (A .global .now) (A .shared .now) (A .masks .now) (P .0) (x .result) (x .ensures) (A .counts .now) (A .stamps .now) (A .memo .now) (A .records .now) (P .1) (P .2) (P .3)
+    (A .global .now) (A .shared .now) (A .masks .now) (P .0) (x .result) (x .ensures) (A .common .now) (A .counts .now) (A .stamps .now) (A .memo .now) (A .records .now) (P .1) (P .2) (P .3)
     (omega (arith, at-test .before .if2 .taken)) (omega (arith, at-test .if3 .taken)) (o .result) (exit .1 .0) (exit .1 .1 .0) (exit .1 .1 .1 .0) (o .ensures)
 
 returns-3 : tie.Need-returns-3
@@ -68,7 +68,7 @@ returns-3 c =
     let o = c .before .before .before .before .before .before .barrier-row in
     let exit = o .last in
     barrier-is (A .table .now) (A .ends .now) (A .n) (A .group) (A .s) (A .regs .now) (A .cells .now) (A .log .now) (A .saved .now) (A .openers .now)
-    (A .global .now) (A .shared .now) (A .masks .now) (P .0) (x .result) (x .ensures) (A .counts .now) (A .stamps .now) (A .memo .now) (A .records .now) (P .1) (P .2) (P .3)
+    (A .global .now) (A .shared .now) (A .masks .now) (P .0) (x .result) (x .ensures) (A .common .now) (A .counts .now) (A .stamps .now) (A .memo .now) (A .records .now) (P .1) (P .2) (P .3)
     (c .before .before .before .before .before .before .before .before .before .before .if3 .left) (o .result) (exit .0) (exit .1 .1 .0) (exit .1 .0) (o .ensures)
 
 access-row-requires : tie.Need-access-row-requires
@@ -94,9 +94,9 @@ returns-4 c =
     let o = c .before .before .before .before .before .before .access-row in
     let exit = o .last in
     access-is (A .table .now) (A .ends .now) (A .n) (A .group) (A .s) (A .regs .now) (A .cells .now) (A .log .now) (A .saved .now) (A .openers .now)
-    (A .global .now) (A .shared .now) (A .masks .now) (P .0) (x .result) (x .ensures) (A .counts .now) (A .stamps .now) (A .memo .now) (A .records .now) (P .1)
+    (A .global .now) (A .shared .now) (A .masks .now) (P .0) (x .result) (x .ensures) (A .common .now) (A .counts .now) (A .stamps .now) (A .memo .now) (A .records .now) (P .1)
     (at-test .before .before .if1 .left) (at-test .if4 .taken) (o .result)
-    (exit .0) (exit .1 .0) (exit .1 .1 .0) (exit .1 .1 .1 .1 .1 .0) (exit .1 .1 .1 .0) (exit .1 .1 .1 .1 .0) (o .ensures)
+    (exit .0) (exit .1 .0) (exit .1 .1 .0) (exit .1 .1 .1 .1 .1 .1 .0) (exit .1 .1 .1 .1 .0) (exit .1 .1 .1 .1 .1 .0) (o .ensures)
 
 launch-row-requires : tie.Need-launch-row-requires
 launch-row-requires c κs =
@@ -118,7 +118,7 @@ returns-5 c =
     let P = start at-bytes .pre in
     let o = c .launch-row in
     launch-is (A .table .now) (A .ends .now) (A .n) (A .group) (A .s) (A .regs .now) (A .cells .now) (A .log .now) (A .saved .now) (A .openers .now)
-    (A .global .now) (A .shared .now) (A .masks .now) (P .0) (x .result) (x .ensures) (A .counts .now) (A .stamps .now) (A .memo .now) (A .records .now) (P .1) (P .2) (P .3)
+    (A .global .now) (A .shared .now) (A .masks .now) (P .0) (x .result) (x .ensures) (A .common .now) (A .counts .now) (A .stamps .now) (A .memo .now) (A .records .now) (P .1) (P .2) (P .3)
     (c .before .before .if5 .taken) (o .result) (o .last .0) (o .ensures)
 
 global-row-requires : tie.Need-global-row-requires
@@ -147,7 +147,7 @@ returns-6 c =
     let o = c .before .before .before .before .before .before .global-row in
     let exit = o .last in
     global-is (A .table .now) (A .ends .now) (A .n) (A .group) (A .s) (A .regs .now) (A .cells .now) (A .log .now) (A .saved .now) (A .openers .now)
-    (A .global .now) (A .shared .now) (A .masks .now) (P .0) (x .result) (x .ensures) (A .counts .now) (A .stamps .now) (A .memo .now) (A .records .now) (P .1) (P .2) (P .3)
+    (A .global .now) (A .shared .now) (A .masks .now) (P .0) (x .result) (x .ensures) (A .common .now) (A .counts .now) (A .stamps .now) (A .memo .now) (A .records .now) (P .1) (P .2) (P .3)
     (at-test .before .if4 .left) (omega (arith, at-test .before .before .if2 .left)) (at-test .if5 .left) (o .result)
     (exit .0) (exit .1 .0) (exit .1 .1 .0) (exit .1 .1 .1 .0) (o .ensures)
 

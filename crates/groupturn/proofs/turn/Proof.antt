@@ -16,7 +16,7 @@ use Rattle.groupturn.proofs.turn.Tie as tie
 
 -- The place of the group's first cell, and that of its first thread.
 abbrev start-of : tie.After-first-thread → tie.Start
-start-of c = c .before .before .before .before .before .before .before .before .before .before
+start-of c = c .before .before .before .before .before .before .before .before .before .before .before
 
 place-is : (c : tie.After-first-thread) → c .before .first-cell .result ≡ start-of c .args .group * start-of c .args .k
 place-is c = c .before .first-cell .ensures
@@ -57,10 +57,11 @@ run-group-requires c κs =
             masks-sized = P .masks-sized;
             global-few = omega (arith, P .cells-few, P .total-few);
           }),
+      P .common-few,
       P .lent,
       P .older,
       P .remembered,
-      subst (λ own. SomeStart (args .table .now) (args .n) (args .group) (args .limit) (args .rows) (args .barriers) own (args .global .now) (args .masks .now)
+      subst (λ own. SomeStart (args .table .now) (args .n) (args .group) (args .limit) (args .rows) (args .barriers) (args .common .now) own (args .global .now) (args .masks .now)
           (args .records .now)) same (P .start),
     )
 
@@ -103,12 +104,12 @@ returns c =
     let back = given-back (at-place .before .first-cell .result) (args .k) (args .cells .now) ys count ∙ ap (λ p. putPart p ys (args .cells .now)) (place-is at-place) in
     let found = ap (part at (args .k)) back ∙ part-put at (args .k) ys (args .cells .now) (omega (arith, start .pre .cells-in)) count in
     record {
-      ran = subst₂ (λ before after. GroupRan (args .table .now) (args .n) (args .group) (args .limit) (args .rows) (args .barriers) before (args .global .now)
-          (args .masks .now) (args .records .now) (run .result) after (left .0) (left .1 .0) (left .1 .1 .0) (left .1 .1 .1 .0) (left .1 .1 .1 .1 .0) (left .1 .1 .1 .1 .1 .0)
-          (left .1 .1 .1 .1 .1 .1 .0) (left .1 .1 .1 .1 .1 .1 .1 .0)) (lent at-place) (sym found) (run .ensures);
+      ran = subst₂ (λ before after. GroupRan (args .table .now) (args .n) (args .group) (args .limit) (args .rows) (args .barriers) (args .common .now) before (args .global .now)
+          (args .masks .now) (args .records .now) (run .result) after (left .0) (left .1 .1 .0) (left .1 .1 .1 .0) (left .1 .1 .1 .1 .0) (left .1 .1 .1 .1 .1 .0) (left .1 .1 .1 .1 .1 .1 .0)
+          (left .1 .1 .1 .1 .1 .1 .1 .0) (left .1 .1 .1 .1 .1 .1 .1 .1 .0)) (lent at-place) (sym found) (run .ensures);
       cells-are = back ∙ ap (λ own. putPart at own (args .cells .now)) (sym found);
       log-is = placed .ensures ∙ ap (λ p. kindsPlaced 0 (args .total) p (args .k) 5 (left .0) (args .log .now)) (place-is at-place);
-      steps-are = steps .ensures ∙ ap (λ p. putPart p (take (args .n) (left .1 .1 .1 .1 .1 .0)) (args .steps .now)) (by-is at-place);
+      steps-are = steps .ensures ∙ ap (λ p. putPart p (take (args .n) (left .1 .1 .1 .1 .1 .1 .0)) (args .steps .now)) (by-is at-place);
     }
 
 pub turn-spec : {M : Type 1} → statement M

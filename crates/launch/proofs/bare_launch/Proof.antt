@@ -55,14 +55,14 @@ returns-3 c =
 
 run-launch-requires : tie.Need-run-launch-requires
 run-launch-requires c κs =
-    let each = c .before .before .before .before .before .before .wide .ensures in
-    let suited = c .before .before .before .before .before .before .before .enum-told3 in
-    let lent = c .before .before .before .before .before .before .before .before .before .lent in
-    let checked = c .before .before .before .before .before .before .before .before .before .before .enum-told2 in
-    let read-table = c .before .before .before .before .before .before .before .before .before .before .before .before .before .read-table in
-    let accepted = c .before .before .before .before .before .before .before .before .before .before .before .before .before .before .enum-told in
-    let numbers = c .before .before .before .before .before .before .before .before .before .before .before .before .before .before .before .before .numbers in
-    let start = c .before .before .before .before .before .before .before .before .before .before .before .before .before .before .before .before .before .before .before .before .before .before in
+    let each = c .before .before .before .before .before .before .before .wide .ensures in
+    let suited = c .before .before .before .before .before .before .before .before .enum-told3 in
+    let lent = c .before .before .before .before .before .before .before .before .before .before .lent in
+    let checked = c .before .before .before .before .before .before .before .before .before .before .before .enum-told2 in
+    let read-table = c .before .before .before .before .before .before .before .before .before .before .before .before .before .before .read-table in
+    let accepted = c .before .before .before .before .before .before .before .before .before .before .before .before .before .before .before .enum-told in
+    let numbers = c .before .before .before .before .before .before .before .before .before .before .before .before .before .before .before .before .before .numbers in
+    let start = c .before .before .before .before .before .before .before .before .before .before .before .before .before .before .before .before .before .before .before .before .before .before .before in
     let args = start .args in
     let table = args .table .now in
     let n : bareNumbers (length table) (given start) (args .limit) ≡ none = sym (numbers .ensures) ∙ ap refusalOf (accepted .given .1) in
@@ -77,6 +77,7 @@ run-launch-requires c κs =
       few-groups = f .few-groups;
       few-rows = f .few-rows;
       cells-are = l .0 ∙ sym own;
+      common-few = omega arith;
       total-few = omega (arith, own, l .1, f .few-cells);
       log-sized = omega (arith, own, l .1, l .2);
       lent = l .3;
@@ -86,9 +87,9 @@ returns-4 : tie.Need-returns-4
 returns-4 c =
     let at-run = c .before .before .before .before .before .before .before .before in
     let run = at-run .run-launch in
-    let each = at-run .before .before .before .before .before .before .before .wide .ensures in
-    let suited = at-run .before .before .before .before .before .before .before .before .enum-told3 in
-    let at-lent = at-run .before .before .before .before .before .before .before .before .before .before in
+    let each = at-run .before .before .before .before .before .before .before .before .wide .ensures in
+    let suited = at-run .before .before .before .before .before .before .before .before .before .enum-told3 in
+    let at-lent = at-run .before .before .before .before .before .before .before .before .before .before .before in
     let lent = at-lent .lent in
     let checked = at-lent .before .enum-told2 in
     let read-table = at-lent .before .before .before .before .read-table in
@@ -114,7 +115,7 @@ bare-launch-spec =
     returns-2
     (λ c. search needs) (λ c κs. search needs) (λ c. search needs)
     returns-3
-    (λ c. search needs) (λ c κs. search needs)
+    (λ c. search needs) (λ c κs. search needs) (λ c. search needs)
     run-launch-requires
     (λ c. search needs) (λ c. search needs) (λ c. search needs) (λ c. search needs)
     returns-4)

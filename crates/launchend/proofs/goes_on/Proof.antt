@@ -32,8 +32,12 @@ returns-6 : tie.Need-returns-6
 unfolding isPassed
 returns-6 c = record { more = λ e. absurd (true≢false (sym e)); over = λ e. inl (ap isPassed (c .enum-told6 .given .1)) }
 
+returns-7 : tie.Need-returns-7
+unfolding isPassed
+returns-7 c = record { more = λ e. absurd (true≢false (sym e)); over = λ e. inl (ap isPassed (c .enum-told7 .given .1)) }
+
 pub goes-on-spec : {M : Type 1} → statement M
 goes-on-spec =
     tie.close
-    (tie.spec (λ c. search needs) (λ c. search needs) (λ c. search needs) (λ c. search needs) (λ c. search needs) (λ c. search needs) (λ c. search needs)
-    returns returns-2 returns-3 returns-4 returns-5 returns-6)
+    (tie.spec (λ c. search needs) (λ c. search needs) (λ c. search needs) (λ c. search needs) (λ c. search needs) (λ c. search needs) (λ c. search needs) (λ c. search needs)
+    returns returns-2 returns-3 returns-4 returns-5 returns-6 returns-7)

@@ -22,7 +22,7 @@ returns-2 c =
     let at-lines = accepted .before .before in
     let at-own = at-lines .before .before .before .before .before .before in
     let start = at-own .before .before .before .before in (
-      contents-accepted (sizesIn (start .args .sizes .now)) _ (at-lines .read-lines .ensures) (at-own .own-cells .ensures) refl (accepted .enum-told .given .1) refl refl refl (start .pre),
+      contents-accepted (sizesIn (start .args .sizes .now)) _ (at-lines .read-lines .ensures) (at-own .own-cells .ensures) refl refl (accepted .enum-told .given .1) refl refl refl (start .pre),
       λ e. at-lines .read-lines .ensures .filled (accepted .enum-told .given .1) .bytes,
     )
 

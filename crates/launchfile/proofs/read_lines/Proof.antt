@@ -71,9 +71,10 @@ returns-6 c =
     let all-cells = at-global .before .before .before .before in
     let at-cells = all-cells .before in
     let all-rows = at-cells .before .before .before .before in
+    let start = all-rows .before .before .before .before .before in
     accepts (all-rows .before .read-rows .ensures) _ _ _ (all-rows .if1 .left) (at-cells .read-cells .ensures) (all-cells .if2 .left)
     (at-global .read-cells2 .ensures) (all-global .if3 .left) (at-word .word-line .result) (at-word .word-line .ensures)
-    (not-false _ (ended .if4 .left)) (at-next .next .ensures) (omega arith) refl
+    (not-false _ (ended .if4 .left)) (at-next .next .ensures) (start .pre .3) (start .pre .4) (omega arith) refl
 
 pub read-lines-spec : {M : Type 1} → statement M
 read-lines-spec =

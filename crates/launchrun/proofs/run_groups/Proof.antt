@@ -16,7 +16,7 @@ use Rattle.launchrun.proofs.run_groups.Statement.{statement}
 use Rattle.launchrun.proofs.run_groups.Tie as tie
 
 abbrev Inv-loop : tie.InvT-loop
-Inv-loop table ends n groups k limit cells₀ global₀ log₀ own₀ shared₀ masks₀ records₀ counts₀ steps₀ stamps₀ memo₀ m at total g₀ rows₀ barriers₀ cells global log
+Inv-loop table ends n groups k limit common cells₀ global₀ log₀ own₀ shared₀ masks₀ records₀ counts₀ steps₀ stamps₀ memo₀ m at total g₀ rows₀ barriers₀ cells global log
     own shared masks records counts steps stamps memo g rows barriers =
     let W₀ : Buffers = record {
       cells = cells₀;
@@ -44,10 +44,10 @@ Inv-loop table ends n groups k limit cells₀ global₀ log₀ own₀ shared₀ 
       stamps = stamps;
       memo = memo;
     } in
-    Kept W₀ W × Launched table (sizesBy n groups k global₀) limit (cells₀ ++ global₀) records₀ (groups - 1 - g) g rows barriers W
+    Kept W₀ W × Launched table (sizesBy n groups k common global₀) limit (cells₀ ++ global₀) records₀ (groups - 1 - g) g rows barriers W
 
 abbrev μ-loop : tie.MeasureT-loop
-μ-loop table ends n groups k limit cells₀ global₀ log₀ own₀ shared₀ masks₀ records₀ counts₀ steps₀ stamps₀ memo₀ m at total g₀ rows₀ barriers₀ cells global log
+μ-loop table ends n groups k limit common cells₀ global₀ log₀ own₀ shared₀ masks₀ records₀ counts₀ steps₀ stamps₀ memo₀ m at total g₀ rows₀ barriers₀ cells global log
     own shared masks records counts steps stamps memo g rows barriers =
     groups - g
 
@@ -70,7 +70,7 @@ lent-at c =
 
 abbrev between : tie.At-loop Inv-loop μ-loop → Between
 between c =
-    let start = c .before .before .before .before .before .before .before .before .before in
+    let start = c .before .before .before .before .before .before .before .before .before .before in
     let args = start .args in
     let loop = c .loop in
     record {
@@ -80,6 +80,7 @@ between c =
       groups = args .groups;
       k = args .k;
       limit = args .limit;
+      common = args .common .now;
       lent = lent-at start;
       asks = start .pre .0;
       fresh = start .pre .1;
@@ -105,11 +106,11 @@ between c =
     }
 
 add-total : tie.Need-add-total Inv-loop μ-loop
-add-total c = let A = c .before .before .before .before .before .before .before .before .pre .0 in omega (arith, A .cells-are, A .total-few)
+add-total c = let A = c .before .before .before .before .before .before .before .before .before .pre .0 in omega (arith, A .cells-are, A .total-few)
 
 loop-holds : tie.Need-loop-holds Inv-loop μ-loop
 loop-holds c =
-    let start = c .before .before .before .before .before .before .before .before in
+    let start = c .before .before .before .before .before .before .before .before .before in
     let args = start .args in
     let A = start .pre .0 in
     let F = start .pre .1 in
@@ -123,9 +124,9 @@ loop-holds c =
         masks-long = refl;
         records-long = refl;
       },
-      subst (λ i. Launched (args .table .now) (sizesBy (args .n) (args .groups) (args .k) (args .global .now)) (args .limit) (args .cells .now ++ args .global .now)
+      subst (λ i. Launched (args .table .now) (sizesBy (args .n) (args .groups) (args .k) (args .common .now) (args .global .now)) (args .limit) (args .cells .now ++ args .global .now)
           (args .records .now) i 0 0 0 (lent-at start)) j
-          (launched-start (args .table .now) (sizesBy (args .n) (args .groups) (args .k) (args .global .now)) (args .limit) (lent-at start)
+          (launched-start (args .table .now) (sizesBy (args .n) (args .groups) (args .k) (args .common .now) (args .global .now)) (args .limit) (lent-at start)
           (A .some-groups) (A .few-groups) (A .cells-are) refl (args .records .now) (A .lent) (F .log-empty ∙ ap (λ i. replicate i 0) (A .log-sized))
           (F .masks-empty ∙ ap (λ i. replicate i 0) (F .masks-sized)) (F .begun-once) (F .steps-empty) (F .older) (F .remembered)),
     )
@@ -139,7 +140,7 @@ due c = between (c .before .before .before .before .before .before .before .befo
 
 abbrev left-by : tie.After-turn Inv-loop μ-loop → Buffers
 left-by c =
-    let last = c .turn .last .1 .1 .1 .1 .1 .1 .1 .1 .1 in
+    let last = c .turn .last .1 .1 .1 .1 .1 .1 .1 .1 .1 .1 in
     record {
       cells = last .0;
       global = last .1 .0;
@@ -157,7 +158,7 @@ left-by c =
 kept : (c : tie.After-turn Inv-loop μ-loop) → Kept (due c .lent) (left-by c)
 kept c =
     let N = due c .kept in
-    let k = c .turn .kept .1 .1 .1 .1 .1 .1 .1 .1 .1 in
+    let k = c .turn .kept .1 .1 .1 .1 .1 .1 .1 .1 .1 .1 in
     record {
       cells-long = k .0 ∙ N .cells-long;
       global-long = k .1 .0 ∙ N .global-long;

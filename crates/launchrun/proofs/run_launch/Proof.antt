@@ -21,28 +21,28 @@ few-global : (c : tie.Start) → length (c .args .global .now) ≤ 1024
 few-global c = omega (arith, c .pre .total-few)
 
 mul-own : tie.Need-mul-own
-mul-own c = omega (arith, few (c .before .before .before .before .before .before .before .before .before .before .before .before .before .before .before .before .before))
+mul-own c = omega (arith, few (c .before .before .before .before .before .before .before .before .before .before .before .before .before .before .before .before .before .before))
 
 own-room : tie.Need-array-borrow-prefix-own
-own-room c = omega (arith, few (c .before .before .before .before .before .before .before .before .before .before .before .before .before .before .before .before .before))
+own-room c = omega (arith, few (c .before .before .before .before .before .before .before .before .before .before .before .before .before .before .before .before .before .before))
 
 own-long : tie.Need-slice-aggregate-run-groups
-own-long c = let start = c .before .before .before .before .before .before .before .before .before .before .before .before .before .before .before .before .before .before in zeros-long (5 *
+own-long c = let start = c .before .before .before .before .before .before .before .before .before .before .before .before .before .before .before .before .before .before .before in zeros-long (5 *
     start .args .k) 5120 (omega (arith, few start))
 
 shared-long : tie.Need-slice-aggregate-run-groups-2
-shared-long c = let start = c .before .before .before .before .before .before .before .before .before .before .before .before .before .before .before .before .before .before .before in
+shared-long c = let start = c .before .before .before .before .before .before .before .before .before .before .before .before .before .before .before .before .before .before .before .before in
     zeros-long (5 * length (start .args .global .now)) 5120 (omega (arith, few-global start))
 
 masks-long : tie.Need-slice-aggregate-run-groups-3
-masks-long c = let start = c .before .before .before .before .before .before .before .before .before .before .before .before .before .before .before .before .before .before .before .before
+masks-long c = let start = c .before .before .before .before .before .before .before .before .before .before .before .before .before .before .before .before .before .before .before .before .before
     in zeros-long (3 * length (start .args .global .now)) 3074 (omega (arith, few-global start))
 
 run-groups-requires : tie.Need-run-groups-requires
 run-groups-requires c κs =
     let launch = c .before .before .before .before .before .before .before .before .before .before .before .before .before .before .launch in
     let zero = c .before .before .before .before .before .before .before .before .before .before .before .before .before .before .before .before .before .before .zero in
-    let start = c .before .before .before .before .before .before .before .before .before .before .before .before .before .before .before .before .before .before .before .before .before
+    let start = c .before .before .before .before .before .before .before .before .before .before .before .before .before .before .before .before .before .before .before .before .before .before
     .before .before .before .before in
     let args = start .args in
     let A = start .pre in
@@ -57,6 +57,7 @@ run-groups-requires c κs =
         few-rows = A .few-rows;
         cells-are = A .cells-are;
         total-few = A .total-few;
+        common-few = A .common-few;
         log-sized = zero .kept .0 ∙ A .log-sized;
         lent = omega (arith, launch .kept .0, A .lent);
       },
@@ -74,7 +75,7 @@ run-groups-requires c κs =
     )
 
 same-length-3 : tie.Need-same-length-3
-same-length-3 c = c .before .before .before .before .before .before .before .before .before .before .before .run-groups .kept .1 .1 .1 .1 .1 .1 .1 .1 .0 ∙ c .before .before .before .before
+same-length-3 c = c .before .before .before .before .before .before .before .before .before .before .before .run-groups .kept .1 .1 .1 .1 .1 .1 .1 .1 .1 .0 ∙ c .before .before .before .before
     .before .before .before .before .before .before .before .before .before .before .before .before .before .before .before .before .before .before .before .before .before .before .before
     .before .before .before .zero .kept .0
 
@@ -83,13 +84,13 @@ returns c =
     let run = c .before .before .before .before .before .before .before .before .before .before .before .run-groups in
     let launch = c .before .before .before .before .before .before .before .before .before .before .before .before .before .before .before .before .before .before .before .before .before
     .before .before .before .before .before .launch in
-    let start = c .before .before .before .before .before .before .before .before .before .before .before .before .before .before .before .before .before .before .before .before .before
+    let start = c .before .before .before .before .before .before .before .before .before .before .before .before .before .before .before .before .before .before .before .before .before .before
     .before .before .before .before .before .before .before .before .before .before .before .before .before .before .before .before in
     let args = start .args in
-    let left = run .last .1 .1 .1 .1 .1 .1 in
-    let Z = sizesBy (args .n) (args .groups) (args .k) (args .global .now) in
+    let left = run .last .1 .1 .1 .1 .1 .1 .1 in
+    let Z = sizesBy (args .n) (args .groups) (args .k) (args .common .now) (args .global .now) in
     run-is (args .table .now) Z (args .limit) (args .cells .now) (args .global .now) (args .records .now) (run .result)
-    (left .0) (left .1 .0) (left .1 .1 .0) (left .1 .1 .1 .1 .1 .1 .0) (left .1 .1 .1 .1 .1 .1 .1 .1 .0) (run .kept .1 .1 .1 .1 .1 .1 .0 ∙ start .pre .cells-are)
+    (left .0) (left .1 .0) (left .1 .1 .0) (left .1 .1 .1 .1 .1 .1 .0) (left .1 .1 .1 .1 .1 .1 .1 .1 .0) (run .kept .1 .1 .1 .1 .1 .1 .1 .0 ∙ start .pre .cells-are)
     (lent-is (args .table .now) Z (args .limit) (args .cells .now ++ args .global .now)
     (args .records .now) (launch .last .0) (run .result) (left .0) (left .1 .0) (left .1 .1 .0) (left .1 .1 .1 .1 .1 .1 .0) (left .1 .1 .1 .1 .1 .1 .1 .1 .0)
     (launch .ensures) (run .ensures))

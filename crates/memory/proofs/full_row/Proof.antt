@@ -14,7 +14,7 @@ returns-2 c = rw (c .before .before .before .before .before .before .before .bef
 returns-3 : tie.Need-returns-3
 returns-3 c =
     let at-op = c .before .before .before .before .before .before .before .before in
-    let start = at-op .before .before .before .before in
+    let start = at-op .before .before .before .before .before in
     let pre = start .pre .0 in
     let add : start .args .op ≡ 18 = omega (arith, pre .known, pre .small, at-op .if2 .left, at-op .before .if1 .left) in
     rw add (c .before .before .before .before .access-all3 .ensures)

@@ -13,10 +13,11 @@ unfolding verdictText words text
 verdict-word-spec =
     tie.close
     (tie.spec
-    (λ c. search needs) (λ c. search needs) (λ c. search needs) (λ c. search needs) (λ c. search needs) (λ c. search needs)
+    (λ c. search needs) (λ c. search needs) (λ c. search needs) (λ c. search needs) (λ c. search needs) (λ c. search needs) (λ c. search needs)
     (λ c. rw (c .enum-told .given .1) (record { listed = omega arith; word = refl }))
     (λ c. rw (c .enum-told2 .given .1) (record { listed = omega arith; word = refl }))
     (λ c. rw (c .enum-told3 .given .1) (record { listed = omega arith; word = refl }))
     (λ c. rw (c .enum-told4 .given .1) (record { listed = omega arith; word = refl }))
     (λ c. rw (c .enum-told5 .given .1) (record { listed = omega arith; word = refl }))
-    (λ c. rw (c .enum-told6 .given .1) (record { listed = omega arith; word = refl })))
+    (λ c. rw (c .enum-told6 .given .1) (record { listed = omega arith; word = refl }))
+    (λ c. rw (c .enum-told7 .given .1) (record { listed = omega arith; word = refl })))

@@ -19,14 +19,14 @@ use Rattle.step.proofs.access_row.Tie as tie
 row-cost-requires : tie.Need-row-cost-requires
 row-cost-requires c κs =
     let register = c .before .before .before .before .before .cell-register in
-    let start = c .before .before .before .before .before .before .before .before .before in
+    let start = c .before .before .before .before .before .before .before .before .before .before in
     let pre = start .pre in
     let memory = pre .4 .memory in
     (memory .regs-are .size, register .ensures .small, memory .few, pre .2, pre .5, pre .6, omega arith)
 
 after-access-requires : tie.Need-after-access-requires
 after-access-requires c κs =
-    let pre = c .before .before .before .before .before .before .before .before .before .before .before .before .before .before .before .before .before .before .before .pre in
+    let pre = c .before .before .before .before .before .before .before .before .before .before .before .before .before .before .before .before .before .before .before .before .pre in
     (pre .0, pre .1, pre .7, c .before .before .before .before .before .before .before .before .before .row-cost .ensures .few)
 
 returns : tie.Need-returns
@@ -35,7 +35,7 @@ returns c =
     let access-row = c .before .before .before .before .before .before .before .access-row in
     let row-cost = c .before .before .before .before .before .before .before .before .before .before .before .before .row-cost in
     let register = c .before .before .before .before .before .before .before .before .before .before .before .before .before .before .before .before .before .before .cell-register in
-    let start = c .before .before .before .before .before .before .before .before .before .before .before .before .before .before .before .before .before .before .before .before .before .before in
+    let start = c .before .before .before .before .before .before .before .before .before .before .before .before .before .before .before .before .before .before .before .before .before .before .before in
     let args = start .args in
     let cells = args .cells .now in
     let pre = start .pre .3 in
@@ -46,7 +46,7 @@ returns c =
         λ saved openers T x z q ed ea R.
             access-after (args .n) z state (args .regs .now) cells (args .log .now) saved openers
             (reach-more (args .n) z (args .s) (access-row .result .reach) (args .regs .now) cells (args .log .now) saved openers R) T x
-            (shapeBy (args .n) cells) OWN (m .0)
+            (shapeBy (args .n) cells (args .common .now)) OWN (m .0)
             (access-row .result .access) (after-access .result) (access-row .last .0) (access-row .last .1 .0)
             (access-row .last .1 .1 .0)
             (q ∙ m .1) (access-row .ensures .0 (m .0) x (m .1) ed ea z (R .enabled-is) (R .enabled-size) (R .memory))

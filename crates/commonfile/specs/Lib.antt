@@ -1,0 +1,2 @@
+-- What the reader of the common file answers. Assumes nothing.
+pub mod CommonRead

@@ -1,0 +1,3 @@
+-- The launch that a file gives. Assumes nothing.
+pub mod Whole
+pub mod Parts

@@ -1,0 +1,2 @@
+-- The report of one kernel over common cells. Assumes nothing.
+pub mod Cases

@@ -1,0 +1,2 @@
+-- A launch that is run on buffers of its own. Assumes nothing.
+pub mod Answers

@@ -1,0 +1,2 @@
+-- The reports of two kernels, one behind the other. Assumes nothing.
+pub mod Both

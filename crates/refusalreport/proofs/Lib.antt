@@ -1,0 +1,2 @@
+-- The report of a refusal. Assumes nothing.
+pub mod Refusals
