@@ -18,6 +18,9 @@ extern "C" {
  * output. Of the last two there may be more. */
 enum { SEKUFOYI_CELLS = 1024, SEKUFOYI_GLOBAL = 1024, SEKUFOYI_LOG = 8192, SEKUFOYI_RECORDS = 3075, SEKUFOYI_OUTPUT = 24576 };
 
+/* What sekufoyi_pair_files is lent: bytes of output, for two reports. There may be more. */
+enum { SEKUFOYI_PAIR_OUTPUT = 49152 };
+
 /* The most threads that a group has, the most groups that a launch has, and the words of steps that sekufoyi_bare_launch is lent, however
  * many threads there are. */
 enum { SEKUFOYI_THREADS = 32, SEKUFOYI_GROUPS = 8, SEKUFOYI_STEPS = 256 };
@@ -29,7 +32,8 @@ enum {
     SEKUFOYI_OUTSIDE = 3,
     SEKUFOYI_DIVERGED = 4,
     SEKUFOYI_SPENT = 5,
-    SEKUFOYI_GROUP_RACE = 6 /* between two groups, at a global cell */
+    SEKUFOYI_GROUP_RACE = 6, /* between two groups, at a global cell */
+    SEKUFOYI_COMMON = 7      /* a store or an add to a common cell; a launch alone has none, and never comes to it */
 };
 
 /* The words of an outcome. A word without meaning, such as the kind of a launch that passed, is 0. */
@@ -84,6 +88,21 @@ enum {
 size_t sekufoyi_check_file(const uint8_t *file, size_t file_length, uint32_t *cells, size_t cells_length, uint32_t *global,
                            size_t global_length, uint32_t *log, size_t log_length, uint32_t *records, size_t records_length,
                            uint8_t *output, size_t output_length, uint32_t refusal[2]);
+
+/* Checks two kernels that are resident together, by their launch files, over the cells of a common file. Writes two reports to the start of
+ * the output, the filter's and right behind it the trigger's, and answers the length of both together. Each ends with its own line
+ * end=report, and says of its kernel what it would say beside any other. Where the output has fewer than 49,152 bytes, the answer is 0,
+ * refusal is 24, 0, and the output is as it was, whatever the files are. Otherwise refusal is 0, 0, and every byte behind the reports is as
+ * it was. The runs have cells, log and records of their own, on the stack: some 140 KB (a caller with small threads' stacks needs to know).
+ *
+ * A kernel whose file is refused has the report of that refusal, as sekufoyi_write_refusal writes it, and the other keeps its own. A bad
+ * common file refuses both with 37, at its line there, but for a kernel whose own file is refused, which shows that. Its first 4,119 bytes
+ * decide everything: whoever has read so many of a common file need not read on.
+ *
+ * Two reports that both begin with the line verdict=passed speak for every run of both kernels at once, in whatever order their threads
+ * move. */
+size_t sekufoyi_pair_files(const uint8_t *filter, size_t filter_length, const uint8_t *trigger, size_t trigger_length,
+                           const uint8_t *common, size_t common_length, uint8_t *output, size_t output_length, uint32_t refusal[2]);
 
 /* Runs a kernel table over the lent cells: cell_count own cells in each group, and global_count global ones. Answers true with the
  * outcome, or false with the refusal; the one that does not apply is all zeros. Where it ran, the first words of steps are the threads'

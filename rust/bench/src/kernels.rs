@@ -274,3 +274,57 @@ pub(crate) fn barrier_rounds() -> Vec<Row> {
     let body: Vec<Row> = COMPUTE[..4].iter().copied().chain([BARRIER]).collect();
     rounds(&body)
 }
+
+/// What a row loads from.
+#[derive(Clone, Copy)]
+pub(crate) enum Source {
+    /// The own cells from this number on.
+    Own(u16),
+    /// The common cells.
+    Common,
+}
+
+/// CELL is the one of the thread's number there.
+fn number_in(source: Source) -> [Row; 3] {
+    let [low, high, times] = match source {
+        Source::Own(first) => {
+            let [low, high] = first.to_le_bytes();
+            [low, high, ONE]
+        }
+        // 65,536 is no number of two bytes: 256 times itself.
+        Source::Common => [0, 1, STEP],
+    };
+    [
+        [op::SET, STEP, low, high],
+        [op::MUL, STEP, STEP, times],
+        [op::ADD, CELL, ME, STEP],
+    ]
+}
+
+/// Each thread loads one cell, and a loop's two rows among 34.
+pub(crate) fn load(source: Source) -> Vec<Row> {
+    endless_after(&number_in(source), &[[op::LOAD, 3, CELL, 0]; 32])
+}
+
+/// As a filter's inner loop: a coefficient, a sample of the thread's own, and a row that computes; a loop's two rows among 35.
+pub(crate) fn load_one_of_three(source: Source) -> Vec<Row> {
+    let body = [
+        [op::LOAD, 3, CELL, 0],
+        [op::LOAD, 4, ME, 0],
+        [op::MUL, 5, 3, 4],
+    ];
+    endless_after(&number_in(source), &body.repeat(11))
+}
+
+/// A BARRIER once in `every` rows, behind a load and a STORE of 32 threads to the own cells from `first` on, one each.
+pub(crate) fn barrier_behind_load(every: usize, source: Source, first: u16) -> Vec<Row> {
+    const OWN: u8 = 14;
+    let [low, high] = first.to_le_bytes();
+    let own = [[op::SET, OWN, low, high], [op::ADD, OWN, ME, OWN]];
+    let computing = COMPUTE.into_iter().skip(1).cycle().take(every - 5);
+    let body: Vec<Row> = ([[op::LOAD, 3, CELL, 0]].into_iter())
+        .chain(computing)
+        .chain([[op::STORE, OWN, 4, 0], BARRIER])
+        .collect();
+    endless_after(&[&number_in(source)[..], &own].concat(), &body)
+}

@@ -5,6 +5,7 @@ mod measure;
 
 use std::time::Duration;
 
+use kernels::Source;
 use measure::{Best, Shape};
 
 const THREADS: [u32; 6] = [1, 2, 4, 8, 16, 32];
@@ -22,6 +23,7 @@ fn main() {
     logged();
     global();
     groups();
+    common();
 }
 
 fn loops() {
@@ -193,6 +195,35 @@ fn groups() {
                 global: 0,
             };
             speed(name, &measure::groups(&rows, shape, launches));
+        }
+    }
+}
+
+/// Loads of common cells beside own loads of the same shape. All go through the entry for pairs, since no other has common cells.
+fn common() {
+    let kinds = [("common", Source::Common), ("own", Source::Own(0))];
+    heading("pairs, 1,000,000 rows, 32 threads", "Mrows/s");
+    for (name, source) in kinds {
+        let best = measure::pair(&kernels::load(source), 32);
+        speed(&format!("load, {name} cells"), &best);
+    }
+    for (name, source) in kinds {
+        let best = measure::pair(&kernels::load_one_of_three(source), 32);
+        speed(&format!("one row of three, {name} cells"), &best);
+    }
+    heading(
+        &format!("pairs, stored cells, a barrier every {ROUND} rows"),
+        "Mrows/s",
+    );
+    for (stored, first, cells) in [
+        ("32 of 32", 0, 32),
+        ("the first 32 of 1,024", 0, 1_024),
+        ("the last 32 of 1,024", 992, 1_024),
+    ] {
+        for (name, source) in [("common", Source::Common), ("own", Source::Own(first))] {
+            let rows = kernels::barrier_behind_load(ROUND, source, first);
+            let best = measure::pair(&rows, cells);
+            speed(&format!("{stored}, {name} load"), &best);
         }
     }
 }

@@ -208,15 +208,50 @@ pub(crate) fn file(rows: &[Row], limit: u32, repeats: u32) -> Best {
     measured
 }
 
+/// A launch of a million rows in one group of 32 threads beside a kernel without rows, through the entry for pairs. Besides the run, that
+/// reads the files, clears what each run has of its own, and writes both reports: well below a millisecond.
+pub(crate) fn pair(rows: &[Row], cells: u32) -> Best {
+    let filter = file_of(rows, 32, LIMIT, &vec![0; cells as usize]);
+    let trigger = file_of(&[], 1, LIMIT, &[0]);
+    let common: String = (0..32).map(|cell| format!("cell={cell}\n")).collect();
+    let common = format!("common=32\n{common}end=common\n").into_bytes();
+    let mut output = vec![0; sekufoyi::PAIR_ROOM];
+    let mut our_output = output.clone();
+    let measured = best(
+        1,
+        || {
+            let (filter, output) = (black_box(&filter), &mut our_output);
+            let written = sekufoyi::pair_files(filter, &trigger, &common, output);
+            written.expect("room enough");
+            LIMIT
+        },
+        || {
+            let (filter, output) = (black_box(&filter), &mut output);
+            let written = checker::pair_files(filter, &trigger, &common, output);
+            written.expect("room enough");
+            LIMIT
+        },
+    );
+    assert_eq!(our_output, output, "the same reports");
+    assert!(output.starts_with(b"verdict=spent\n"), "a loop without end");
+    measured
+}
+
 fn launch_file(rows: &[Row], limit: u32) -> Vec<u8> {
-    let count = rows.len();
-    let mut text = "kernel=1\nthreads=32\ncells=1024\ngroups=1\nglobal=0\n".to_string();
+    let cells: Vec<u32> = (0..1_024).map(|cell| u32::MAX - cell).collect();
+    file_of(rows, 32, limit, &cells)
+}
+
+/// A launch file of one group without global cells.
+fn file_of(rows: &[Row], threads: u32, limit: u32, cells: &[u32]) -> Vec<u8> {
+    let (count, words) = (rows.len(), cells.len());
+    let mut text = format!("kernel=1\nthreads={threads}\ncells={words}\ngroups=1\nglobal=0\n");
     text += &format!("limit={limit}\nrows={count}\n");
     for [op, d, a, b] in rows {
         text += &format!("row={op},{d},{a},{b}\n");
     }
-    for cell in 0..1_024 {
-        text += &format!("cell={}\n", u32::MAX - cell);
+    for cell in cells {
+        text += &format!("cell={cell}\n");
     }
     text += "end=kernel\n";
     text.into_bytes()

@@ -1,8 +1,9 @@
-//! "The launch file": its lines, read once from top to bottom.
+//! "The launch file", and the common file of item 12: their lines, read once from
+//! top to bottom.
 
 use crate::limits::{
-    check_all_cells, check_cells, check_groups, check_limit, check_rows, check_threads, number,
-    Refusal, MAX_FILE,
+    check_all_cells, check_cells, check_common, check_groups, check_limit, check_rows,
+    check_threads, number, Refusal, MAX_FILE,
 };
 use crate::table::{decode, Program};
 
@@ -33,9 +34,15 @@ pub fn parse_file(file: &[u8]) -> Result<Launch, Refusal> {
 /// As [`parse_file`], with the decoded table.
 pub(crate) fn parse_and_decode(file: &[u8]) -> Result<(Launch, Program), Refusal> {
     Refusal::unless(file.len() <= MAX_FILE, number::FILE_LENGTH, 0)?;
-    let launch = Lines::new(file).launch()?;
+    let launch = Lines::new(file, number::LINE).launch()?;
     let program = decode(&launch.table)?;
     Ok((launch, program))
+}
+
+/// Reads a common file, of any length: the common cells. Every fault is refusal
+/// 37 at its line.
+pub fn parse_common(file: &[u8]) -> Result<Vec<u32>, Refusal> {
+    Lines::new(file, number::COMMON_FILE).common()
 }
 
 /// Numbers of most lines are below this.
@@ -46,11 +53,17 @@ struct Lines<'a> {
     rest: &'a [u8],
     /// The number of the next line.
     due: u32,
+    /// The refusal of a line that isn't the one due.
+    misread: u32,
 }
 
 impl<'a> Lines<'a> {
-    fn new(file: &'a [u8]) -> Self {
-        Self { rest: file, due: 1 }
+    fn new(file: &'a [u8], misread: u32) -> Self {
+        Self {
+            rest: file,
+            due: 1,
+            misread,
+        }
     }
 
     fn launch(mut self) -> Result<Launch, Refusal> {
@@ -73,8 +86,7 @@ impl<'a> Lines<'a> {
         }
         let cells = self.words(b"cell", groups * cells_each)?;
         let global = self.words(b"gcell", global)?;
-        self.exact(b"end", b"kernel")?;
-        Refusal::unless(self.rest.is_empty(), number::LINE, self.due)?;
+        self.end(b"kernel")?;
         Ok(Launch {
             threads,
             groups,
@@ -86,9 +98,17 @@ impl<'a> Lines<'a> {
         })
     }
 
+    fn common(mut self) -> Result<Vec<u32>, Refusal> {
+        let (count, line) = self.number(b"common")?;
+        check_common(count, line)?;
+        let cells = self.words(b"cell", count)?;
+        self.end(b"common")?;
+        Ok(cells)
+    }
+
     /// The refusal of the line due.
     fn refused(&self) -> Refusal {
-        Refusal::new(number::LINE, self.due)
+        Refusal::new(self.misread, self.due)
     }
 
     /// The value of the line due: the part of the file after its first `=`,
@@ -111,6 +131,12 @@ impl<'a> Lines<'a> {
 
     fn exact(&mut self, key: &[u8], value: &[u8]) -> Result<(), Refusal> {
         self.line(key, |found| (found == value).then_some(()))
+    }
+
+    /// The last line, and nothing behind it.
+    fn end(&mut self, value: &[u8]) -> Result<(), Refusal> {
+        self.exact(b"end", value)?;
+        Refusal::unless(self.rest.is_empty(), self.misread, self.due)
     }
 
     /// A line's number, and the number of the line.

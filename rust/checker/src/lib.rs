@@ -1,9 +1,10 @@
 //! A checker of barrier kernels in lock step, written from document 01, items 1
-//! to 7 of document 02 and their readings, without sight of the verified one
+//! to 7 and 12 of document 02 and their readings, without sight of the verified one
 //! (`rust/README.md`, 'Independence'). Every entry answers every input: none of
 //! them panics.
 
 mod banks;
+mod common;
 mod file;
 mod groups;
 mod intervals;
@@ -11,17 +12,21 @@ mod limits;
 mod lock_step;
 mod log;
 mod memory;
+mod pair;
 mod registers;
 mod report;
 mod steps;
 mod table;
 mod verdict;
 
-pub use file::{parse_file, Launch};
+use common::Common;
+pub use file::{parse_common, parse_file, Launch};
 pub use limits::*;
 use lock_step::{Kernel, Lent};
+pub use pair::pair_files;
 pub use report::{write_report, Subject};
 pub use table::op;
+use table::Program;
 pub use verdict::{AccessKind, Outcome, Verdict};
 
 /// A bare launch: refusals 1, 2, 8, 9, 32, 33, 10, rows, then 20, 21, 30. The
@@ -56,14 +61,53 @@ pub fn bare_launch(
         lent_log,
         lent_intervals,
         steps,
-        |_, _| {},
+        unobserved,
     )
 }
+
+/// The hook of launches that nobody watches: one function, so that the run is
+/// compiled once for all of them.
+fn unobserved(_: u32, _: &[u32]) {}
 
 /// As [`bare_launch`]; `at_barrier` sees a group and its own cells just before
 /// each of its counted barriers.
 #[allow(clippy::too_many_arguments)] // They are those of the specification, and the hook.
 pub fn observed_launch(
+    table: &[u8],
+    threads: u32,
+    cells: u32,
+    groups: u32,
+    global: u32,
+    limit: u32,
+    lent_cells: &mut [u32],
+    lent_global: &mut [u32],
+    lent_log: &mut [u32],
+    lent_intervals: &mut [u32],
+    steps: &mut [u32; MAX_LAUNCH_THREADS],
+    at_barrier: impl FnMut(u32, &[u32]),
+) -> Result<Outcome, Refusal> {
+    common_launch(
+        &[],
+        table,
+        threads,
+        cells,
+        groups,
+        global,
+        limit,
+        lent_cells,
+        lent_global,
+        lent_log,
+        lent_intervals,
+        steps,
+        at_barrier,
+    )
+}
+
+/// As [`observed_launch`], over at most 256 common cells. Nothing of a common
+/// cell is in any lent buffer.
+#[allow(clippy::too_many_arguments)] // They are those of the specification, and the hook.
+pub fn common_launch(
+    common: &[u32],
     table: &[u8],
     threads: u32,
     cells: u32,
@@ -93,6 +137,7 @@ pub fn observed_launch(
     check_intervals(lent_intervals)?;
     let kernel = Kernel {
         program,
+        common: Common(common),
         threads,
         groups,
         limit,
@@ -118,32 +163,47 @@ pub fn check_file(
     lent_intervals: &mut [u32],
     out: &mut [u8],
 ) -> Result<usize, Refusal> {
-    let (launch, program) = file::parse_and_decode(file)?;
+    let (mut launch, program) = file::parse_and_decode(file)?;
     let fitting = lent_cells.len() == LENT_CELLS && lent_global.len() == LENT_GLOBAL;
     Refusal::unless(fitting, number::LENT_CELLS, 0)?;
     Refusal::unless(lent_log.len() == LENT_LOG, number::LENT_LOG, 0)?;
     check_intervals(lent_intervals)?;
     Refusal::unless(out.len() >= REPORT_ROOM, number::FILE_OUTPUT, 0)?;
-    let cells = &mut lent_cells[..launch.cells.len()];
-    cells.copy_from_slice(&launch.cells);
-    let global = &mut lent_global[..launch.global.len()];
-    global.copy_from_slice(&launch.global);
+    let none = Common::NONE;
+    let written = run_file(&mut launch, &program, none, lent_log, lent_intervals, out)?;
+    lent_cells[..launch.cells.len()].copy_from_slice(&launch.cells);
+    lent_global[..launch.global.len()].copy_from_slice(&launch.global);
+    Ok(written)
+}
+
+/// Runs a file's launch in its own cells and writes its report to the start of
+/// `out`. The log and the list are as the whole-file entry has them.
+fn run_file(
+    launch: &mut Launch,
+    program: &Program,
+    common: Common,
+    log: &mut [u32],
+    list: &mut [u32],
+    out: &mut [u8],
+) -> Result<usize, Refusal> {
     let (threads, groups, limit) = (launch.threads, launch.groups, launch.limit);
     let mut steps = [0; MAX_LAUNCH_THREADS];
     let kernel = Kernel {
-        program: &program,
+        program,
+        common,
         threads,
         groups,
         limit,
     };
     let lent = Lent {
-        cells,
-        global,
-        log: lent_log,
-        list: lent_intervals,
+        cells: &mut launch.cells,
+        global: &mut launch.global,
+        log,
+        list,
         steps: &mut steps,
     };
-    let outcome = lock_step::run(kernel, lent, |_, _| {});
+    let outcome = lock_step::run(kernel, lent, unobserved);
     let counts = &steps[..(groups * threads) as usize];
+    let (cells, global) = (&launch.cells, &launch.global);
     write_report(Subject::Ran(outcome), counts, cells, global, out)
 }

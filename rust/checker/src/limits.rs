@@ -1,4 +1,4 @@
-//! The limits of document 01 and item 7, and the refusals of "Turned back".
+//! The limits of document 01 and items 7 and 12, and the refusals of "Turned back".
 
 /// Threads of a group: 1 to this many.
 pub const MAX_THREADS: u32 = 32;
@@ -29,6 +29,12 @@ pub const INTERVAL_RECORDS: usize = 1_025;
 pub const INTERVAL_WORDS: usize = 3 * INTERVAL_RECORDS;
 /// Bytes of output that the whole-file entry needs at least.
 pub const REPORT_ROOM: usize = 24_576;
+/// Common cells: 0 to this many.
+pub const MAX_COMMON: u32 = 256;
+/// The number of the first common cell.
+pub const COMMON_FROM: u32 = 65_536;
+/// Bytes of output that the entry for two kernels needs at least.
+pub const PAIR_ROOM: usize = 2 * REPORT_ROOM;
 
 /// Kinds of words in a log: reader, writer and adder masks, first values, marks,
 /// and masks of the groups that read, wrote and added.
@@ -82,6 +88,8 @@ pub mod number {
     pub const GROUPS: u32 = 32;
     /// Own cells of all groups and global cells together over 1,024.
     pub const ALL_CELLS: u32 = 33;
+    /// A common file of another form, or with over 256 cells.
+    pub const COMMON_FILE: u32 = 37;
 }
 
 /// An input or a state that is turned back, and where.
@@ -138,6 +146,11 @@ pub(crate) fn check_all_cells(
 
 pub(crate) fn check_limit(limit: u32, place: u32) -> Result<(), Refusal> {
     Refusal::unless(limit <= MAX_LIMIT, number::LIMIT, place)
+}
+
+/// Refuses a common file's number of cells out of range.
+pub(crate) fn check_common(cells: u32, place: u32) -> Result<(), Refusal> {
+    Refusal::unless(cells <= MAX_COMMON, number::COMMON_FILE, place)
 }
 
 /// Refuses a lent list of intervals with too few records.

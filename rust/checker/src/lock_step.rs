@@ -2,11 +2,12 @@
 //! group.
 
 use crate::banks;
+use crate::common::Common;
 use crate::intervals::Intervals;
 use crate::limits::{MAX_LAUNCH_THREADS, MAX_NESTING};
 use crate::log::{GlobalMemory, Log, OwnMemory};
 use crate::memory::{Met, Stop};
-use crate::registers::{Enabled, Registers};
+use crate::registers::{Enabled, Registers, Threads, LANES};
 use crate::steps::Steps;
 use crate::table::{Access, Instr, Program, Reg};
 use crate::verdict::{Outcome, Verdict};
@@ -15,6 +16,7 @@ use crate::verdict::{Outcome, Verdict};
 #[derive(Clone, Copy)]
 pub(crate) struct Kernel<'a> {
     pub program: &'a Program,
+    pub common: Common<'a>,
     pub threads: u32,
     pub groups: u32,
     pub limit: u32,
@@ -36,14 +38,16 @@ pub(crate) struct Lent<'a> {
 /// Runs each group to its end, one after the other. `at_barrier` sees a group
 /// and its own cells just before each of its counted barriers.
 pub(crate) fn run(kernel: Kernel, lent: Lent, at_barrier: impl FnMut(u32, &[u32])) -> Outcome {
-    if kernel.program.adds() {
-        run_groups::<true>(kernel, lent, at_barrier)
-    } else {
-        run_groups::<false>(kernel, lent, at_barrier)
+    match (kernel.program.adds(), !kernel.common.is_empty()) {
+        (false, false) => run_groups::<false, false>(kernel, lent, at_barrier),
+        (true, false) => run_groups::<true, false>(kernel, lent, at_barrier),
+        (false, true) => run_groups::<false, true>(kernel, lent, at_barrier),
+        (true, true) => run_groups::<true, true>(kernel, lent, at_barrier),
     }
 }
 
-fn run_groups<const ADDS: bool>(
+/// `COMMON` is whether there are common cells.
+fn run_groups<const ADDS: bool, const COMMON: bool>(
     kernel: Kernel,
     lent: Lent,
     mut at_barrier: impl FnMut(u32, &[u32]),
@@ -69,7 +73,7 @@ fn run_groups<const ADDS: bool>(
         let (mut own, mut global) = log.memories::<ADDS>(number, cells, lent.global);
         global.clear_log();
         let mut steps = Steps::new(threads, kernel.program.code().len(), outcome.rows);
-        run_rows(
+        run_rows::<ADDS, COMMON>(
             kernel,
             &mut own,
             &mut global,
@@ -104,16 +108,52 @@ fn access_global(
     (d, a): (Reg, Reg),
 ) -> Result<(), Stop> {
     match access {
-        Access::Load => global.load(registers, enabled, d, a),
+        Access::Load => global.load(registers, enabled.mask(), d, a),
         Access::Store => global.store(registers, enabled, d, a),
         Access::Add => global.atomic_add(registers, enabled, d, a),
     }
 }
 
+/// What is left of a LOAD that found a number of no own cell, and the whole row's
+/// cost: only own cells are in a bank. `numbers` are Ra's before the row.
+#[cold]
+#[inline(never)]
+fn load_common<const ADDS: bool>(
+    own: &mut OwnMemory<ADDS>,
+    common: Common,
+    registers: &mut Registers,
+    mask: u32,
+    (d, a): (Reg, Reg),
+    numbers: &[u32; LANES],
+    mut stop: Stop,
+) -> Result<u32, Stop> {
+    // Each turn loads the common word on which the own cells' loads have
+    // stopped, and lets them go on with the threads above.
+    loop {
+        let word = match stop.conflict {
+            None => common.word(stop.at),
+            Some(_) => None,
+        };
+        let Some(word) = word else {
+            return Err(stop);
+        };
+        registers.put(d, stop.thread, word);
+        let above = mask & (!1 << stop.thread);
+        match own.load(registers, above, d, a) {
+            Ok(()) => break,
+            Err(next) => stop = next,
+        }
+    }
+    let is_own = |&thread: &u32| (numbers[thread as usize] as usize) < own.cells().len();
+    let in_banks = Threads(mask).filter(is_own);
+    let in_banks = in_banks.fold(0, |mask, thread| mask | (1 << thread));
+    Ok(banks::cost(numbers, in_banks))
+}
+
 /// Runs the outcome's group from row 0, with its own cells and the global ones.
 /// Rows and barriers are counted on from the groups before it.
 #[inline(never)] // Its loop needs the machine's registers for itself.
-fn run_rows<const ADDS: bool>(
+fn run_rows<const ADDS: bool, const COMMON: bool>(
     kernel: Kernel,
     own: &mut OwnMemory<ADDS>,
     global: &mut GlobalMemory,
@@ -123,6 +163,7 @@ fn run_rows<const ADDS: bool>(
     at_barrier: &mut impl FnMut(u32, &[u32]),
 ) {
     let (code, threads, limit) = (kernel.program.code(), kernel.threads, kernel.limit);
+    let common = kernel.common;
     let mut registers = Registers::new(threads);
     let mut enabled = Enabled::all(threads);
     let mut saved = [0; MAX_NESTING];
@@ -159,28 +200,36 @@ fn run_rows<const ADDS: bool>(
             // A row that stops costs nothing.
             Instr::Load { d, a } => {
                 // Taken first: the word loaded may go where the number was.
-                let cost = banks::cost(registers.lanes(a), enabled.mask());
-                if let Err(stop) = own.load(&mut registers, &enabled, d, a) {
-                    break stopped(row, outcome.group, stop);
+                let mut cost = banks::cost(registers.lanes(a), enabled.mask());
+                let numbers = COMMON.then(|| *registers.lanes(a));
+                if let Err(stop) = own.load(&mut registers, enabled.mask(), d, a) {
+                    let Some(numbers) = &numbers else {
+                        break stopped(row, outcome.group, stop, Common::NONE);
+                    };
+                    let (regs, mask) = (&mut registers, enabled.mask());
+                    match load_common(own, common, regs, mask, (d, a), numbers, stop) {
+                        Ok(in_banks) => cost = in_banks,
+                        Err(stop) => break stopped(row, outcome.group, stop, Common::NONE),
+                    }
                 }
                 intervals.add(cost);
             }
             Instr::Store { d, a } => {
                 if let Err(stop) = own.store(&registers, &enabled, d, a) {
-                    break stopped(row, outcome.group, stop);
+                    break stopped(row, outcome.group, stop, common);
                 }
                 intervals.add(banks::cost(registers.lanes(d), enabled.mask()));
             }
             Instr::AtomicAdd { d, a } => {
                 if let Err(stop) = own.atomic_add(&registers, &enabled, d, a) {
-                    break stopped(row, outcome.group, stop);
+                    break stopped(row, outcome.group, stop, common);
                 }
                 intervals.add(banks::cost(registers.lanes(d), enabled.mask()));
             }
             // Global cells are in no bank.
             Instr::Global { access, d, a } => {
                 if let Err(stop) = access_global(global, access, &mut registers, &enabled, (d, a)) {
-                    break stopped(row, outcome.group, stop);
+                    break stopped(row, outcome.group, stop, Common::NONE);
                 }
             }
             Instr::If { a, level } => {
@@ -257,7 +306,9 @@ fn enable(mask: u32, rows: u32, row: usize, enabled: &mut Enabled, steps: &mut S
 /// enabled had acted. Nobody acts where no access stops it.
 fn acted_below(verdict: Verdict) -> u32 {
     match verdict {
-        Verdict::Race { thread, .. } | Verdict::Outside { thread, .. } => (1 << thread) - 1,
+        Verdict::Race { thread, .. }
+        | Verdict::Outside { thread, .. }
+        | Verdict::Common { thread, .. } => (1 << thread) - 1,
         _ => 0,
     }
 }
@@ -291,13 +342,17 @@ fn slt(x: u32, y: u32) -> u32 {
     u32::from(x.cast_signed() < y.cast_signed())
 }
 
+/// `common` are the common cells that the access may not write, if any.
 #[cold]
 #[inline(never)]
-fn stopped(row: usize, group: u32, stop: Stop) -> Verdict {
+fn stopped(row: usize, group: u32, stop: Stop, common: Common) -> Verdict {
     let row = row as u32;
     let Stop { thread, at, .. } = stop;
     let Some((met, kind)) = stop.conflict else {
-        return Verdict::Outside { row, thread, at };
+        return match common.word(at) {
+            Some(_) => Verdict::Common { row, thread, at },
+            None => Verdict::Outside { row, thread, at },
+        };
     };
     let (other_group, other) = match met {
         Met::Thread(other) => (group, Some(other)),

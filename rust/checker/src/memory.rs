@@ -25,7 +25,7 @@ pub(crate) type Conflict = (Met, AccessKind);
 pub(crate) struct Stop {
     pub thread: u32,
     pub at: u32,
-    /// None where the access is outside.
+    /// None where the number is no cell's here: outside, or a common cell's.
     pub conflict: Option<Conflict>,
 }
 
@@ -78,12 +78,12 @@ impl<'a, const ADDS: bool, G: Groups> Memory<'a, ADDS, G> {
         }
     }
 
-    /// LOAD Rd = cell numbered Ra, lowest thread first.
+    /// LOAD Rd = cell numbered Ra, by the threads of a mask, lowest first.
     #[inline(always)]
     pub(crate) fn load(
         &mut self,
         registers: &mut Registers,
-        enabled: &Enabled,
+        mask: u32,
         d: Reg,
         a: Reg,
     ) -> Result<(), Stop> {
@@ -93,7 +93,7 @@ impl<'a, const ADDS: bool, G: Groups> Memory<'a, ADDS, G> {
         let readers = &mut self.readers[..count];
         let writers = &self.writers[..count];
         let adders = if ADDS { &self.adders[..count] } else { &[] };
-        for (thread, me) in Bits(enabled.mask()) {
+        for (thread, me) in Bits(mask) {
             let at = registers.get(a, thread);
             let cell = at as usize;
             if cell >= count {

@@ -114,6 +114,11 @@ impl Head {
                 at: Value::Number(at),
                 ..Self::stopped("outside", row, group)
             },
+            Verdict::Common { row, thread, at } => Self {
+                thread: Value::Number(thread),
+                at: Value::Number(at),
+                ..Self::stopped("common", row, group)
+            },
             Verdict::Diverged { row, thread, other } => Self {
                 thread: Value::Number(thread),
                 other: Value::Number(other),

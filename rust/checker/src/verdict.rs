@@ -43,8 +43,18 @@ pub enum Verdict {
         /// The cell.
         at: u32,
     },
-    /// An access outside the group's own cells, or outside the global ones.
+    /// An access outside the group's own cells and the common ones, or outside
+    /// the global ones.
     Outside {
+        /// Where the run stopped.
+        row: u32,
+        /// The acting thread.
+        thread: u32,
+        /// The number used.
+        at: u32,
+    },
+    /// A STORE or an ATOMIC ADD to a common cell.
+    Common {
         /// Where the run stopped.
         row: u32,
         /// The acting thread.

@@ -4,7 +4,7 @@ use checker::{Outcome, Verdict};
 use generator::BareLaunch;
 
 use crate::checkers::Numbers;
-use crate::difference::{judge, Difference, Left, Lent};
+use crate::difference::{judge, Difference, Left, Lent, Sweep};
 use crate::records::Counts;
 use crate::tally::refused;
 use crate::Checker;
@@ -25,8 +25,11 @@ pub(crate) fn compare(
     };
     let ours = run(ours, &launch, &before);
     let theirs = run(theirs, &launch, &before);
-    let counts = |outcome: &Outcome, _: &Lent| Some(Ok(counts(outcome, launch.groups)));
-    judge(seed, || show(&launch), counts, &before, &ours, &theirs)?;
+    let wrong = |outcome: &Outcome, left: &Lent| {
+        counts(outcome, launch.groups).fault(&before.records, &left.records)
+    };
+    let show = || show(&launch);
+    judge(Sweep::Launches, seed, show, wrong, &before, &ours, &theirs)?;
     Ok(ours.answer.map_or_else(refused, name))
 }
 
@@ -78,6 +81,7 @@ fn name(outcome: Outcome) -> String {
         Verdict::Race { other: None, .. } => "race of groups",
         Verdict::Race { .. } => "race",
         Verdict::Outside { .. } => "outside",
+        Verdict::Common { .. } => "common",
         Verdict::Diverged { .. } => "diverged",
         Verdict::Spent { .. } => "spent",
     };

@@ -43,6 +43,18 @@ pub trait Checker {
     ) -> Result<usize, Refusal>;
 }
 
+/// The entry for two kernels over common cells, a face of its own: who has the others need not have it.
+pub trait PairChecker {
+    /// Both reports one behind the other.
+    fn pair_files(
+        &self,
+        filter: &[u8],
+        trigger: &[u8],
+        common: &[u8],
+        output: &mut [u8],
+    ) -> Result<usize, Refusal>;
+}
+
 /// The numbers of a bare launch.
 #[derive(Clone, Copy, Debug)]
 pub struct Numbers {
@@ -114,6 +126,18 @@ impl Checker for Independent {
     }
 }
 
+impl PairChecker for Independent {
+    fn pair_files(
+        &self,
+        filter: &[u8],
+        trigger: &[u8],
+        common: &[u8],
+        output: &mut [u8],
+    ) -> Result<usize, Refusal> {
+        checker::pair_files(filter, trigger, common, output)
+    }
+}
+
 /// The verified library.
 pub struct Verified;
 
@@ -163,6 +187,18 @@ impl Checker for Verified {
         output: &mut [u8],
     ) -> Result<usize, Refusal> {
         sekufoyi::write_report(subject_for(subject), steps, cells, global, output).map_err(refusal)
+    }
+}
+
+impl PairChecker for Verified {
+    fn pair_files(
+        &self,
+        filter: &[u8],
+        trigger: &[u8],
+        common: &[u8],
+        output: &mut [u8],
+    ) -> Result<usize, Refusal> {
+        sekufoyi::pair_files(filter, trigger, common, output).map_err(refusal)
     }
 }
 
@@ -243,6 +279,12 @@ fn verdict(ours: sekufoyi::Verdict) -> (u32, Verdict) {
             thread,
             at,
         } => (group, Verdict::Outside { row, thread, at }),
+        sekufoyi::Verdict::Common {
+            row,
+            group,
+            thread,
+            at,
+        } => (group, Verdict::Common { row, thread, at }),
         sekufoyi::Verdict::Diverged {
             row,
             group,
@@ -291,6 +333,12 @@ fn verdict_for(group: u32, theirs: Verdict) -> sekufoyi::Verdict {
             at,
         },
         Verdict::Outside { row, thread, at } => sekufoyi::Verdict::Outside {
+            row,
+            group,
+            thread,
+            at,
+        },
+        Verdict::Common { row, thread, at } => sekufoyi::Verdict::Common {
             row,
             group,
             thread,

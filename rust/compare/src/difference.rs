@@ -4,7 +4,7 @@ use std::fmt;
 
 use checker::{Refusal, MAX_LAUNCH_THREADS};
 
-use crate::records::{self, Counts};
+use crate::records;
 use crate::Steps;
 
 /// The buffers that an entry is lent. An entry without one of them has it empty, or full of zeros.
@@ -51,10 +51,18 @@ impl<T> Left<T> {
     }
 }
 
-/// A launch on which two checkers differ, or on which both changed a buffer that a refusal keeps, or left records that don't come to what
-/// they must.
+/// What a seed is counted among.
+#[derive(Clone, Copy, Debug)]
+pub(crate) enum Sweep {
+    Launches,
+    Pairs,
+}
+
+/// A launch or a pair on which two checkers differ, or on which both changed a buffer that a refusal keeps, or left records that don't come
+/// to what they must, or no two reports.
 #[derive(Debug)]
 pub struct Difference {
+    sweep: Sweep,
     seed: u64,
     launch: String,
     what: String,
@@ -62,24 +70,35 @@ pub struct Difference {
 
 impl fmt::Display for Difference {
     fn fmt(&self, f: &mut fmt::Formatter) -> fmt::Result {
-        let Self { seed, launch, what } = self;
+        let Self {
+            sweep,
+            seed,
+            launch,
+            what,
+        } = self;
+        let sweep = match sweep {
+            Sweep::Launches => "",
+            Sweep::Pairs => "pairs ",
+        };
         write!(
             f,
-            "seed {seed} differs (`compare {seed} 1` repeats it)\n\n{launch}\n{what}"
+            "seed {seed} differs (`compare {sweep}{seed} 1` repeats it)\n\n{launch}\n{what}"
         )
     }
 }
 
-/// Agreement, or the difference with the launch as `launch` shows it. `counts` are those of a run that leaves records.
+/// Agreement, or the difference with the launch as `launch` shows it. `wrong` says what is wrong with what is left beside an answer that is no
+/// refusal.
 pub(crate) fn judge<T: PartialEq + fmt::Debug>(
+    sweep: Sweep,
     seed: u64,
     launch: impl FnOnce() -> String,
-    counts: impl Fn(&T, &Lent) -> Option<Result<Counts, String>>,
+    wrong: impl Fn(&T, &Lent) -> Option<String>,
     before: &Lent,
     ours: &Left<T>,
     theirs: &Left<T>,
 ) -> Result<(), Box<Difference>> {
-    let [our_fault, their_fault] = [ours, theirs].map(|left| fault(before, left, &counts));
+    let [our_fault, their_fault] = [ours, theirs].map(|left| fault(before, left, &wrong));
     if ours == theirs && our_fault.is_none() {
         return Ok(());
     }
@@ -109,25 +128,24 @@ pub(crate) fn judge<T: PartialEq + fmt::Debug>(
         report("theirs", &theirs.lent.output),
     );
     let launch = launch();
-    Err(Box::new(Difference { seed, launch, what }))
+    Err(Box::new(Difference {
+        sweep,
+        seed,
+        launch,
+        what,
+    }))
 }
 
-/// What is wrong with what one checker left, whatever the other did: a buffer that a refusal changed, or records that don't come to
-/// the counts of their run.
+/// What is wrong with what one checker left, whatever the other did: a buffer that a refusal changed, or what `wrong` says.
 fn fault<T>(
     before: &Lent,
     left: &Left<T>,
-    counts: impl Fn(&T, &Lent) -> Option<Result<Counts, String>>,
+    wrong: impl Fn(&T, &Lent) -> Option<String>,
 ) -> Option<String> {
-    let Ok(answer) = &left.answer else {
-        let changed = left.lent != *before;
-        return changed.then(|| "a refusal changed a buffer".to_string());
-    };
-    let fault = match counts(answer, &left.lent)? {
-        Ok(counts) => counts.fault(&before.records, &left.lent.records)?,
-        Err(fault) => fault,
-    };
-    Some(fault)
+    match &left.answer {
+        Ok(answer) => wrong(answer, &left.lent),
+        Err(_) => (left.lent != *before).then(|| "a refusal changed a buffer".to_string()),
+    }
 }
 
 fn told(whose: &str, fault: Option<String>) -> String {

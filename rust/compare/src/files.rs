@@ -3,7 +3,7 @@
 use checker::{parse_file, INTERVAL_WORDS, LENT_CELLS, LENT_GLOBAL, LENT_LOG, REPORT_ROOM};
 use generator::Rng;
 
-use crate::difference::{judge, lines, Difference, Left, Lent};
+use crate::difference::{judge, lines, Difference, Left, Lent, Sweep};
 use crate::records::Counts;
 use crate::tally::refused;
 use crate::{junk, Checker};
@@ -20,8 +20,11 @@ pub(crate) fn compare(
     let show = || show(&file, &before);
     // Of a file that is refused nobody counts.
     let groups = parse_file(&file).map_or(0, |launch| launch.groups);
-    let counts = |written: &usize, left: &Lent| Some(counts(*written, left, groups));
-    judge(seed, show, counts, &before, &ours, &theirs)?;
+    let wrong = |written: &usize, left: &Lent| match counts(*written, left, groups) {
+        Ok(counts) => counts.fault(&before.records, &left.records),
+        Err(fault) => Some(fault),
+    };
+    judge(Sweep::Launches, seed, show, wrong, &before, &ours, &theirs)?;
     Ok(name(&ours))
 }
 
@@ -95,19 +98,22 @@ fn wrong_size(rng: &mut Rng, which: usize) -> usize {
     }
 }
 
-/// The report's first line, or the refusal. A race without another thread is told apart: it is between two groups.
+/// The report's first line, or the refusal.
 fn name(left: &Left<usize>) -> String {
     match left.answer {
-        Ok(_) => {
-            let mut lines = left.lent.output.split(|&byte| byte == b'\n');
-            let first = lines.next().unwrap_or(&[]).escape_ascii().to_string();
-            let alone = lines.take(5).any(|line| line == b"other=-");
-            match &first[..] {
-                "verdict=race" if alone => "verdict=race of groups".to_string(),
-                _ => first,
-            }
-        }
+        Ok(_) => first_line(&left.lent.output),
         Err(refusal) => refused(refusal),
+    }
+}
+
+/// A race without another thread is told apart: it is between two groups.
+pub(crate) fn first_line(report: &[u8]) -> String {
+    let mut lines = report.split(|&byte| byte == b'\n');
+    let first = lines.next().unwrap_or(&[]).escape_ascii().to_string();
+    let alone = lines.take(5).any(|line| line == b"other=-");
+    match &first[..] {
+        "verdict=race" if alone => "verdict=race of groups".to_string(),
+        _ => first,
     }
 }
 

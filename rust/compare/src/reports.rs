@@ -3,7 +3,7 @@
 use checker::{AccessKind, Outcome, Refusal, Subject, Verdict, REPORT_ROOM};
 use generator::Rng;
 
-use crate::difference::{judge, Difference, Left, Lent};
+use crate::difference::{judge, Difference, Left, Lent, Sweep};
 use crate::tally::refused;
 use crate::{junk, Checker};
 
@@ -29,7 +29,15 @@ pub(crate) fn compare(
     let ours = write(ours, &asked, &before);
     let theirs = write(theirs, &asked, &before);
     let show = || show(&asked, &before);
-    judge(seed, show, |_, _| None, &before, &ours, &theirs)?;
+    judge(
+        Sweep::Launches,
+        seed,
+        show,
+        |_, _| None,
+        &before,
+        &ours,
+        &theirs,
+    )?;
     Ok(ours
         .answer
         .map_or_else(refused, |_| "report=written".to_string()))
@@ -112,6 +120,7 @@ fn verdict(rng: &mut Rng, group: u32) -> Verdict {
         1 => Verdict::Outside { row, thread, at },
         2 => Verdict::Diverged { row, thread, other },
         3 => Verdict::Spent { row },
+        4 => Verdict::Common { row, thread, at },
         _ => Verdict::Race {
             row,
             other_group,

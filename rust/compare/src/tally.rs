@@ -5,6 +5,8 @@ use std::fmt;
 
 use checker::Refusal;
 
+use crate::PairAnswer;
+
 /// What is compared.
 #[derive(Clone, Copy, Debug, PartialEq, Eq, Hash, PartialOrd, Ord)]
 pub enum Kind {
@@ -65,6 +67,75 @@ impl fmt::Display for Tally {
         write!(
             f,
             "compared {all} launches: {files} files, {bare} bare, {reports} reports; 0 differ"
+        )
+    }
+}
+
+/// Counts by answer.
+type Answers = BTreeMap<String, u64>;
+
+/// Counts of pairs: by the filter's report, by the trigger's, and by both. Shown as two lines likewise.
+#[derive(Clone, Debug, Default)]
+pub struct PairTally {
+    filters: Answers,
+    triggers: Answers,
+    pairs: Answers,
+}
+
+impl PairTally {
+    pub(crate) fn add(&mut self, answer: PairAnswer) {
+        let (both, reports) = match answer {
+            PairAnswer::Reported(reports) => (passed(&reports).to_string(), Some(reports)),
+            PairAnswer::Refused(refused) => (refused, None),
+        };
+        *self.pairs.entry(both).or_default() += 1;
+        if let Some([filter, trigger]) = reports {
+            *self.filters.entry(filter).or_default() += 1;
+            *self.triggers.entry(trigger).or_default() += 1;
+        }
+    }
+
+    /// Pairs with an answer, which is `both passed`, `one passed`, `none passed` or `refused=24`.
+    pub fn answered(&self, answer: &str) -> u64 {
+        self.pairs.get(answer).copied().unwrap_or(0)
+    }
+
+    /// Filter's reports and trigger's reports that begin with a line, such as `verdict=common` or `refused=37`.
+    pub fn reported(&self, line: &str) -> [u64; 2] {
+        [&self.filters, &self.triggers].map(|reports| reports.get(line).copied().unwrap_or(0))
+    }
+}
+
+fn passed(reports: &[String; 2]) -> &'static str {
+    match (reports.iter())
+        .filter(|report| *report == "verdict=passed")
+        .count()
+    {
+        0 => "none passed",
+        1 => "one passed",
+        _ => "both passed",
+    }
+}
+
+impl fmt::Display for PairTally {
+    fn fmt(&self, f: &mut fmt::Formatter) -> fmt::Result {
+        let all = [&self.filters, &self.triggers, &self.pairs];
+        let [filters, triggers, pairs] = all.map(|answers| {
+            let answers: Vec<String> = (answers.iter())
+                .map(|(name, count)| format!("{name} {count}"))
+                .collect();
+            answers.join(", ")
+        });
+        writeln!(
+            f,
+            "filters: {filters}; triggers: {triggers}; pairs: {pairs}"
+        )?;
+        let all: u64 = self.pairs.values().sum();
+        let reported: u64 = self.filters.values().sum();
+        let refused = all - reported;
+        write!(
+            f,
+            "compared {all} pairs: {reported} reported, {refused} refused; 0 differ"
         )
     }
 }

@@ -26,6 +26,10 @@ fn the_verified_library_agrees_with_the_independent_checker() {
             assert!(tally.answered(kind, &answer) > 10, "{kind:?}: {answer}");
         }
     }
+    // A launch alone has no common cells.
+    for kind in [Kind::File, Kind::Bare] {
+        assert_eq!(tally.answered(kind, "verdict=common"), 0, "{kind:?}");
+    }
     for (kind, numbers) in [
         (
             Kind::File,
@@ -129,6 +133,7 @@ enum Faulty {
     ShowsAGroupWhenPassed,
     ShowsAnotherGroup,
     ShowsAnOtherGroupWithoutARace,
+    ShowsCommonAsARace,
     WritesTheGroupsBehindTheThreads,
     WritesTheGlobalCellsFirst,
     WritesGlobalCellsAsOwn,
@@ -461,6 +466,9 @@ impl Faulty {
             }
             Faulty::ShowsAnOtherGroupWithoutARace if other_group == "-" => {
                 lines[3] = "othergroup=0".to_string()
+            }
+            Faulty::ShowsCommonAsARace if lines[0] == "verdict=common" => {
+                lines[0] = "verdict=race".to_string()
             }
             Faulty::WritesTheGroupsBehindTheThreads => lines[2..6].rotate_left(2),
             Faulty::WritesTheGlobalCellsFirst => {
@@ -1045,6 +1053,7 @@ fn a_fault_in_reports_is_found_out() {
         Faulty::WritesTheConflictsBeforeTheBarriers,
         Faulty::TakesTooManyCellsTogether,
         Faulty::RefusesGlobalCellsAlone,
+        Faulty::ShowsCommonAsARace,
     ] {
         assert!(found_out(faulty, Kind::Report), "{faulty:?}");
     }

@@ -1,11 +1,11 @@
 //! The claim that ties the lock-step verdict to all runs of the threads' own
 //! machine, checked from outside.
 
-use checker::{observed_launch, Outcome, Verdict, INTERVAL_WORDS, MAX_LAUNCH_THREADS};
+use checker::{common_launch, Outcome, Verdict, INTERVAL_WORDS, MAX_LAUNCH_THREADS};
 use generator::SmallLaunch;
 
 use crate::machine::{Kernel, Standing, State};
-use crate::search::{explore, replay, End, Findings, Made, Order, Replay, Run};
+use crate::search::{explore, replay, End, Findings, Made, Order, Releases, Replay, Run};
 
 /// Rows that the lock-step run may take: big enough for every small launch
 /// that ends.
@@ -20,7 +20,7 @@ const LOG_WORDS: usize = 8;
 pub enum Confirmed {
     /// Passed, and every run comes to the same end as the lock-step run.
     Passed,
-    /// Race or outside, and a run ends badly.
+    /// Race, outside or common, and a run ends badly.
     EndsBadly,
     /// Diverged, and a run is stuck.
     Stuck,
@@ -37,14 +37,14 @@ pub enum Confirmed {
 }
 
 /// The lock-step run, as the claim needs it.
-struct LockStep {
-    outcome: Outcome,
+pub(crate) struct LockStep {
+    pub(crate) outcome: Outcome,
     /// Of each thread, by launch number.
-    steps: Vec<u32>,
+    pub(crate) steps: Vec<u32>,
     /// Own cells, group 0 first, and then the global ones.
-    cells: Vec<u32>,
+    pub(crate) cells: Vec<u32>,
     /// Of each group, its own cells just before each of its counted barriers.
-    barriers: Vec<Vec<Vec<u32>>>,
+    pub(crate) barriers: Vec<Vec<Vec<u32>>>,
 }
 
 /// Checks the claim for one launch. `Err` says in what it fails.
@@ -54,8 +54,33 @@ pub fn check(launch: &SmallLaunch) -> Result<Confirmed, String> {
 
 /// As [`check`], for a kernel of that launch whose machine may make a mistake.
 pub fn check_kernel(launch: &SmallLaunch, kernel: &Kernel) -> Result<Confirmed, String> {
-    let lock_step = run_lock_step(launch)?;
-    let start = State::start(launch.groups, launch.threads, &launch.cells, &launch.global);
+    check_over(launch, &[], kernel)
+}
+
+/// As [`check_kernel`], over common cells.
+pub fn check_over(
+    launch: &SmallLaunch,
+    common: &[u32],
+    kernel: &Kernel,
+) -> Result<Confirmed, String> {
+    let lock_step = run_lock_step(launch, common)?;
+    check_runs(launch, common, kernel, &lock_step).map(|(confirmed, _)| confirmed)
+}
+
+/// The start of a launch over common cells.
+pub(crate) fn start_of(launch: &SmallLaunch, common: &[u32]) -> State {
+    State::start(launch.groups, launch.threads, &launch.cells, &launch.global).with_common(common)
+}
+
+/// Checks the claim of a launch whose lock-step run is known, and gives what all
+/// its runs have shown as well.
+pub(crate) fn check_runs(
+    launch: &SmallLaunch,
+    common: &[u32],
+    kernel: &Kernel,
+    lock_step: &LockStep,
+) -> Result<(Confirmed, Findings), String> {
+    let start = start_of(launch, common);
     let play = |order| {
         let findings = explore(kernel, start.clone(), order, MOST_STATES);
         confirm_witnesses(kernel, &start, order, &findings).map(|()| findings)
@@ -64,11 +89,12 @@ pub fn check_kernel(launch: &SmallLaunch, kernel: &Kernel) -> Result<Confirmed, 
         // The lock-step run takes the groups one after the other. So what it
         // met in a group, runs that do the same meet in that group.
         let by_group = play(Order::GroupByGroup)?;
-        confirm(&lock_step, kernel, &by_group)
-            .and_then(|_| same_group(&lock_step, kernel, &start, &by_group))
+        confirm(lock_step, kernel, &by_group)
+            .and_then(|_| same_group(lock_step, kernel, &start, &by_group))
             .map_err(|fault| format!("group by group: {fault}"))?;
     }
-    confirm(&lock_step, kernel, &play(Order::Any)?)
+    let findings = play(Order::Any)?;
+    confirm(lock_step, kernel, &findings).map(|confirmed| (confirmed, findings))
 }
 
 /// What the runs that were played make of the lock-step verdict.
@@ -79,18 +105,22 @@ fn confirm(
 ) -> Result<Confirmed, String> {
     match lock_step.outcome.verdict {
         Verdict::Passed => passed(lock_step, findings),
-        Verdict::Race { .. } | Verdict::Outside { .. } => ends_badly(findings),
+        Verdict::Race { .. } | Verdict::Outside { .. } | Verdict::Common { .. } => {
+            ends_badly(findings)
+        }
         Verdict::Diverged { .. } => diverged(findings),
         Verdict::Spent { .. } => spent(kernel, findings),
     }
 }
 
-fn run_lock_step(launch: &SmallLaunch) -> Result<LockStep, String> {
+/// The lock-step run of a launch over common cells.
+pub(crate) fn run_lock_step(launch: &SmallLaunch, common: &[u32]) -> Result<LockStep, String> {
     let (mut own, mut global) = (launch.cells.clone(), launch.global.clone());
     let mut log = vec![0; LOG_WORDS * (own.len() + global.len())];
     let mut steps = [0; MAX_LAUNCH_THREADS];
     let mut barriers = vec![vec![]; launch.groups as usize];
-    let outcome = observed_launch(
+    let outcome = common_launch(
+        common,
         &launch.table,
         launch.threads,
         own.len() as u32 / launch.groups,
@@ -164,7 +194,7 @@ fn same_group(
     Ok(())
 }
 
-fn expect(fine: bool, what: &str) -> Result<(), String> {
+pub(crate) fn expect(fine: bool, what: &str) -> Result<(), String> {
     if fine {
         Ok(())
     } else {
@@ -182,25 +212,38 @@ fn passed(lock_step: &LockStep, findings: &Findings) -> Result<Confirmed, String
     for end in findings.ends.keys() {
         same_end(lock_step, end)?;
     }
-    for (releases, barriers) in findings.releases.iter().zip(&lock_step.barriers) {
-        let same_cells = (releases.iter().zip(barriers))
-            .all(|(found, cells)| found.iter().all(|found| found == cells));
-        expect(same_cells, "passed, but own cells differ at a release")?;
-    }
+    same_releases(lock_step, &findings.releases)?;
     if !findings.complete {
         return Ok(Confirmed::Unknown);
     }
     expect(findings.ends.len() == 1, "passed, but no run ends")?;
-    let releases = findings.releases.iter().map(Vec::len);
-    let same_count = releases.eq(lock_step.barriers.iter().map(Vec::len));
-    expect(same_count, "passed, but releases are not as many")?;
+    as_many_releases(lock_step, &findings.releases)?;
     Ok(Confirmed::Passed)
+}
+
+/// At a group's k-th release its own cells are those at its k-th counted
+/// barrier.
+pub(crate) fn same_releases(lock_step: &LockStep, releases: &[Releases]) -> Result<(), String> {
+    for (releases, barriers) in releases.iter().zip(&lock_step.barriers) {
+        let same_cells = (releases.iter().zip(barriers))
+            .all(|(found, cells)| found.iter().all(|found| found == cells));
+        expect(same_cells, "passed, but own cells differ at a release")?;
+    }
+    Ok(())
+}
+
+/// No run has more releases of a group than it has counted barriers, and some
+/// run has as many.
+pub(crate) fn as_many_releases(lock_step: &LockStep, releases: &[Releases]) -> Result<(), String> {
+    let found = releases.iter().map(Vec::len);
+    let same_count = found.eq(lock_step.barriers.iter().map(Vec::len));
+    expect(same_count, "passed, but releases are not as many")
 }
 
 /// Each thread makes as many moves as it has steps, each group's releases are as
 /// many as its own counted barriers, all of them are `barriers`, and all moves
 /// are the steps of all threads and the barriers.
-fn same_end(lock_step: &LockStep, end: &End) -> Result<(), String> {
+pub(crate) fn same_end(lock_step: &LockStep, end: &End) -> Result<(), String> {
     let (made, barriers) = (&end.made, lock_step.outcome.barriers);
     let same = made.by_thread == lock_step.steps;
     expect(same, "passed, but a thread moves otherwise than it steps")?;
@@ -221,7 +264,7 @@ fn ends_badly(findings: &Findings) -> Result<Confirmed, String> {
     let all_played = findings.complete && findings.endless.is_none();
     match findings.bad {
         Some(_) => Ok(Confirmed::EndsBadly),
-        None if all_played => Err("race or outside, but no run ends badly".into()),
+        None if all_played => Err("race, outside or common, but no run ends badly".into()),
         None => Ok(Confirmed::Unknown),
     }
 }

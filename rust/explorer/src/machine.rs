@@ -1,6 +1,6 @@
 //! "The threads' own machine": written from that section, from "The kernel
-//! table" and from items 1, 3, 6 and 7 alone. Nothing here knows of masks or of
-//! the lock-step run.
+//! table" and from items 1, 3, 6, 7 and 12 alone. Nothing here knows of masks or
+//! of the lock-step run. Two kernels resident together are in `pair`.
 
 use std::cmp::Ordering;
 use std::ops::Range;
@@ -13,8 +13,9 @@ struct Jump {
     to: usize,
 }
 
-/// A way in which this machine could be wrong about groups. Only tests have it
-/// made, to see that the claim would not hold for such a machine.
+/// A way in which this machine could be wrong about groups or about common
+/// cells. Only tests have it made, to see that the claim would not hold for such
+/// a machine.
 #[derive(Clone, Copy, Debug, PartialEq, Eq)]
 pub enum Mistake {
     /// TID gives the launch number.
@@ -46,6 +47,24 @@ pub enum Mistake {
     GroupsNeverRace,
     /// Equal stores inside a group to one global cell are a race.
     EqualGlobalStoresRace,
+    /// A load of a common cell is recorded: as one of the own cell as many
+    /// places behind own cell 0, if there is one.
+    CommonLoadRecorded,
+    /// A store or an add there does nothing, and the run goes on.
+    CommonStoreIgnored,
+    /// A store or an add there is made, and the run goes on.
+    CommonStoreMade,
+    /// An add there is made, and the run goes on; a store ends it badly.
+    CommonAddMade,
+    /// A store or an add there is made, and ends the run badly.
+    CommonStoreMadeAtTheEnd,
+    /// Numbers past the common cells are common ones too, up to 256, and hold 0.
+    PastCommonIsCommon,
+    /// Ops 20 to 22 reach the common cells by the same numbers.
+    GlobalReachesCommon,
+    /// A common cell's number means the own cell as many places behind own
+    /// cell 0.
+    CommonIsOwn,
 }
 
 /// A well-formed table with its jumps.
@@ -260,8 +279,23 @@ impl Shape {
 /// The cells that an access means by its number.
 #[derive(Clone, Copy, Debug, PartialEq, Eq)]
 enum Space {
+    /// The group's own cells, and behind them the common ones.
     Own,
     Global,
+}
+
+/// Common cells are numbered from here on.
+const FIRST_COMMON: usize = 65_536;
+/// There are no more common cells than these.
+const MOST_COMMON: usize = 256;
+
+/// What an access reaches by its number.
+#[derive(Clone, Copy, Debug, PartialEq, Eq)]
+enum Reached {
+    /// A place among all cells of the launch.
+    Cell(usize),
+    /// A common cell, from 0.
+    Common(usize),
 }
 
 /// All threads, the cells and the access record between two moves.
@@ -272,6 +306,9 @@ pub struct State {
     threads: Vec<Thread>,
     /// The own cells of each group, group 0 first, and then the global ones.
     cells: Vec<u32>,
+    /// Words that nobody writes. They are here, and not with the kernel, so that
+    /// a machine that does write them can be told from this one.
+    common: Vec<u32>,
     /// Sorted, each record once.
     record: Vec<Access>,
 }
@@ -286,10 +323,12 @@ pub enum Move {
 }
 
 /// A run's bad end.
-#[derive(Clone, Copy, Debug, PartialEq, Eq)]
+#[derive(Clone, Copy, Debug, PartialEq, Eq, PartialOrd, Ord)]
 pub enum BadEnd {
     /// An access outside the cells.
     Outside,
+    /// A store or an add to a common cell.
+    Common,
     /// Two records of one cell that conflict: by different threads of a group
     /// since its last release, which are not two loads, two adds or two stores
     /// of one value; or by different groups, which are not two loads or two adds.
@@ -326,8 +365,15 @@ impl State {
             shape,
             threads: vec![thread; shape.groups * shape.threads],
             cells: [own, global].concat(),
+            common: vec![],
             record: vec![],
         }
+    }
+
+    /// The same over these common cells.
+    pub fn with_common(mut self, common: &[u32]) -> Self {
+        self.common = common.to_vec();
+        self
     }
 
     /// Groups, threads and cells.
@@ -340,9 +386,37 @@ impl State {
         &self.cells
     }
 
+    /// The common cells now, which are as they were at the start.
+    pub fn common(&self) -> &[u32] {
+        &self.common
+    }
+
+    /// How many accesses are in the record.
+    pub fn recorded(&self) -> usize {
+        self.record.len()
+    }
+
     /// A group's own cells now.
     pub fn own_cells(&self, group: usize) -> &[u32] {
         &self.cells[self.shape.own_places(group)]
+    }
+
+    /// Takes over the words of another state's cells, place by place. Only a
+    /// machine that makes a mistake does so.
+    pub(crate) fn take_cells(&mut self, from: &Self) {
+        for (own, word) in self.cells.iter_mut().zip(&from.cells) {
+            *own = *word;
+        }
+    }
+
+    /// Whether an access of another kernel would conflict, if the two were groups
+    /// of one. Only a machine that makes a mistake asks.
+    pub(crate) fn meets(&self, other: &Self) -> bool {
+        let conflict = |one: &Access, other: &Access| {
+            one.place == other.place && one.races_across_groups(*other, None)
+        };
+        let mut own = self.record.iter();
+        own.any(|one| other.record.iter().any(|other| conflict(one, other)))
     }
 
     /// Which moves are possible here.
@@ -457,17 +531,29 @@ impl State {
             2 | 3 | 19 => thread.registers[d] = about,
             4..=14 => thread.registers[d] = compute(op, x, y),
             16 | 20 => {
-                let place = self.access(kernel, number, (space(op), x), Kind::Load)?;
-                self.threads[number].registers[d] = self.cells[place];
+                let loaded = match self.reach(kernel, number, space(op), x)? {
+                    Reached::Cell(place) => {
+                        self.enter(kernel, number, place, Kind::Load)?;
+                        self.cells[place]
+                    }
+                    Reached::Common(cell) => self.load_common(kernel, number, cell)?,
+                };
+                self.threads[number].registers[d] = loaded;
             }
-            17 | 21 => {
-                let place = self.access(kernel, number, (space(op), at), Kind::Store(x))?;
-                self.cells[place] = x;
-            }
-            18 | 22 => {
-                let place = self.access(kernel, number, (space(op), at), Kind::Add)?;
-                self.cells[place] = compute(4, self.cells[place], x);
-            }
+            17 | 21 => match self.reach(kernel, number, space(op), at)? {
+                Reached::Cell(place) => {
+                    self.enter(kernel, number, place, Kind::Store(x))?;
+                    self.cells[place] = x;
+                }
+                Reached::Common(cell) => self.put_common(kernel, cell, Kind::Store(x), x)?,
+            },
+            18 | 22 => match self.reach(kernel, number, space(op), at)? {
+                Reached::Cell(place) => {
+                    self.enter(kernel, number, place, Kind::Add)?;
+                    self.cells[place] = compute(4, self.cells[place], x);
+                }
+                Reached::Common(cell) => self.put_common(kernel, cell, Kind::Add, x)?,
+            },
             IF if x == 0 => thread.row = jump,
             ELSE => thread.row = jump,
             WHILE => thread.test_loop(row, x != 0, jump),
@@ -492,18 +578,18 @@ impl State {
         told as u32
     }
 
-    /// Enters an access to the cell of that number in the record and gives the
-    /// cell's place, unless the access ends the run badly.
-    fn access(
-        &mut self,
+    /// What a thread's access reaches by that number, unless it is outside: own
+    /// cells first, then common ones.
+    fn reach(
+        &self,
         kernel: &Kernel,
         launch_number: usize,
-        (space, number): (Space, u32),
-        kind: Kind,
-    ) -> Result<usize, BadEnd> {
-        let (shape, mistake) = (self.shape, kernel.mistake);
-        let (group, thread) = shape.member(launch_number);
-        let answering = match mistake {
+        space: Space,
+        number: u32,
+    ) -> Result<Reached, BadEnd> {
+        let (shape, number) = (self.shape, number as usize);
+        let (group, _) = shape.member(launch_number);
+        let answering = match kernel.mistake {
             Some(Mistake::OwnCellsOfGroup0) => 0,
             _ => group,
         };
@@ -511,11 +597,81 @@ impl State {
             Space::Own => shape.own_places(answering),
             Space::Global => shape.groups * shape.cells..self.cells.len(),
         };
-        if number as usize >= places.len() {
-            return Err(BadEnd::Outside);
+        if number < places.len() {
+            return Ok(Reached::Cell(places.start + number));
         }
+        let common = match kernel.mistake {
+            Some(Mistake::PastCommonIsCommon) => MOST_COMMON,
+            _ => self.common.len(),
+        };
+        let has_common = space == Space::Own || kernel.makes(Mistake::GlobalReachesCommon);
+        match number.checked_sub(FIRST_COMMON) {
+            Some(cell) if has_common && kernel.makes(Mistake::CommonIsOwn) => {
+                let place = places.clone().nth(cell);
+                place.map(Reached::Cell).ok_or(BadEnd::Outside)
+            }
+            Some(cell) if has_common && cell < common => Ok(Reached::Common(cell)),
+            _ => Err(BadEnd::Outside),
+        }
+    }
+
+    /// A common cell's word, which is loaded without a record.
+    fn load_common(
+        &mut self,
+        kernel: &Kernel,
+        launch_number: usize,
+        cell: usize,
+    ) -> Result<u32, BadEnd> {
+        if kernel.makes(Mistake::CommonLoadRecorded) {
+            let (group, _) = self.shape.member(launch_number);
+            let own = self.shape.own_places(group).nth(cell);
+            let place = own.unwrap_or(self.cells.len() + cell);
+            self.enter(kernel, launch_number, place, Kind::Load)?;
+        }
+        Ok(self.common.get(cell).copied().unwrap_or(0))
+    }
+
+    /// A store or an add to a common cell ends the run badly.
+    fn put_common(
+        &mut self,
+        kernel: &Kernel,
+        cell: usize,
+        kind: Kind,
+        word: u32,
+    ) -> Result<(), BadEnd> {
+        let (made, goes_on) = match (kernel.mistake, kind) {
+            (Some(Mistake::CommonStoreIgnored), _) => (false, true),
+            (Some(Mistake::CommonStoreMade), _) => (true, true),
+            (Some(Mistake::CommonAddMade), Kind::Add) => (true, true),
+            (Some(Mistake::CommonStoreMadeAtTheEnd), _) => (true, false),
+            _ => (false, false),
+        };
+        if let (true, Some(common)) = (made, self.common.get_mut(cell)) {
+            *common = match kind {
+                Kind::Add => compute(4, *common, word),
+                _ => word,
+            };
+        }
+        if goes_on {
+            Ok(())
+        } else {
+            Err(BadEnd::Common)
+        }
+    }
+
+    /// Enters an access to that place in the record, unless it ends the run
+    /// badly.
+    fn enter(
+        &mut self,
+        kernel: &Kernel,
+        launch_number: usize,
+        place: usize,
+        kind: Kind,
+    ) -> Result<(), BadEnd> {
+        let (shape, mistake) = (self.shape, kernel.mistake);
+        let (group, thread) = shape.member(launch_number);
         let access = Access {
-            place: places.start + number as usize,
+            place,
             group,
             thread: Some(thread),
             kind,
@@ -527,7 +683,7 @@ impl State {
         if let Err(entry) = self.record.binary_search(&access) {
             self.record.insert(entry, access);
         }
-        Ok(access.place)
+        Ok(())
     }
 
     /// Subtracts from the counts of a loop what all threads of a group have in
@@ -573,7 +729,8 @@ fn level_group(threads: &mut [Thread]) {
     }
 }
 
-/// Ops 16 to 18 use the group's own cells, 20 to 22 the global ones.
+/// Ops 16 to 18 use the group's own cells and the common ones, 20 to 22 the
+/// global ones.
 fn space(op: u8) -> Space {
     if op < 20 {
         Space::Own
@@ -735,7 +892,12 @@ mod tests {
     }
 
     fn access(state: &mut State, thread: usize, cell: (Space, u32), kind: Kind) -> Option<BadEnd> {
-        state.access(&Kernel::new(&[]), thread, cell, kind).err()
+        let (kernel, (space, number)) = (Kernel::new(&[]), cell);
+        match state.reach(&kernel, thread, space, number) {
+            Ok(Reached::Cell(place)) => state.enter(&kernel, thread, place, kind).err(),
+            Ok(Reached::Common(_)) => None,
+            Err(end) => Some(end),
+        }
     }
 
     /// Every value that a thread has stored is kept, each once.
@@ -774,6 +936,37 @@ mod tests {
                 assert_eq!(outside(thread, Space::Global, number), number >= 3);
             }
         }
+    }
+
+    /// Common cells are behind the own ones for ops 16 to 18 alone, in every
+    /// group.
+    #[test]
+    fn numbers_reach_own_cells_then_common_ones_then_nothing() {
+        let state = State::start(2, 1, &[0; 4], &[0; 3]).with_common(&[7, 8]);
+        let reach = |thread, space, number| {
+            let reached = state.reach(&Kernel::new(&[]), thread, space, number);
+            assert!(reached.is_ok() || reached == Err(BadEnd::Outside));
+            reached.ok()
+        };
+        for thread in [0, 1] {
+            let own = |number| reach(thread, Space::Own, number);
+            assert_eq!(own(1), Some(Reached::Cell(2 * thread + 1)));
+            assert_eq!(own(65_536), Some(Reached::Common(0)));
+            assert_eq!(own(65_537), Some(Reached::Common(1)));
+            for number in [2, 65_534, 65_535, 65_538, 131_072, u32::MAX] {
+                assert_eq!(own(number), None, "{number}");
+            }
+            for number in [3, 65_535, 65_536, 65_537, 65_538] {
+                assert_eq!(reach(thread, Space::Global, number), None, "{number}");
+            }
+        }
+        let without = State::start(1, 1, &[0], &[]);
+        let reached = without.reach(&Kernel::new(&[]), 0, Space::Own, 65_536);
+        assert_eq!(reached, Err(BadEnd::Outside));
+        let full = without.with_common(&[1; 256]);
+        let last = |number| full.reach(&Kernel::new(&[]), 0, Space::Own, number);
+        assert_eq!(last(65_791), Ok(Reached::Common(255)));
+        assert_eq!(last(65_792), Err(BadEnd::Outside));
     }
 
     /// A release leaves of its own group's accesses those to global cells, and

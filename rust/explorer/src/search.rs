@@ -1,6 +1,7 @@
 //! Every run of a launch: a depth-first search through all states.
 
 use std::collections::{BTreeMap, BTreeSet, HashMap, HashSet};
+use std::rc::Rc;
 
 use crate::machine::{BadEnd, Kernel, Move, Shape, Standing, State};
 
@@ -43,18 +44,21 @@ impl Order {
     }
 }
 
+/// For each release of a group by its number, the group's own cells just before
+/// it in any run.
+pub type Releases = Vec<BTreeSet<Vec<u32>>>;
+
 /// What all runs of a launch have shown.
 #[derive(Clone, Debug, Default)]
 pub struct Findings {
-    /// States seen.
-    pub states: usize,
+    /// All states seen.
+    pub reached: Vec<Rc<State>>,
     /// Whether every run has been played, so that what isn't found isn't there.
     pub complete: bool,
     /// All ways in which runs came to their end, each with a run that did so.
     pub ends: BTreeMap<End, Run>,
-    /// For each group, and each of its releases by its number, the group's own
-    /// cells just before it in any run.
-    pub releases: Vec<Vec<BTreeSet<Vec<u32>>>>,
+    /// Of each group.
+    pub releases: Vec<Releases>,
     /// A run that ended badly.
     pub bad: Option<(Run, BadEnd)>,
     /// A run that is stuck.
@@ -103,19 +107,24 @@ impl Made {
     }
 
     fn after(mut self, made: Move) -> Self {
+        self.add(made);
+        self
+    }
+
+    /// Counts one move more.
+    pub(crate) fn add(&mut self, made: Move) {
         match made {
             Move::Row(thread) => self.by_thread[thread] += 1,
             Move::Release(group) => self.releases[group] += 1,
         }
         self.all += 1;
-        self
     }
 }
 
 /// A state on the path from the start, with the moves not yet tried.
 struct Frame {
-    state: State,
-    made: Made,
+    state: Rc<State>,
+    made: Rc<Made>,
     untried: Vec<Move>,
 }
 
@@ -124,7 +133,7 @@ struct Search<'k> {
     order: Order,
     most_states: usize,
     /// Every state seen: the moves made to it, and whether it is on the path.
-    seen: HashMap<State, (Made, bool)>,
+    seen: HashMap<Rc<State>, (Rc<Made>, bool)>,
     /// States on the path without their counts, with the releases before them.
     on_path: HashSet<(State, Vec<u32>)>,
     path: Vec<Frame>,
@@ -151,7 +160,7 @@ pub fn explore(kernel: &Kernel, start: State, order: Order, most_states: usize) 
     let nothing = Made::nothing(start.shape());
     search.arrive(start, nothing);
     while search.findings.complete && search.advance() {}
-    search.findings.states = search.seen.len();
+    search.findings.reached = search.seen.into_keys().collect();
     search.findings
 }
 
@@ -166,8 +175,8 @@ impl Search<'_> {
             self.go_back();
             return true;
         };
-        let mut state = frame.state.clone();
-        let count = frame.made.clone();
+        let mut state = State::clone(&frame.state);
+        let count = Made::clone(&frame.made);
         if let Move::Release(group) = made {
             let before = state.own_cells(group).to_vec();
             self.note_release(group, count.releases[group] as usize, before);
@@ -192,7 +201,7 @@ impl Search<'_> {
             if *on_path {
                 // A cycle: the moves since then can be made again and again.
                 note(&mut self.findings.endless, || self.run.clone());
-            } else if *before != made {
+            } else if **before != made {
                 note(&mut self.findings.uneven, || self.run.clone());
             }
             self.run.pop();
@@ -210,9 +219,11 @@ impl Search<'_> {
             self.run.pop();
             return;
         }
+        let (state, made) = (Rc::new(state), Rc::new(made));
         match self.order.standing(self.kernel, &state) {
             Standing::Open(untried) => {
-                self.seen.insert(state.clone(), (made.clone(), true));
+                let entry = (Rc::clone(&made), true);
+                self.seen.insert(Rc::clone(&state), entry);
                 self.on_path.insert(place);
                 self.path.push(Frame {
                     state,
@@ -221,7 +232,7 @@ impl Search<'_> {
                 });
                 return;
             }
-            Standing::Ended => self.note_end(&state, made.clone()),
+            Standing::Ended => self.note_end(&state, Made::clone(&made)),
             Standing::Stuck => note(&mut self.findings.stuck, || self.run.clone()),
         }
         self.seen.insert(state, (made, false));
@@ -246,16 +257,20 @@ impl Search<'_> {
     }
 
     fn note_release(&mut self, group: usize, number: usize, cells: Vec<u32>) {
-        let releases = &mut self.findings.releases[group];
-        if releases.len() <= number {
-            releases.resize_with(number + 1, BTreeSet::new);
-        }
-        releases[number].insert(cells);
+        enter_release(&mut self.findings.releases[group], number, cells);
     }
 }
 
+/// Enters the cells before the release of that number.
+pub(crate) fn enter_release(releases: &mut Releases, number: usize, cells: Vec<u32>) {
+    if releases.len() <= number {
+        releases.resize_with(number + 1, BTreeSet::new);
+    }
+    releases[number].insert(cells);
+}
+
 /// Keeps the first of its kind.
-fn note<T>(found: &mut Option<T>, first: impl FnOnce() -> T) {
+pub(crate) fn note<T>(found: &mut Option<T>, first: impl FnOnce() -> T) {
     if found.is_none() {
         *found = Some(first());
     }
@@ -362,7 +377,8 @@ mod tests {
         };
         let by = |moves: &[Move]| Made::of(moves, start.shape());
         let [first, second] = [0, 1].map(Move::Row);
-        search.seen.insert(start.clone(), (by(&[first]), false));
+        let entry = (Rc::new(by(&[first])), false);
+        search.seen.insert(Rc::new(start.clone()), entry);
         search.arrive(start.clone(), by(&[first]));
         assert!(search.findings.uneven.is_none());
         // As many moves, but another thread's.

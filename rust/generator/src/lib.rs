@@ -4,6 +4,8 @@
 mod asm;
 mod banks;
 mod bare;
+mod coefficients;
+mod common_files;
 mod counts;
 mod damage;
 mod extremes;
@@ -11,6 +13,7 @@ mod groups;
 mod headers;
 mod intervals;
 mod meetings;
+mod pairs;
 mod patterns;
 mod plan;
 mod random;
@@ -21,6 +24,7 @@ mod slips;
 mod small;
 mod small_counts;
 mod small_groups;
+mod small_pairs;
 mod small_shifts;
 mod small_stores;
 mod spelling;
@@ -29,10 +33,12 @@ mod tables;
 mod words;
 
 pub use bare::BareLaunch;
+pub use pairs::PairFiles;
 pub use plan::Plan;
 pub use reports::{report_cells, report_steps};
 pub use rng::Rng;
 pub use small::SmallLaunch;
+pub use small_pairs::SmallPair;
 
 /// The bytes of one launch file: a structured kernel, a random one, one at the
 /// edges, a damaged file, a small one with a slip or two, or noise.
@@ -65,6 +71,16 @@ pub fn bare(seed: u64) -> BareLaunch {
 /// One small launch for the explorer.
 pub fn small(seed: u64) -> SmallLaunch {
     small::small_launch(&mut Rng::new(seed, 4))
+}
+
+/// One pair of small launches over common cells, for the explorer.
+pub fn small_pair(seed: u64) -> SmallPair {
+    small_pairs::pair(&mut Rng::new(seed, 13))
+}
+
+/// The files of two kernels over one set of common cells.
+pub fn pair(seed: u64) -> PairFiles {
+    pairs::pair(&mut Rng::new(seed, 12))
 }
 
 /// About a third for several groups or with global cells.

@@ -1,6 +1,6 @@
 //! A launch before it is written as a file.
 
-use checker::{bare_launch, log_words, Verdict, INTERVAL_WORDS, MAX_LAUNCH_THREADS};
+use checker::{common_launch, log_words, Verdict, INTERVAL_WORDS, MAX_LAUNCH_THREADS};
 
 use crate::asm::Row;
 use crate::rng::Rng;
@@ -32,7 +32,7 @@ impl Plan {
     /// One group without global cells, with a limit chosen to suit its length.
     pub fn new(rng: &mut Rng, threads: u32, rows: Vec<Row>, cells: Vec<u32>) -> Self {
         let mut plan = Self::limited(threads, PROBE, rows, cells);
-        plan.limit = plan.choose_limit(rng);
+        plan.limit = plan.choose_limit(rng, &[]);
         plan
     }
 
@@ -49,11 +49,16 @@ impl Plan {
     }
 
     /// With a limit chosen anew, often about where one of the groups ends.
-    pub fn with_fitting_limit(mut self, rng: &mut Rng) -> Self {
-        self.limit = self.choose_limit(rng);
+    pub fn with_fitting_limit(self, rng: &mut Rng) -> Self {
+        self.with_limit_over(rng, &[])
+    }
+
+    /// As [`Plan::with_fitting_limit`], for a run over these common cells.
+    pub(crate) fn with_limit_over(mut self, rng: &mut Rng, common: &[u32]) -> Self {
+        self.limit = self.choose_limit(rng, common);
         if self.groups > 1 && rng.one_in(3) {
             let ending = rng.range(1, self.groups);
-            if let Some(rows) = self.rows_of_groups(ending) {
+            if let Some(rows) = self.rows_of_groups(ending, common) {
                 self.limit = (rows + rng.pick(&[0, 0, 1, 2])).saturating_sub(rng.below(2));
             }
         }
@@ -95,8 +100,8 @@ impl Plan {
 
     /// Around the rows that the launch needs, or, where it doesn't end soon,
     /// a small number: rarely a run takes longer than a moment.
-    fn choose_limit(&self, rng: &mut Rng) -> u32 {
-        match self.rows_needed() {
+    fn choose_limit(&self, rng: &mut Rng, common: &[u32]) -> u32 {
+        match self.rows_of_groups(self.groups, common) {
             Some(rows) => match rng.below(20) {
                 0 => rows.saturating_sub(1),
                 1 | 2 => rows,
@@ -117,16 +122,17 @@ impl Plan {
     /// Rows finished, if the launch ends soon. Launches that are refused need
     /// none.
     pub(crate) fn rows_needed(&self) -> Option<u32> {
-        self.rows_of_groups(self.groups)
+        self.rows_of_groups(self.groups, &[])
     }
 
     /// Rows finished by the first groups of the launch, if they end soon.
-    fn rows_of_groups(&self, groups: u32) -> Option<u32> {
+    fn rows_of_groups(&self, groups: u32, common: &[u32]) -> Option<u32> {
         let each = self.cells_each();
         let mut cells = self.cells[..(groups * each) as usize].to_vec();
         let mut global = self.global.clone();
         let mut log = vec![0; log_words(cells.len() + global.len())];
-        let outcome = bare_launch(
+        let outcome = common_launch(
+            common,
             &self.table(),
             self.threads,
             each,
@@ -138,6 +144,7 @@ impl Plan {
             &mut log,
             &mut [0; INTERVAL_WORDS],
             &mut [0; MAX_LAUNCH_THREADS],
+            |_, _| {},
         );
         match outcome {
             Ok(outcome) if matches!(outcome.verdict, Verdict::Spent { .. }) => None,

@@ -102,7 +102,7 @@ fn misspell_some_line(rng: &mut Rng, lines: &mut Lines, plan: &Plan) {
 }
 
 /// Another byte in place of a line end.
-fn lose_a_line_end(rng: &mut Rng, file: &mut [u8]) {
+pub fn lose_a_line_end(rng: &mut Rng, file: &mut [u8]) {
     let ends: Vec<usize> = (0..file.len()).filter(|&at| file[at] == b'\n').collect();
     if !ends.is_empty() {
         file[rng.pick(&ends)] = rng.pick(b"\r\0 ;\x0b");

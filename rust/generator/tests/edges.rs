@@ -559,6 +559,7 @@ fn verdict_name(verdict: Verdict) -> &'static str {
         Verdict::Passed => "passed",
         Verdict::Race { .. } => "race",
         Verdict::Outside { .. } => "outside",
+        Verdict::Common { .. } => "common",
         Verdict::Diverged { .. } => "diverged",
         Verdict::Spent { .. } => "spent",
     }

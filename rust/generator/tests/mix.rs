@@ -34,6 +34,7 @@ fn verdict_names(verdict: Verdict) -> Vec<String> {
         Verdict::Passed => "verdict=passed",
         Verdict::Race { .. } => "verdict=race",
         Verdict::Outside { .. } => "verdict=outside",
+        Verdict::Common { .. } => "verdict=common",
         Verdict::Diverged { .. } => "verdict=diverged",
         Verdict::Spent { .. } => "verdict=spent",
     };

@@ -4,60 +4,12 @@ mod common;
 mod slow;
 
 use checker::{
-    check_file, op, parse_file, Outcome, Verdict, INTERVAL_RECORDS, INTERVAL_WORDS, LENT_CELLS,
-    LENT_GLOBAL, LENT_LOG, REPORT_ROOM,
+    check_file, op, parse_file, INTERVAL_RECORDS, INTERVAL_WORDS, LENT_CELLS, LENT_GLOBAL,
+    LENT_LOG, REPORT_ROOM,
 };
 
 use common::{run, JUNK};
-use slow::{slow_run, Launch, Stop, Told};
-
-/// The verdict's name, and where and how the run ended.
-fn ended(outcome: &Outcome) -> (&'static str, Stop) {
-    let numbered = |number: u32| Some(number as usize);
-    let at_row = |row: u32| Stop {
-        row: numbered(row),
-        group: numbered(outcome.group),
-        ..Stop::default()
-    };
-    match outcome.verdict {
-        Verdict::Passed => ("passed", Stop::default()),
-        Verdict::Race {
-            row,
-            other_group,
-            thread,
-            other,
-            kind,
-            at,
-        } => {
-            let stop = Stop {
-                other_group: numbered(other_group),
-                thread: numbered(thread),
-                other: other.map(|other| other as usize),
-                kind: Some(format!("{kind:?}").to_lowercase()),
-                at: Some(at),
-                ..at_row(row)
-            };
-            ("race", stop)
-        }
-        Verdict::Outside { row, thread, at } => {
-            let stop = Stop {
-                thread: numbered(thread),
-                at: Some(at),
-                ..at_row(row)
-            };
-            ("outside", stop)
-        }
-        Verdict::Diverged { row, thread, other } => {
-            let stop = Stop {
-                thread: numbered(thread),
-                other: numbered(other),
-                ..at_row(row)
-            };
-            ("diverged", stop)
-        }
-        Verdict::Spent { row } => ("spent", at_row(row)),
-    }
-}
+use slow::{ended, slow_run, Launch, Told};
 
 /// The records of a list of which all else is as it was lent.
 fn records(list: &[u32], used: usize) -> Vec<[u32; 3]> {
@@ -135,17 +87,7 @@ fn files_leave_what_a_slow_run_leaves_and_print_its_report() {
         if launch.limit > LONG && launch.table.contains(&op::WHILE) {
             continue; // it may be long
         }
-        let expected = slow_run(
-            Launch {
-                rows: launch.table.as_chunks().0,
-                threads: launch.threads as usize,
-                groups: launch.groups as usize,
-                limit: launch.limit,
-                cells: &launch.cells,
-                global: &launch.global,
-            },
-            |_| {},
-        );
+        let expected = slow_run(Launch::of_file(&launch, &[]), |_| {});
         let report = std::str::from_utf8(&out[..len]).unwrap();
         assert_eq!(report, expected.report());
         assert_eq!(records(&list, expected.records.len()), expected.records);

@@ -66,8 +66,19 @@ pub enum Verdict {
         /// The global cell.
         at: u32,
     },
-    /// An access outside the group's own cells, or outside the global ones.
+    /// An access outside the group's own cells and the common ones, or outside the global ones.
     Outside {
+        /// Where the run stopped.
+        row: u32,
+        /// The acting thread's group.
+        group: u32,
+        /// The acting thread.
+        thread: u32,
+        /// The number that was used.
+        at: u32,
+    },
+    /// A store or an add to a common cell. Only a pair's kernels have these, so that no launch alone comes to it.
+    Common {
         /// Where the run stopped.
         row: u32,
         /// The acting thread's group.
@@ -188,6 +199,12 @@ impl Verdict {
                 kind: AccessKind::from_code(kind),
                 at,
             },
+            7 => Self::Common {
+                row,
+                group,
+                thread,
+                at,
+            },
             _ => panic!("the library answered verdict {code}"),
         }
     }
@@ -225,6 +242,12 @@ impl Verdict {
                 kind,
                 at,
             } => [6, row, group, other_group, thread, 0, kind.code(), at],
+            Self::Common {
+                row,
+                group,
+                thread,
+                at,
+            } => [7, row, group, 0, thread, 0, 0, at],
         }
     }
 }

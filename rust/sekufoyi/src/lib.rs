@@ -20,6 +20,8 @@ pub const LENT_RECORDS: usize = 3_075;
 pub const LENT_STEPS: usize = 256;
 /// Bytes of output that [`check_file`] needs at least: enough for every report.
 pub const REPORT_ROOM: usize = 24_576;
+/// Bytes of output that [`pair_files`] needs at least: enough for every two reports.
+pub const PAIR_ROOM: usize = 49_152;
 
 /// Checks a launch file, writes its report to the start of `output` and gives the report's length. The other buffers are left as by
 /// [`bare_launch`], from their first word on; what is behind keeps its value.
@@ -32,6 +34,20 @@ pub fn check_file(
     output: &mut [u8],
 ) -> Result<usize, Refusal> {
     written(raw::check_file(file, cells, global, log, records, output))
+}
+
+/// Checks two kernels that are resident together, by their launch files, over the cells of a common file. Writes the filter's report to the
+/// start of `output` and the trigger's right behind it, each with its own `end=report`, and gives the length of both together; what is behind
+/// keeps its value. Refuses an output of fewer than [`PAIR_ROOM`] bytes, and nothing else: a kernel whose file is refused has the report of
+/// that refusal, the other keeps its own, and a bad common file is 37 in the report of each kernel that is not refused by itself. Where both
+/// reports begin with `verdict=passed`, they speak for every run of both kernels at once.
+pub fn pair_files(
+    filter: &[u8],
+    trigger: &[u8],
+    common: &[u8],
+    output: &mut [u8],
+) -> Result<usize, Refusal> {
+    written(raw::pair_files(filter, trigger, common, output))
 }
 
 /// Runs a kernel table over the lent cells, which hold the launch's words before and the run's words after: `cells` those of each group,

@@ -27,6 +27,18 @@ extern "C" {
         refusal: *mut RefusalWords,
     ) -> usize;
 
+    fn sekufoyi_pair_files(
+        filter: *const u8,
+        filter_length: usize,
+        trigger: *const u8,
+        trigger_length: usize,
+        common: *const u8,
+        common_length: usize,
+        output: *mut u8,
+        output_length: usize,
+        refusal: *mut RefusalWords,
+    ) -> usize;
+
     fn sekufoyi_bare_launch(
         table: *const u8,
         table_length: usize,
@@ -97,6 +109,31 @@ pub(crate) fn check_file(
             log.len(),
             records.as_mut_ptr(),
             records.len(),
+            output.as_mut_ptr(),
+            output.len(),
+            &mut refusal,
+        )
+    };
+    (length, refusal)
+}
+
+/// The length of both reports together, or the refusal.
+pub(crate) fn pair_files(
+    filter: &[u8],
+    trigger: &[u8],
+    common: &[u8],
+    output: &mut [u8],
+) -> (usize, RefusalWords) {
+    let mut refusal = [UNWRITTEN; 2];
+    // SAFETY: as in `check_file`. The three files are only read, so that two of them may be the same.
+    let length = unsafe {
+        sekufoyi_pair_files(
+            filter.as_ptr(),
+            filter.len(),
+            trigger.as_ptr(),
+            trigger.len(),
+            common.as_ptr(),
+            common.len(),
             output.as_mut_ptr(),
             output.len(),
             &mut refusal,

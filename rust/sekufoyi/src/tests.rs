@@ -959,6 +959,29 @@ fn a_race_between_groups_has_no_other_thread() {
 }
 
 #[test]
+fn the_report_of_a_common_cell_has_neither_another_nor_a_kind() {
+    let verdict = Verdict::Common {
+        row: 6,
+        group: 7,
+        thread: 1,
+        at: 65_791,
+    };
+    let outcome = Outcome {
+        verdict,
+        ..P1_OUTCOME
+    };
+    let due = P1_REPORT
+        .replace("verdict=race", "verdict=common")
+        .replace("group=0\nothergroup=0\n", "group=7\nothergroup=-\n")
+        .replace("other=0\nkind=rw\nat=1\n", "other=-\nkind=-\nat=65791\n");
+    let mut output = vec![0; due.len()];
+    let subject = Subject::Ran(outcome);
+    let answer = write_report(subject, &P1_STEPS, &[2, 1, 1], &[], &mut output);
+    assert_eq!(answer, Ok(due.len()));
+    assert_eq!(output, due.as_bytes());
+}
+
+#[test]
 fn the_longest_report_fits_the_room_for_every_report() {
     let most = u32::MAX;
     let race = Verdict::Race {
@@ -1042,6 +1065,12 @@ fn outcomes_come_back_from_their_words() {
     for verdict in [
         Verdict::Passed,
         Verdict::Outside {
+            row: 1,
+            group: 5,
+            thread: 2,
+            at: 3,
+        },
+        Verdict::Common {
             row: 1,
             group: 5,
             thread: 2,
@@ -1282,4 +1311,257 @@ fn a_file_leaves_global_cells_and_keeps_what_is_behind() {
     expected.output[..due.len()].copy_from_slice(due.as_bytes());
     assert_eq!(lent.check(&file), Ok(due.len()));
     assert!(lent == expected);
+}
+
+/// R8 is the first common cell's number, and R9 the one of the thread's number.
+const NUMBERS: [Row; 4] = [[2, 0, 0, 0], [1, 8, 0, 1], [6, 8, 8, 8], [4, 9, 8, 0]];
+/// Each thread loads its common cell and stores the word to its own cell.
+const LOOK_UP: [Row; 2] = [[16, 3, 9, 0], [17, 0, 3, 0]];
+const COMMON: &str = "common=2\ncell=70\ncell=4294967295\nend=common\n";
+
+/// A launch file of some threads, as many cells of 5, and rows behind those of the numbers.
+fn kernel(threads: usize, rows: &[Row]) -> String {
+    let rows = [&NUMBERS, rows].concat();
+    let lines: String = (rows.iter())
+        .map(|[op, d, a, b]| format!("row={op},{d},{a},{b}\n"))
+        .collect();
+    let (count, cells) = (rows.len(), "cell=5\n".repeat(threads));
+    format!("kernel=1\nthreads={threads}\ncells={threads}\ngroups=1\nglobal=0\nlimit=100\nrows={count}\n{lines}{cells}end=kernel\n")
+}
+
+/// The report of a kernel that passed with so many rows, all of them by all threads.
+fn passed(rows: u32, cells: &[u32]) -> String {
+    let steps = format!("steps={rows}\n").repeat(cells.len());
+    let cells: String = cells.iter().map(|n| format!("cell={n}\n")).collect();
+    format!(
+        "verdict=passed\nrow=-\ngroup=-\nothergroup=-\nthread=-\nother=-\nkind=-\nat=-\nrows={rows}\n{steps}\
+         barriers=0\nconflicts=0\n{cells}end=report\n"
+    )
+}
+
+/// The report of a kernel of two threads whose thread 0 is stopped in row 4.
+fn stopped(verdict: &str, at: u32) -> String {
+    format!(
+        "verdict={verdict}\nrow=4\ngroup=0\nothergroup=-\nthread=0\nother=-\nkind=-\nat={at}\nrows=4\nsteps=4\nsteps=4\n\
+         barriers=0\nconflicts=0\ncell=5\ncell=5\nend=report\n"
+    )
+}
+
+fn refusal(number: u32, place: u32) -> String {
+    format!("refused={number}\nplace={place}\nend=report\n")
+}
+
+/// Both reports, in outputs of several sizes. What is behind them must be kept.
+fn paired(filter: &str, trigger: &str, common: &str) -> String {
+    let files = [filter, trigger, common].map(str::as_bytes);
+    let found = [PAIR_ROOM, PAIR_ROOM + 1, 70_001].map(|room| {
+        let mut output = vec![0xff; room];
+        let (length, words) = raw::pair_files(files[0], files[1], files[2], &mut output);
+        assert_eq!(words, [0, 0]);
+        let behind = output.split_off(length);
+        assert!(behind.iter().all(|&byte| byte == 0xff), "{room} bytes");
+        String::from_utf8(output).expect("reports are ASCII")
+    });
+    assert!(found.iter().all(|reports| *reports == found[0]));
+    found[0].clone()
+}
+
+#[test]
+fn two_kernels_load_from_one_table() {
+    let (two, one) = (kernel(2, &LOOK_UP), kernel(1, &LOOK_UP));
+    let reports = [passed(6, &[70, u32::MAX]), passed(6, &[70])];
+    assert_eq!(paired(&two, &one, COMMON), reports.concat());
+    // The same file for both.
+    let reports = [&reports[0], &reports[0]].map(String::as_str);
+    assert_eq!(paired(&two, &two, COMMON), reports.concat());
+}
+
+#[test]
+fn a_trigger_that_stores_into_the_table_leaves_the_filter_its_report() {
+    let (filter, report) = (kernel(2, &LOOK_UP), passed(6, &[70, u32::MAX]));
+    for (rows, stop) in [
+        (&[[17, 8, 0, 0]][..], stopped("common", 65_536)),
+        (&[[18, 8, 0, 0]], stopped("common", 65_536)),
+        (&[[17, 9, 3, 0]], stopped("common", 65_536)),
+        // Nothing is added.
+        (&[[18, 8, 15, 0]], stopped("common", 65_536)),
+        // Global accesses have numbers of their own.
+        (&[[20, 3, 8, 0]], stopped("outside", 65_536)),
+        (&[[21, 8, 3, 0]], stopped("outside", 65_536)),
+        (&[[22, 8, 3, 0]], stopped("outside", 65_536)),
+    ] {
+        let trigger = kernel(2, rows);
+        assert_eq!(
+            paired(&filter, &trigger, COMMON),
+            format!("{report}{stop}"),
+            "{rows:?}"
+        );
+        assert_eq!(
+            paired(&trigger, &filter, COMMON),
+            format!("{stop}{report}"),
+            "{rows:?}"
+        );
+    }
+}
+
+#[test]
+fn numbers_before_and_behind_the_common_ones_are_outside() {
+    let (before, behind) = ([5, 8, 8, 7], [4, 8, 8, 7]);
+    for access in [[16, 3, 8, 0], [17, 8, 3, 0], [18, 8, 3, 0]] {
+        let inside = if access[0] == 16 { "passed" } else { "common" };
+        for (next, common, verdict, at) in [
+            (before, 2, "outside", "65535"),
+            (behind, 2, inside, "65537"),
+            (behind, 1, "outside", "65537"),
+            (behind, 0, "outside", "65537"),
+        ] {
+            let kernel = kernel(2, &[[1, 7, 1, 0], next, access]);
+            let cells = "cell=7\n".repeat(common);
+            let common = format!("common={common}\n{cells}end=common\n");
+            let reports = paired(&kernel, &kernel, &common);
+            let (row, group, thread, at) = match verdict {
+                "passed" => ("-", "-", "-", "-"),
+                _ => ("6", "0", "0", at),
+            };
+            let due = format!("verdict={verdict}\nrow={row}\ngroup={group}\nothergroup=-\nthread={thread}\nother=-\nkind=-\nat={at}\nrows=");
+            assert!(reports.starts_with(&due), "{access:?}, {common}: {reports}");
+        }
+    }
+}
+
+#[test]
+fn a_launch_alone_has_no_common_cells() {
+    for access in [[16, 3, 8, 0], [17, 8, 0, 0], [18, 8, 0, 0]] {
+        let due = stopped("outside", 65_536);
+        let mut lent = Lent::for_file();
+        assert_eq!(lent.check(&kernel(2, &[access])), Ok(due.len()));
+        assert_eq!(&lent.output[..due.len()], due.as_bytes());
+        let table = [&NUMBERS[..], &[access]].concat().concat();
+        let (outcome, _) = launched(&table, [2, 2, 1, 0, 100]);
+        assert_eq!(outcome, [3, 4, 0, 0, 0, 0, 0, 65_536, 4, 0, 0]);
+    }
+}
+
+#[test]
+fn common_loads_cost_no_conflict_and_race_with_nobody() {
+    // All threads load at a stride of 16, at which own cells would all be in one bank; then one cell; then each stores to its own.
+    let stride = [[1, 7, 16, 0], [6, 7, 7, 0], [4, 7, 7, 8], [16, 3, 7, 0]];
+    let rows = [&stride[..], &[[16, 4, 8, 0], [17, 0, 3, 0]]].concat();
+    let words: Vec<u32> = (0..256).map(|cell| 7 * cell + 1).collect();
+    let cells: String = words.iter().map(|n| format!("cell={n}\n")).collect();
+    let common = format!("common=256\n{cells}end=common\n");
+    let left: Vec<u32> = words.iter().copied().step_by(16).collect();
+    let report = passed(10, &left);
+    let kernel = kernel(16, &rows);
+    assert_eq!(
+        paired(&kernel, &kernel, &common),
+        [&report[..], &report].concat()
+    );
+}
+
+#[test]
+fn a_refused_kernel_leaves_the_other_its_report() {
+    let (sound, report) = (kernel(2, &LOOK_UP), passed(6, &[70, u32::MAX]));
+    let too_long = sound.clone() + &" ".repeat(32_768);
+    for (file, number, place) in [
+        ("", 11, 1),
+        ("kernel=1\nthreads=33\n", 8, 2),
+        ("kernel=1\nthreads=1\ncells=1\ngroups=9\n", 32, 4),
+        (&kernel(2, &[[99, 0, 0, 0]]), 3, 4),
+        (&too_long, 12, 0),
+        // A common file is no launch file.
+        (COMMON, 11, 1),
+    ] {
+        let refused = refusal(number, place);
+        assert_eq!(paired(file, &sound, COMMON), refused.clone() + &report);
+        assert_eq!(paired(&sound, file, COMMON), report.clone() + &refused);
+        assert_eq!(paired(file, file, COMMON), refused.repeat(2));
+    }
+}
+
+#[test]
+fn a_bad_common_file_refuses_both_but_a_kernels_own_refusal_is_told_first() {
+    let sound = kernel(2, &LOOK_UP);
+    let many = format!("common=257\n{}end=common\n", "cell=1\n".repeat(257));
+    for (common, line) in [
+        ("", 1),
+        ("common=0", 1),
+        ("common=257\n", 1),
+        (&many, 1),
+        ("common=01\ncell=7\nend=common\n", 1),
+        (&sound, 1),
+        ("common=1\n", 2),
+        ("common=1\ncell=4294967296\nend=common\n", 2),
+        ("common=2\ncell=7\nend=common\n", 3),
+        ("common=0\ncell=7\nend=common\n", 2),
+        ("common=1\ncell=7\nend=kernel\n", 3),
+        ("common=1\ncell=7\nend=common", 3),
+        ("common=1\ncell=7\nend=common\n\n", 4),
+    ] {
+        let bad = refusal(37, line);
+        assert_eq!(paired(&sound, &sound, common), bad.repeat(2), "{common}");
+        let own = refusal(8, 2);
+        let refused = "kernel=1\nthreads=33\n";
+        assert_eq!(paired(refused, &sound, common), own.clone() + &bad);
+        assert_eq!(paired(&sound, refused, common), bad + &own);
+        assert_eq!(paired(refused, refused, common), own.repeat(2));
+    }
+}
+
+#[test]
+fn pair_files_refuses_a_short_output_and_leaves_it() {
+    let sound = kernel(2, &LOOK_UP);
+    for room in [0, 1, 24_575, 24_576, 24_577, 49_151] {
+        // Whatever the files are.
+        for files in [[&sound, &sound, COMMON], [&sound, "", COMMON], ["", "", ""]] {
+            let [filter, trigger, common] = files.map(str::as_bytes);
+            let mut lent = Lent::new(0, 0, room);
+            let before = lent.clone();
+            let answer = pair_files(filter, trigger, common, &mut lent.output);
+            assert_eq!(answer, refused(24, 0), "{room}");
+            assert!(lent == before, "{room}");
+            let words = raw::pair_files(filter, trigger, common, &mut lent.output);
+            assert_eq!(words, (0, [24, 0]), "{room}");
+        }
+    }
+}
+
+#[test]
+fn the_first_4119_bytes_of_a_common_file_decide() {
+    let longest = format!(
+        "common=256\n{}end=common\n",
+        "cell=4294967295\n".repeat(256)
+    );
+    assert_eq!(longest.len(), 4_118);
+    let sound = kernel(2, &LOOK_UP);
+    let report = passed(6, &[u32::MAX; 2]);
+    assert_eq!(paired(&sound, &sound, &longest), report.repeat(2));
+    for more in ["\n", "x", "cell=1\n", &longest, &" ".repeat(40_000)] {
+        let common = longest.clone() + more;
+        let bad = refusal(37, 259).repeat(2);
+        assert_eq!(paired(&sound, &sound, &common), bad, "{more:.9}");
+    }
+    for length in [4_117, 4_107, 4_106] {
+        let line = if length < 4_107 { 257 } else { 258 };
+        let bad = refusal(37, line).repeat(2);
+        assert_eq!(
+            paired(&sound, &sound, &longest[..length]),
+            bad,
+            "{length} bytes"
+        );
+    }
+}
+
+#[test]
+fn the_longest_two_reports_fit_the_room_for_every_two() {
+    // All steps are 0, of ten digits at most; everything else is as long as it can be.
+    let cells = format!("cell={}\n", u32::MAX).repeat(1_024);
+    let file = format!(
+        "kernel=1\nthreads=32\ncells=128\ngroups=8\nglobal=0\nlimit=0\nrows=0\n{cells}end=kernel\n"
+    );
+    let reports = paired(&file, &file, COMMON);
+    assert!(reports.len() <= PAIR_ROOM - 2 * 256 * 9);
+    let (first, second) = reports.split_at(reports.len() / 2);
+    assert_eq!(first, second);
+    assert!(first.starts_with("verdict=passed\n") && first.ends_with("\nend=report\n"));
 }

@@ -1,7 +1,8 @@
 //! A slow lock-step run: thread by thread, the costs cell by cell, the records
 //! as item 5 tells them, of each cell all values stored, as item 6 does, and of
-//! each global cell all accesses of all groups, as item 7 does. It can also make
-//! one of the mistakes that are likely.
+//! each global cell all accesses of all groups, as item 7 does; over the common
+//! cells of item 12, if there are any. It can also make one of the mistakes that
+//! are likely.
 #![allow(dead_code)]
 
 mod cells;
@@ -9,7 +10,7 @@ mod rule;
 
 use std::collections::BTreeSet;
 
-use checker::{op, INTERVAL_RECORDS};
+use checker::{op, Outcome, Verdict, INTERVAL_RECORDS};
 
 use cells::{Cells, Uses};
 pub use rule::Rule;
@@ -23,6 +24,22 @@ pub struct Launch<'a> {
     pub limit: u32,
     pub cells: &'a [u32],
     pub global: &'a [u32],
+    pub common: &'a [u32],
+}
+
+impl<'a> Launch<'a> {
+    /// Of a file, over these common cells.
+    pub fn of_file(launch: &'a checker::Launch, common: &'a [u32]) -> Self {
+        Self {
+            rows: launch.table.as_chunks().0,
+            threads: launch.threads as usize,
+            groups: launch.groups as usize,
+            limit: launch.limit,
+            cells: &launch.cells,
+            global: &launch.global,
+            common,
+        }
+    }
 }
 
 impl<'a> From<&'a generator::Plan> for Launch<'a> {
@@ -34,9 +51,13 @@ impl<'a> From<&'a generator::Plan> for Launch<'a> {
             limit: plan.limit,
             cells: &plan.cells,
             global: &plan.global,
+            common: &[],
         }
     }
 }
+
+/// The number of the first common cell.
+pub const COMMON: usize = 65_536;
 
 /// An access row that was run, or the one that stopped the run.
 pub struct Access {
@@ -44,7 +65,7 @@ pub struct Access {
     pub group: usize,
     /// To global cells.
     pub global: bool,
-    /// Each thread that acted, with its cell.
+    /// Each thread that acted, with its cell or common cell.
     pub used: Vec<(usize, usize)>,
     /// What each of them stored, loaded or added.
     pub words: Vec<u32>,
@@ -59,6 +80,17 @@ impl Access {
     pub fn cells(&self) -> BTreeSet<usize> {
         self.used.iter().map(|&(_, cell)| cell).collect()
     }
+
+    /// The different cells that are no common ones.
+    pub fn own_cells(&self) -> BTreeSet<usize> {
+        let own = self.used.iter().map(|&(_, cell)| cell);
+        own.filter(|&cell| cell < COMMON).collect()
+    }
+
+    /// Whether a common cell was loaded.
+    pub fn is_common(&self) -> bool {
+        !self.global && self.used.iter().any(|&(_, cell)| cell >= COMMON)
+    }
 }
 
 /// Where and how the run ended, as the report has it; none for a hyphen.
@@ -71,6 +103,62 @@ pub struct Stop {
     pub other: Option<usize>,
     pub kind: Option<String>,
     pub at: Option<u32>,
+}
+
+/// The verdict's name, and where and how the run ended.
+pub fn ended(outcome: &Outcome) -> (&'static str, Stop) {
+    let numbered = |number: u32| Some(number as usize);
+    let at_row = |row: u32| Stop {
+        row: numbered(row),
+        group: numbered(outcome.group),
+        ..Stop::default()
+    };
+    match outcome.verdict {
+        Verdict::Passed => ("passed", Stop::default()),
+        Verdict::Race {
+            row,
+            other_group,
+            thread,
+            other,
+            kind,
+            at,
+        } => {
+            let stop = Stop {
+                other_group: numbered(other_group),
+                thread: numbered(thread),
+                other: other.map(|other| other as usize),
+                kind: Some(format!("{kind:?}").to_lowercase()),
+                at: Some(at),
+                ..at_row(row)
+            };
+            ("race", stop)
+        }
+        Verdict::Outside { row, thread, at } => {
+            let stop = Stop {
+                thread: numbered(thread),
+                at: Some(at),
+                ..at_row(row)
+            };
+            ("outside", stop)
+        }
+        Verdict::Common { row, thread, at } => {
+            let stop = Stop {
+                thread: numbered(thread),
+                at: Some(at),
+                ..at_row(row)
+            };
+            ("common", stop)
+        }
+        Verdict::Diverged { row, thread, other } => {
+            let stop = Stop {
+                thread: numbered(thread),
+                other: numbered(other),
+                ..at_row(row)
+            };
+            ("diverged", stop)
+        }
+        Verdict::Spent { row } => ("spent", at_row(row)),
+    }
 }
 
 /// What a launch came to.
@@ -185,6 +273,8 @@ struct Machine<'a> {
     own_barriers: usize,
     steps: Vec<u32>,
     records: Vec<[u32; 3]>,
+    /// The access row before: who used which cell, and its cost.
+    before: (Vec<(usize, usize)>, u32),
 }
 
 impl<'a> Machine<'a> {
@@ -207,6 +297,7 @@ impl<'a> Machine<'a> {
             own_barriers: 0,
             steps: vec![0; launch.groups * launch.threads],
             records: vec![[0, 0, 0]; first],
+            before: (vec![], 0),
         }
     }
 
@@ -335,11 +426,17 @@ impl<'a> Machine<'a> {
             access @ [op::LOAD..=op::ATOMIC_ADD | op::GLOBAL_LOAD..=op::GLOBAL_ADD, ..] => {
                 let (seen, stop) = self.access(row, access);
                 if !seen.global || self.rule == Rule::GlobalBanked {
-                    done.paid = cost(&seen.cells());
+                    done.paid = self.paid(&seen);
                 }
-                self.step(seen.used.iter().map(|&(thread, _)| thread));
+                let all_step = self.rule != Rule::CommonUnstepped;
+                let stepping = seen.used.iter();
+                let stepping = stepping.filter(|&&(_, cell)| all_step || cell < COMMON);
+                self.step(stepping.map(|&(thread, _)| thread));
                 see(seen);
-                stop.map_or(Ok(()), Err)?;
+                if let Some(verdict) = stop {
+                    self.stop_wrongly(verdict);
+                    return Err(verdict);
+                }
             }
             [op::BARRIER, ..] if present == 0 => {}
             [op::BARRIER, ..] if present == self.launch.threads => done.released = true,
@@ -354,6 +451,50 @@ impl<'a> Machine<'a> {
             }
         }
         Ok(done)
+    }
+
+    /// What an access row costs: own cells only are in banks.
+    fn paid(&mut self, seen: &Access) -> u32 {
+        match self.rule {
+            Rule::CommonBanked => cost(&seen.cells()),
+            Rule::MixedUncharged if seen.is_common() => 0,
+            Rule::CostRemembered => self.paid_as_before(seen),
+            _ => cost(&seen.own_cells()),
+        }
+    }
+
+    /// What the row before has cost, where it lies at one distance from this one.
+    fn paid_as_before(&mut self, seen: &Access) -> u32 {
+        let (before, paid_before) = std::mem::take(&mut self.before);
+        let shifted = |(now, then): (&(usize, usize), &(usize, usize))| {
+            let shift = seen.used[0].1.wrapping_sub(before[0].1);
+            now.0 == then.0 && now.1.wrapping_sub(then.1) == shift
+        };
+        let same = before.len() == seen.used.len() && seen.used.iter().zip(&before).all(shifted);
+        let paid = match same {
+            true => paid_before,
+            false => cost(&seen.own_cells()),
+        };
+        self.before = (seen.used.clone(), paid);
+        paid
+    }
+
+    /// What is counted by mistake where a run stops.
+    fn stop_wrongly(&mut self, verdict: &str) {
+        let (Some(thread), "common") = (self.stop.thread, verdict) else {
+            return;
+        };
+        match self.rule {
+            Rule::CommonStopSteps => self.step([thread]),
+            Rule::CommonStopCounts => {
+                self.rows += 1;
+                self.records.last_mut().unwrap()[1] += 1;
+            }
+            Rule::CommonFromZero => {
+                self.stop.at = self.stop.at.map(|at| at.wrapping_sub(COMMON as u32));
+            }
+            _ => {}
+        }
     }
 
     /// A row of a construct; gives the row due then.
@@ -427,13 +568,15 @@ impl<'a> Machine<'a> {
             finished: false,
             interval: self.barriers as usize,
         };
-        for t in self.enabled.clone() {
+        for mut t in self.in_turn(global, bytes) {
             let word = self.registers[t][a as usize];
-            let at = match code {
-                op::LOAD => word,
-                _ => self.registers[t][d as usize],
-            };
-            if let Some((verdict, stop)) = self.one_access(global, code, (t, at, word), d) {
+            let mut at = self.number(code, t, bytes);
+            if let Some((mut verdict, mut stop)) = self.one_access(global, code, (t, at, word), d) {
+                if self.rule == Rule::RaceFirst && verdict == "common" {
+                    if let Some((thread, cell, race)) = self.race_above(code, t, bytes) {
+                        (verdict, stop, t, at) = ("race", race, thread, cell);
+                    }
+                }
                 let (row, thread) = (Some(row), Some(self.shown(t)));
                 self.stop = Stop {
                     row,
@@ -453,6 +596,84 @@ impl<'a> Machine<'a> {
         (seen, None)
     }
 
+    /// The number that a thread's access uses.
+    fn number(&self, code: u8, t: usize, [_, d, a, _]: [u8; 4]) -> u32 {
+        let register = if code == op::LOAD { a } else { d };
+        self.registers[t][register as usize]
+    }
+
+    /// The enabled threads, lowest first, but for a mistake.
+    fn in_turn(&self, global: bool, bytes: [u8; 4]) -> Vec<usize> {
+        let mut threads: Vec<usize> = self.enabled.iter().copied().collect();
+        if self.rule == Rule::CommonFirst && !global && bytes[0] != op::LOAD {
+            let own = |t: &usize| {
+                let at = self.number(bytes[0], *t, bytes);
+                self.common_cell(false, bytes[0], at).is_none()
+            };
+            threads.sort_by_key(own);
+        }
+        threads
+    }
+
+    /// The lowest thread above one that would race in a row, with its cell.
+    fn race_above(&mut self, code: u8, t: usize, bytes: [u8; 4]) -> Option<(usize, u32, Stop)> {
+        let above: Vec<usize> = self.enabled.range(t + 1..).copied().collect();
+        above.into_iter().find_map(|other| {
+            let (at, word) = (
+                self.number(code, other, bytes),
+                self.registers[other][bytes[2] as usize],
+            );
+            let there = (at as usize) < self.bound(false);
+            let race = there.then(|| self.conflict(false, code, (other, at as usize, word)));
+            race.flatten().map(|stop| (other, at, stop))
+        })
+    }
+
+    /// Which common cell a number is, if it is one.
+    fn common_cell(&self, global: bool, code: u8, at: u32) -> Option<usize> {
+        if global && self.rule != Rule::GlobalIsCommon {
+            return None;
+        }
+        let count = self.launch.common.len();
+        let above = (at as usize).checked_sub(COMMON);
+        match self.rule {
+            Rule::CommonFrom65535 if at == 65_535 && count > 0 => Some(0),
+            Rule::CommonUpToCount => above.filter(|&cell| cell <= count),
+            Rule::CommonUpTo256 => above.filter(|&cell| cell < 256),
+            Rule::FarIsCommon if code != op::LOAD => above,
+            Rule::CommonByLowBits => above.map(|cell| cell % COMMON).filter(|&cell| cell < count),
+            _ => above.filter(|&cell| cell < count),
+        }
+    }
+
+    /// An access at a number of no own cell, or of no global one.
+    fn beyond(
+        &mut self,
+        global: bool,
+        code: u8,
+        (t, at): (usize, u32),
+        d: u8,
+    ) -> Option<(&'static str, Stop)> {
+        let outside = Some(("outside", Stop::default()));
+        let Some(cell) = self.common_cell(global, code, at) else {
+            return outside;
+        };
+        let stops = code != op::LOAD || self.rule == Rule::CommonLoadStops;
+        match self.rule {
+            Rule::CommonWritten if stops => return None,
+            Rule::CommonIsOutside if stops => return outside,
+            _ if stops => return Some(("common", Stop::default())),
+            Rule::CommonLogged => {
+                let own = self.own_cells();
+                let entered = cell % own.words.len();
+                own.act(Rule::Right, op::LOAD, t, entered, 0);
+            }
+            _ => {}
+        }
+        self.registers[t][d as usize] = self.launch.common.get(cell).copied().unwrap_or(0);
+        None
+    }
+
     /// One thread's access: the thread, the cell's number, and Ra. Gives how it
     /// stops the run, if it does.
     fn one_access(
@@ -464,7 +685,7 @@ impl<'a> Machine<'a> {
     ) -> Option<(&'static str, Stop)> {
         let cell = at as usize;
         if cell >= self.bound(global) {
-            return Some(("outside", Stop::default()));
+            return self.beyond(global, code, (t, at), d);
         }
         let there = if global {
             self.global.words.len()

@@ -1,7 +1,8 @@
 //! The rules that the slow run goes by: the right ones, or one mistake with equal
-//! stores (item 6) or with groups and global cells (item 7).
+//! stores (item 6), with groups and global cells (item 7) or with common cells
+//! (item 12).
 
-/// Items 6 and 7 as they are, or with one mistake.
+/// Items 6, 7 and 12 as they are, or with one mistake.
 #[derive(Clone, Copy, Debug, PartialEq, Eq)]
 pub enum Rule {
     Right,
@@ -111,6 +112,45 @@ pub enum Rule {
     LogOwnFirst,
     /// Own cells have group masks too.
     OwnGroupMasks,
+    /// A common load enters the reader mask of an own cell.
+    CommonLogged,
+    /// A common load is charged to a bank.
+    CommonBanked,
+    /// A row with a common load costs nothing, though own cells are used too.
+    MixedUncharged,
+    /// A row at one distance from the one before costs what that one did.
+    CostRemembered,
+    /// A common load is no step.
+    CommonUnstepped,
+    /// 65,535 is a common cell's number too.
+    CommonFrom65535,
+    /// The number behind the last common cell is one too.
+    CommonUpToCount,
+    /// All of 256 numbers are common cells', however many there are.
+    CommonUpTo256,
+    /// A store or add at 65,536 or any number above is one to a common cell.
+    FarIsCommon,
+    /// Of numbers from 65,536 on only the low 16 bits are looked at.
+    CommonByLowBits,
+    /// A store or add to a common cell is outside.
+    CommonIsOutside,
+    /// A store or add to a common cell is let through, and does nothing.
+    CommonWritten,
+    /// A load of a common cell stops as a store does.
+    CommonLoadStops,
+    /// A race of a higher thread in the row is told first.
+    RaceFirst,
+    /// A common cell's number is told before own cells are used, by any thread
+    /// of the row.
+    CommonFirst,
+    /// The verdict's number counts from the first common cell.
+    CommonFromZero,
+    /// The thread that stops at a common cell steps.
+    CommonStopSteps,
+    /// The row that stops at a common cell is one of the rows run.
+    CommonStopCounts,
+    /// Global accesses reach common cells.
+    GlobalIsCommon,
 }
 
 /// The values stored to a cell, in their order.
