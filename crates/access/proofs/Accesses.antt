@@ -28,7 +28,8 @@ use Rattle.masks.proofs.Words.{any-none, any-some, lowest-is}
 use Rattle.layout.specs.declared.Access.{Access}
 use Rattle.layout.specs.declared.Access.the-variants.{Done, Stop}
 use Rattle.layout.specs.declared.Halt.{Halt}
-use Rattle.layout.specs.Memory.{Regs, LogIs, Memory, Kept, Did, OneTurn, AccessOne, KeptBut, AccessAsks, shapeBy, cellBy, Transferred, CellRegister, CellNumber, TestAsks, goesOn, takesCommon, TurnMade, Halted}
+use Rattle.layout.specs.Memory.{Regs, LogIs, Memory, Kept, Did, OneTurn, AccessOne, KeptBut, AccessAsks, shapeBy, cellBy, Transferred}
+use Rattle.layout.specs.Memory.{CellRegister, CellNumber, TestAsks, goesOn, takesCommon, TurnMade, Halted}
 use Rattle.layout.proofs.Buffers.{regs-set}
 use Rattle.layout.specs.Logging.{testedWord, kindWord, enteredWords}
 use Rattle.layout.proofs.LogBuffer.{conflict-size}

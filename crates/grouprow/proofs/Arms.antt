@@ -151,7 +151,8 @@ module _ (table ends : List ℕ) (n group : ℕ) (s : State) (regs cells log sav
       compute-is high r regs′ D =
           let own : 18 < byte → byte < 32 → ⊥ = λ h l. omega (arith, high) in
           own-row-is own r regs′ cells log saved openers counts records stamps memo shared
-          (compute-row-is table ends n group s common regs cells log saved openers counts stamps memo records shared (own-ready own) C O M (x .d) (x .a) (x .b) (X .d-is) (X .a-is) (X .b-is) high r regs′ D)
+          (compute-row-is table ends n group s common regs cells log saved openers counts stamps memo records shared (own-ready own) C O M
+          (x .d) (x .a) (x .b) (X .d-is) (X .a-is) (X .b-is) high r regs′ D)
 
       pub construct-is : 32 ≤ byte → byte < 37
           → (r : Next) (saved′ openers′ counts′ : List ℕ) → ConstructCounted byte (x .a) (getD ends (s .row) 0) s regs saved openers counts r saved′ openers′ counts′

@@ -37,7 +37,8 @@ module _ (Z : Sizes) (limit : ℕ) {rows count shared : ℕ} {rest table cells g
   contents-refused e h = refuses (C .answer Z limit c g ∙ rw e) h
 
   -- without common cells
-  pub contents-accepted : (plain : Z ≡ sizes (Z .threads) (Z .cells) (Z .groups) (Z .global)) → r ≡ Accepted → table ≡ replicate 1024 0 → cells ≡ replicate 1024 0 → global ≡ replicate 1024 0 → Within Z limit rows
+  pub contents-accepted : (plain : Z ≡ sizes (Z .threads) (Z .cells) (Z .groups) (Z .global))
+      → r ≡ Accepted → table ≡ replicate 1024 0 → cells ≡ replicate 1024 0 → global ≡ replicate 1024 0 → Within Z limit rows
       → ReadAs (contentLines Z limit rows (2 + lineCount) rest)
       (record {
         answer = Accepted;

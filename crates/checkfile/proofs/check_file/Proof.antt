@@ -60,20 +60,27 @@ global-fits c = let at = c .before .before .before .before .before .before .befo
 global-long : tie.Need-slice-aggregate-report-launch-4
 global-long c = let at = c .before .before .before .before .before .before .before .before .before .before .before .before in global-length (file-of at) (launch-of at) (ends-of at) (found at)
 
+-- The way back from where the buffers are found to have room.
+abbrev told-at : tie.After-enum-told2 → tie.After-enum-told
+told-at c = c .before .before .before
+
 report-launch-requires : tie.Need-report-launch-requires
 report-launch-requires c κs =
-    let at = c .before .before .before .before .before .before .before .before .before .before .before .before .before .before .before .before .before in
+    let state = c .before .before .before .before .before .before .before .before .before .before .before .before .before .before in
+    let at = told-at state in
     let args = at .before .before .before .before .before .before .before .before .before .before .before .args in
     let lent = roomy (args .file .now) (args .cells .now) (args .global .now) (args .log .now) (args .records .now) (args .output .now)
-    (sym (c .before .before .before .before .before .before .before .before .before .before .before .before .before .before .before .before .lent-for-file .ensures) ∙ ap refusalOf (c .before .before .before .before .before .before .before .before .before .before .before .before .before .before .enum-told2 .given .1)) in
+    (sym (state .before .before .lent-for-file .ensures) ∙ ap refusalOf (state .enum-told2 .given .1)) in
     (found-runs (file-of at) (launch-of at) (ends-of at) (found at) _ (omega arith), lent .0, lent .1)
 
 returns-3 : tie.Need-returns-3
 returns-3 c =
-    let at = c .before .before .before .before .before .before .before .before .before .before .before .before .before .before .before .before .before .before .before .before .before .before .before .before .before .before .before .before in
+    let at-run = c .before .before .before .before .before .before .before .before .before .before in
+    let state = at-run .before .before .before .before .before .before .before .before .before .before .before .before .before .before .before in
+    let at = told-at state in
     let args = at .before .before .before .before .before .before .before .before .before .before .before .args in
     ran (args .file .now) (args .cells .now) (args .global .now) (args .log .now) (args .records .now) (args .output .now) (launchIn (launch-of at)) _ _ _ _ _ _
-    (found at .launch-is) (sym (c .before .before .before .before .before .before .before .before .before .before .before .before .before .before .before .before .before .before .before .before .before .before .before .before .before .before .before .lent-for-file .ensures) ∙ ap refusalOf (c .before .before .before .before .before .before .before .before .before .before .before .before .before .before .before .before .before .before .before .before .before .before .before .before .before .enum-told2 .given .1)) (c .before .before .before .before .before .before .before .before .before .before .report-launch .ensures)
+    (found at .launch-is) (sym (state .before .before .lent-for-file .ensures) ∙ ap refusalOf (state .enum-told2 .given .1)) (at-run .report-launch .ensures)
 
 pub check-file-spec : {M : Type 1} → statement M
 check-file-spec =

@@ -97,7 +97,8 @@ finish-requires c κs =
     let at-turn = c .before .before .before .before .before in
     let start = start-of at-turn in
     let args = start .args in
-    go-room (args .table .now) (args .ends .now) (args .n) (args .group) (args .limit) (args .common .now) _ _ _ _ _ _ _ _ _ _ _ _ _ _ _ _ _ _ (going at-turn) (start .pre .0) (at-turn .loop .s .since) (omega
+    go-room (args .table .now) (args .ends .now) (args .n) (args .group) (args .limit) (args .common .now)
+    _ _ _ _ _ _ _ _ _ _ _ _ _ _ _ _ _ _ (going at-turn) (start .pre .0) (at-turn .loop .s .since) (omega
     arith) (start .pre .4)
 
 same-length : tie.Need-same-length Inv-loop μ-loop
@@ -127,7 +128,8 @@ returns c =
     let inside = c .before .before .before .before .if1 .taken in
     let finish = c .finish in
     λ L z S whole lent more B.
-    go-spent (args .table .now) (args .ends .now) (args .n) (args .group) (args .limit) (args .common .now) L _ whole lent more _ _ _ _ _ _ _ _ _ _ _ _ _ (at-turn .loop .inv .6 L z S whole lent more B) (start
+    go-spent (args .table .now) (args .ends .now) (args .n) (args .group) (args .limit) (args .common .now)
+    L _ whole lent more _ _ _ _ _ _ _ _ _ _ _ _ _ (at-turn .loop .inv .6 L z S whole lent more B) (start
     .pre .0) inside spent (finish .result) (finish .last .0)
     (finish .ensures .0) (finish .ensures .1)
 
@@ -139,13 +141,16 @@ group-row-requires c κs =
     let unspent = c .before .before .before .before .before .before .before .before .before .before .before .before .if2 .left in
     let inside = c .before .before .before .before .before .before .before .before .before .before .before .before .before .before .if1 .taken in
     let G = going at-turn in (
-      go-ready (args .table .now) (args .ends .now) (args .n) (args .group) (args .limit) (args .common .now) _ _ _ _ _ _ _ _ _ _ _ _ _ _ _ _ _ _ G (start .pre .0) inside unspent (start .pre .1) (start .pre .3)
+      go-ready (args .table .now) (args .ends .now) (args .n) (args .group) (args .limit) (args .common .now)
+          _ _ _ _ _ _ _ _ _ _ _ _ _ _ _ _ _ _ G (start .pre .0) inside unspent (start .pre .1) (start .pre .3)
           (start .pre .4) (sizes at-turn),
-      go-room (args .table .now) (args .ends .now) (args .n) (args .group) (args .limit) (args .common .now) _ _ _ _ _ _ _ _ _ _ _ _ _ _ _ _ _ _ G (start .pre .0) (at-turn .loop .s .since + 1) (omega arith)
+      go-room (args .table .now) (args .ends .now) (args .n) (args .group) (args .limit) (args .common .now)
+          _ _ _ _ _ _ _ _ _ _ _ _ _ _ _ _ _ _ G (start .pre .0) (at-turn .loop .s .since + 1) (omega arith)
           (start .pre .4),
       G .older,
       G .remembered,
-      go-asks (args .table .now) (args .ends .now) (args .n) (args .group) (args .limit) (args .common .now) _ _ _ _ _ _ _ _ _ _ _ _ _ _ _ _ _ _ G (start .pre .0) unspent (start .pre .4) (records-lent at-turn),
+      go-asks (args .table .now) (args .ends .now) (args .n) (args .group) (args .limit) (args .common .now)
+          _ _ _ _ _ _ _ _ _ _ _ _ _ _ _ _ _ _ G (start .pre .0) unspent (start .pre .4) (records-lent at-turn),
     )
 
 loop-less : tie.Need-loop-less Inv-loop μ-loop
@@ -180,7 +185,8 @@ loop-again c =
       kept .1 .1 .1 .1 .1 .0 ∙ inv .4,
       kept .1 .1 .1 .1 .1 .1 .1 .1 .1 .1 .1 .0 ∙ inv .5,
       (λ L z S whole lent more B.
-          go-next (args .table .now) (args .ends .now) (args .n) (args .group) (args .limit) (args .common .now) L _ whole lent more _ _ _ _ _ _ _ _ _ _ _ _ _ (inv .6 L z S whole lent more B) (start .pre .0)
+          go-next (args .table .now) (args .ends .now) (args .n) (args .group) (args .limit) (args .common .now)
+          L _ whole lent more _ _ _ _ _ _ _ _ _ _ _ _ _ (inv .6 L z S whole lent more B) (start .pre .0)
           inside unspent (sizes at-turn .cells-few) (start .pre .8) (row .result)
           _ _ _ _ _ _ _ _ _ _ _ _ (row .ensures .0) (row .ensures .1) (row .ensures .2) _ (c .before .z .given .1)),
     )
@@ -202,7 +208,8 @@ stops c v s′ e L z S whole lent more B =
     let at-turn = c .before .before .before .before .before .before .before .before .before .before .before .before .before .before .before .before .before in
     let start = start-of at-turn in
     let args = start .args in
-    go-stops (args .table .now) (args .ends .now) (args .n) (args .group) (args .limit) (args .common .now) L _ whole lent more _ _ _ _ _ _ _ _ _ _ _ _ _ (at-turn .loop .inv .6 L z S whole lent more B) (start
+    go-stops (args .table .now) (args .ends .now) (args .n) (args .group) (args .limit) (args .common .now)
+    L _ whole lent more _ _ _ _ _ _ _ _ _ _ _ _ _ (at-turn .loop .inv .6 L z S whole lent more B) (start
     .pre .0) (c .before .before .before .before .before .before .before .before .before .before .before .before .before .before .before .if1 .taken) (c .before .before .before .before
     .before .before .before .before .before .before .before .before .before .if2 .left)
     (sizes at-turn .cells-few) (start .pre .8) (row .result) _ _ _ _ _ _ _ _ _ _ _ _ (row .ensures .0) (row .ensures .1) (row .ensures .2) v s′ e (start .pre .4)
@@ -268,7 +275,8 @@ finish-requires-3 c κs =
     let at-turn = c .before .before .before in
     let start = start-of at-turn in
     let args = start .args in
-    go-room (args .table .now) (args .ends .now) (args .n) (args .group) (args .limit) (args .common .now) _ _ _ _ _ _ _ _ _ _ _ _ _ _ _ _ _ _ (going at-turn) (start .pre .0) (at-turn .loop .s .since) (omega
+    go-room (args .table .now) (args .ends .now) (args .n) (args .group) (args .limit) (args .common .now)
+    _ _ _ _ _ _ _ _ _ _ _ _ _ _ _ _ _ _ (going at-turn) (start .pre .0) (at-turn .loop .s .since) (omega
     arith) (start .pre .4)
 
 same-length-13 : tie.Need-same-length-13 Inv-loop μ-loop
@@ -296,7 +304,8 @@ returns-3 c =
     let args = start .args in
     let finish = c .finish3 in
     λ L z S whole lent more B.
-    go-passed (args .table .now) (args .ends .now) (args .n) (args .group) (args .limit) (args .common .now) L _ whole lent more _ _ _ _ _ _ _ _ _ _ _ _ _ (at-turn .loop .inv .6 L z S whole lent more B) (start
+    go-passed (args .table .now) (args .ends .now) (args .n) (args .group) (args .limit) (args .common .now)
+    L _ whole lent more _ _ _ _ _ _ _ _ _ _ _ _ _ (at-turn .loop .inv .6 L z S whole lent more B) (start
     .pre .0) (c .before .before .if1 .left) (finish .result) (finish .last .0)
     (finish .ensures .0) (finish .ensures .1)
 

@@ -13,9 +13,10 @@ use Rattle.kernelreport.proofs.report_kernel.Tie as tie
 
 returns : tie.Need-returns
 returns c =
-    let args = c .before .before .before .before .before .before .before .before .before .before .before .before .before .args in
+    let at-answer = c .before .before .before .before .before in
+    let args = at-answer .before .before .before .before .before .before .before .before .args in
     own-refused (args .file .now) (args .found) (args .common .now) (args .output .now) _
-    (c .before .before .before .before .before .before .before .before .before .file-launch .ensures .turned-back _ (c .before .before .before .before .before .answer .given .1)) _ _ (c .before .before .report-refusal .ensures)
+    (at-answer .before .before .before .before .file-launch .ensures .turned-back _ (at-answer .answer .given .1)) _ _ (c .before .before .report-refusal .ensures)
 
 -- The kernel's launch, once its own input is accepted.
 abbrev start-of : tie.After-enum-told → tie.Start
@@ -69,9 +70,10 @@ report-own-requires c κs =
 
 returns-3 : tie.Need-returns-3
 returns-3 c =
-    let at = c .before .before .before .before .before .before .before .before .before .before .before .before .before .before in
+    let accepted = c .before .before .before .before .before .before .before .before .before .before .before .before in
+    let at = accepted .before .before in
     let args = start-of at .args in
-    ran (args .file .now) (args .found) (args .common .now) (args .output .now) (launch-of at) (ends-of at) (found at) (c .before .before .before .before .before .before .before .before .before .before .before .before .enum-told2 .given .1) _ _
+    ran (args .file .now) (args .found) (args .common .now) (args .output .now) (launch-of at) (ends-of at) (found at) (accepted .enum-told2 .given .1) _ _
     (c .before .before .report-own .ensures)
 
 pub report-kernel-spec : {M : Type 1} → statement M

@@ -87,7 +87,9 @@ returns c =
     )
 
 next-thread : tie.Need-add-t Inv-loop μ-loop
-next-thread c = omega (arith, c .before .before .before .before .before .before .before .before .before .before .before .loop-test .taken, c .before .before .before .before .before .before .before .before .before .before .before .before .before .before .before .before .pre .1 .memory .few)
+next-thread c =
+    let at-test = c .before .before .before .before .before .before .before .before .before .before .before in
+    omega (arith, at-test .loop-test .taken, at-test .before .before .before .before .before .pre .1 .memory .few)
 
 loop-less : tie.Need-loop-less Inv-loop μ-loop
 loop-less c = omega (arith, c .before .before .before .before .before .before .before .before .before .before .before .loop-test .taken)

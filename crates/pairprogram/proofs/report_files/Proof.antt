@@ -6,23 +6,42 @@ use borrow.Author.Needs.{needs}
 use Rattle.pairprogram.proofs.report_files.Statement.{statement}
 use Rattle.pairprogram.proofs.report_files.Tie as tie
 
+-- From where all three files are read, the way back to each reading, and to how many bytes it gave.
+abbrev at-trigger : tie.After-known-told3 → tie.After-known-told2
+at-trigger c = c .before .before .before .before .before .before
+
+abbrev at-filter : tie.After-known-told3 → tie.After-known-told
+at-filter c = at-trigger c .before .before .before .before .before .before
+
 filter-read : tie.Need-array-share-prefix-filter
-filter-read c = bounds _ _ _ _ (c .before .before .before .before .before .before .before .before .before .before .before .before .before .before .before .before .read-named .ensures) (c .before .before .before .before .before .before .before .before .before .before .before .before .before .first .given .1) .1
+filter-read c =
+    let at = at-filter c in
+    bounds _ _ _ _ (at .before .before .before .before .read-named .ensures) (at .before .first .given .1) .1
 
 filter-shared : tie.Need-slice-aggregate-report-pair
-filter-shared c = sym (length-take-le _ _ (bounds _ _ _ _ (c .before .before .before .before .before .before .before .before .before .before .before .before .before .before .before .before .before .read-named .ensures) (c .before .before .before .before .before .before .before .before .before .before .before .before .before .before .first .given .1) .1))
+filter-shared c =
+    let at = at-filter (c .before) in
+    sym (length-take-le _ _ (bounds _ _ _ _ (at .before .before .before .before .read-named .ensures) (at .before .first .given .1) .1))
 
 trigger-read : tie.Need-array-share-prefix-trigger
-trigger-read c = bounds _ _ _ _ (c .before .before .before .before .before .before .before .before .before .before .before .read-named2 .ensures) (c .before .before .before .before .before .before .before .before .second .given .1) .1
+trigger-read c =
+    let at = at-trigger (c .before) in
+    bounds _ _ _ _ (at .before .before .before .before .read-named2 .ensures) (at .before .second .given .1) .1
 
 trigger-shared : tie.Need-slice-aggregate-report-pair-2
-trigger-shared c = sym (length-take-le _ _ (bounds _ _ _ _ (c .before .before .before .before .before .before .before .before .before .before .before .before .read-named2 .ensures) (c .before .before .before .before .before .before .before .before .before .second .given .1) .1))
+trigger-shared c =
+    let at = at-trigger (c .before .before) in
+    sym (length-take-le _ _ (bounds _ _ _ _ (at .before .before .before .before .read-named2 .ensures) (at .before .second .given .1) .1))
 
 common-read : tie.Need-array-share-prefix-common
-common-read c = bounds _ _ _ _ (c .before .before .before .before .before .before .read-named3 .ensures) (c .before .before .before .third .given .1) .1
+common-read c =
+    let at = c .before .before in
+    bounds _ _ _ _ (at .before .before .before .before .read-named3 .ensures) (at .before .third .given .1) .1
 
 common-shared : tie.Need-slice-aggregate-report-pair-3
-common-shared c = sym (length-take-le _ _ (bounds _ _ _ _ (c .before .before .before .before .before .before .before .read-named3 .ensures) (c .before .before .before .before .third .given .1) .1))
+common-shared c =
+    let at = c .before .before .before in
+    sym (length-take-le _ _ (bounds _ _ _ _ (at .before .before .before .before .read-named3 .ensures) (at .before .third .given .1) .1))
 
 written-shared : tie.Need-slice-aggregate-print
 written-shared c = sym (length-take-le _ _ (c .before .report-pair .ensures .1 .1 .0))
