@@ -8,7 +8,6 @@ name is a definition's gets `_lem` behind it. Left as they are: names of the lib
 of src/, constructors in capitals, strings, and English words with a dash in comments. It prints old and new names, one pair a line."""
 import os, re, sys
 
-GIVEN = {"sltLow": None}
 WORD = re.compile(r"(?<![\w'·-])[A-Za-z_][\w']*(?:-[\w']+)*")
 DECLARED = re.compile(r"^(\s*)(?:\| )?(?:(?:pub|abbrev|unfoldable) )*([a-z][\w'-]*)((?: [a-z][\w'-]*)*) :(?!=)(.*)", re.M)
 USE = re.compile(r"^\s*(?:pub )?(?:ghost )?use ([^\s;{]+?)(?:\.\{([^}]*)\})?(?: as \S+)?;?\s*$", re.M)
@@ -73,9 +72,11 @@ def collect(root):
 def renaming(own, foreign, words):
     camel = sorted({n for n in own | words if is_camel(n) and n not in foreign and n != "azAZ"})
     new = {n: snake(n) for n in camel}
-    taken = set(new.values())
+    # The op LT, which the kit's script took for a word of the library.
+    new["Lt"] = "LT"
+    taken = set(new.values()) - {"LT"}
     # A lemma whose name is a definition's from now on.
-    for name in sorted(own | words):
+    for name in sorted(own):
         if name in taken and name not in foreign:
             new[name] = name + "_lem"
     taken |= words | foreign | set(new.values())
@@ -93,13 +94,13 @@ def turned(text, new, fields, walk, comment):
 
     def word(m, quoted=True):
         name = m[0]
-        if name not in new or (name in kept and is_dashed(name)):
+        if name not in new or (name in kept and not is_camel(name)):
             return name
-        behind_dot = m.string[m.start() - 1 : m.start()] == "."
-        if is_dashed(name) and (not quoted or (walk and behind_dot and name not in fields)):
-            return name
-        if not is_camel(name) and not is_dashed(name) and behind_dot and re.search(r"(proofs|contracts|c|tie|src)\.$", m.string[: m.start()]):
-            return name
+        if not is_camel(name) and name != "Lt":
+            behind_dot = m.string[m.start() - 1 : m.start()] == "."
+            path = re.search(r"[\w.+]*$", m.string[: m.start()])[0].split(".")
+            if not quoted or ("-" not in name and comment == "//") or (behind_dot and (walk and name not in fields or path[-2] in ("proofs", "contracts"))):
+                return name
         return new[name]
 
     lines = []

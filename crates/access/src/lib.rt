@@ -2,8 +2,8 @@
 ghost use Rattle.std.specs.Prelude.{◌≡◌, true, false, ◌+◌, ◌*◌, ◌^◌, ◌<◌, length, get_or};
 ghost use Rattle.layout.specs.Logging.{SameBut};
 ghost use Rattle.layout.specs.declared.Access.TheVariants as access;
-ghost use Rattle.spec.specs.Shape.{inCommon};
-ghost use Rattle.layout.specs.Memory.{AccessAsks, AccessOne, AccessMade, AccessStopped, TurnMade, takesCommon, KeptBut, Transferred, CellRegister, CellNumber, TestAsks, goesOn};
+ghost use Rattle.spec.specs.Shape.{in_common};
+ghost use Rattle.layout.specs.Memory.{AccessAsks, AccessOne, AccessMade, AccessStopped, TurnMade, takes_common, KeptBut, Transferred, CellRegister, CellNumber, TestAsks, goes_on};
 
 fn index(x: u32) -> usize
     ensures { result ≡ x }
@@ -63,7 +63,7 @@ pub fn goes_on(
     a: usize,
 ) -> bool
     requires { (t < 32) × TestAsks op a cells.now log.now }
-    ensures { result ≡ goesOn op (get_or regs.now (a * 32 + t) 0) bit x cells.now log.now }
+    ensures { result ≡ goes_on op (get_or regs.now (a * 32 + t) 0) bit x cells.now log.now }
 {
     let j = index(t);
     let i = index(x);
@@ -87,7 +87,7 @@ pub fn make(
     a: usize,
 )
     requires { (t < 32) × AccessAsks op d a cells.old log.old × (bit ≡ 2 ^ t) × CellNumber op d a t regs.old x
-        × (goesOn op (get_or regs.old (a * 32 + t) 0) bit x cells.old log.old ≡ true) }
+        × (goes_on op (get_or regs.old (a * 32 + t) 0) bit x cells.old log.old ≡ true) }
     ensures { AccessMade op t d a regs.old cells.old log.old
         regs.new cells.new log.new × KeptBut d (t + 1) regs.old regs.new
         × SameBut x (length cells.old) log.old log.new }
@@ -103,7 +103,7 @@ pub fn make(
 
 // Whether x is the number of a common cell.
 pub fn is_common(common: &[u32], x: u32) -> bool
-    ensures { result ≡ inCommon common.now x }
+    ensures { result ≡ in_common common.now x }
 {
     if x < 65536 {
         return false;
@@ -122,7 +122,7 @@ pub fn take(
     d: usize,
     a: usize,
 )
-    requires { (t < 32) × AccessAsks 16 d a cells.now log.now × CellNumber 16 d a t regs.old x × (inCommon common.now x ≡ true) }
+    requires { (t < 32) × AccessAsks 16 d a cells.now log.now × CellNumber 16 d a t regs.old x × (in_common common.now x ≡ true) }
     ensures { AccessOne 16 t d a common.now regs.old cells.now log.now access.Done
         regs.new cells.now log.now × KeptBut d (t + 1) regs.old regs.new }
 {
@@ -144,7 +144,7 @@ pub fn verdict(
     a: usize,
 ) -> spec::Verdict
     requires { (t < 32) × AccessAsks op d a cells.now log.now × (bit ≡ 2 ^ t) × CellNumber op d a t regs.now x
-        × (goesOn op (get_or regs.now (a * 32 + t) 0) bit x cells.now log.now ≡ false) }
+        × (goes_on op (get_or regs.now (a * 32 + t) 0) bit x cells.now log.now ≡ false) }
     ensures { AccessStopped op t d a x regs.now cells.now log.now result }
 {
     let j = index(t);
@@ -162,7 +162,7 @@ pub fn verdict(
 
 // Whether an access by op that does not go on is a LOAD of a common cell.
 fn takes(common: &[u32], x: u32, op: u8) -> bool
-    ensures { result ≡ takesCommon op x common.now }
+    ensures { result ≡ takes_common op x common.now }
 {
     if op == 16 {
         return is_common(common, x);

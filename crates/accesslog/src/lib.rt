@@ -1,14 +1,14 @@
 // The access test over the access log: all reader masks, then all writer masks, all adder masks, all first values and all marks of unequal stores.
 ghost use Rattle.std.specs.Prelude.{◌≡◌, not, ◌<◌, eqb};
 ghost use Rattle.std.specs.Int.Bits.{bit_or};
-ghost use Rattle.spec.specs.Log.{shownKind};
+ghost use Rattle.spec.specs.Log.{shown_kind};
 ghost use Rattle.spec.specs.Access.{writes};
-ghost use Rattle.layout.specs.Logging.{LogAsks, mode_of, conflictingWord, testedWord, besideWriters, kindWord};
+ghost use Rattle.layout.specs.Logging.{LogAsks, mode_of, conflicting_word, tested_word, beside_writers, kind_word};
 
 // The writers of cell i that an access by op conflicts with: none where it stores v, as all stores to the cell did.
 fn writers_met(log: &[u32], cells: usize, i: usize, v: u32, op: u8) -> u32
     requires { LogAsks op cells i log.now }
-    ensures { result ≡ conflictingWord writes op v cells i log.now }
+    ensures { result ≡ conflicting_word writes op v cells i log.now }
 {
     if op != 17 {
         return log[cells + i];
@@ -25,7 +25,7 @@ fn writers_met(log: &[u32], cells: usize, i: usize, v: u32, op: u8) -> u32
 // The adders and readers that an access of cell i by op conflicts with, and the thread of this bit.
 fn beside(log: &[u32], cells: usize, i: usize, bit: u32, op: u8) -> u32
     requires { LogAsks op cells i log.now }
-    ensures { result ≡ bit_or (besideWriters op cells i log.now) bit }
+    ensures { result ≡ bit_or (beside_writers op cells i log.now) bit }
 {
     if op == 16 {
         return log[2 * cells + i] | bit;
@@ -39,7 +39,7 @@ fn beside(log: &[u32], cells: usize, i: usize, bit: u32, op: u8) -> u32
 // The access test: the threads whose logged accesses of cell i conflict with an access by op, and the acting one, of this bit. A STORE stores v.
 pub fn met(log: &[u32], cells: usize, i: usize, bit: u32, v: u32, op: u8) -> u32
     requires { LogAsks op cells i log.now }
-    ensures { result ≡ bit_or (testedWord op v cells i log.now) bit }
+    ensures { result ≡ bit_or (tested_word op v cells i log.now) bit }
 {
     let others = beside(log, cells, i, bit, op);
     // Mostly nobody else is there, and no value has to be looked at.
@@ -51,7 +51,7 @@ pub fn met(log: &[u32], cells: usize, i: usize, bit: u32, v: u32, op: u8) -> u32
 
 // The kind of a race by op with somebody who wrote, or added, where these words are not 0: of that a write is shown before an add, an add before a read.
 pub fn shown_kind(wrote: u32, added: u32, op: u8) -> spec::AccessKind
-    ensures { result ≡ shownKind (not (eqb wrote 0)) (not (eqb added 0)) (mode_of op) }
+    ensures { result ≡ shown_kind (not (eqb wrote 0)) (not (eqb added 0)) (mode_of op) }
 {
     if op == 16 {
         if wrote == 0 {
@@ -84,7 +84,7 @@ pub fn race_kind(
     op: u8,
 ) -> spec::AccessKind
     requires { (other < 32) × LogAsks op cells i log.now }
-    ensures { result ≡ kindWord op v cells i other log.now }
+    ensures { result ≡ kind_word op v cells i other log.now }
 {
     let wrote = masks::bit(writers_met(log, cells, i, v, op), other);
     let added = masks::bit(log[2 * cells + i], other);

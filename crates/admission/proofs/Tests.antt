@@ -12,7 +12,7 @@ use Rattle.spec.specs.declared.Refusal.TheVariants.{TableLength, TooManyRows, Th
 use Rattle.spec.specs.declared.Refusal.TheVariants.{CellsLength, LogLength, RecordsLength, OutputLength}
 use Rattle.spec.specs.Answers.{unless, or_else, first}
 use Rattle.spec.specs.Shape.{sizes}
-use Rattle.spec.specs.Entries.{bareNumbers, bareLent, fileLent}
+use Rattle.spec.specs.Entries.{bare_numbers, bare_lent, file_lent}
 use Rattle.admission.specs.Refusing.{LentIs}
 
 -- Two words' product, and a word more, are below 2 ^ 64.
@@ -22,83 +22,83 @@ fits x y z h l m =
     omega arith
 
 -- A test's answer, by the code's branch on its opposite.
-yes-by : (w b : Bool) → w ≡ b → not w ≡ false → b ≡ true
-yes-by true b e q = sym e
-yes-by false b e q = absurd (true≢false q)
+yes_by : (w b : Bool) → w ≡ b → not w ≡ false → b ≡ true
+yes_by true b e q = sym e
+yes_by false b e q = absurd (true≢false q)
 
-no-by : (w b : Bool) → w ≡ b → not w ≡ true → b ≡ false
-no-by true b e q = absurd (false≢true q)
-no-by false b e q = sym e
+no_by : (w b : Bool) → w ≡ b → not w ≡ true → b ≡ false
+no_by true b e q = absurd (false≢true q)
+no_by false b e q = sym e
 
 -- Whoever unfolds this unfolds the tests.
 unfoldable testing : Unit {0}
-unfolding bareNumbers bareLent fileLent first or_else unless
+unfolding bare_numbers bare_lent file_lent first or_else unless
 testing = tt
 
 module _ (bytes threads cells groups global limit : ℕ) where
   abbrev refusal : Option Refusal
-  refusal = bareNumbers bytes (sizes threads cells groups global) limit
+  refusal = bare_numbers bytes (sizes threads cells groups global) limit
 
-  pub odd-length : (bytes % 4 ≡ 0 → ⊥) → some TableLength ≡ refusal
+  pub odd_length : (bytes % 4 ≡ 0 → ⊥) → some TableLength ≡ refusal
   unfolding testing
-  odd-length n = rw (ne_eqb (bytes % 4) 0 n)
+  odd_length n = rw (ne_eqb (bytes % 4) 0 n)
 
   module _ (e : bytes % 4 ≡ 0) where
-    pub many-rows : 256 < bytes / 4 → some (TooManyRows 0) ≡ refusal
+    pub many_rows : 256 < bytes / 4 → some (TooManyRows 0) ≡ refusal
     unfolding testing
-    many-rows h = rw (eq-eqb (bytes % 4) 0 e, lt-leb (bytes / 4) 256 h)
+    many_rows h = rw (eq-eqb (bytes % 4) 0 e, lt-leb (bytes / 4) 256 h)
 
     module _ (h : bytes / 4 ≤ 256) (w : Bool) (ew : w ≡ (leb 1 threads && leb threads 32)) where
-      pub bad-threads : not w ≡ true → some (ThreadsOutOfRange 0) ≡ refusal
+      pub bad_threads : not w ≡ true → some (ThreadsOutOfRange 0) ≡ refusal
       unfolding testing
-      bad-threads q = rw (eq-eqb (bytes % 4) 0 e, le-leb (bytes / 4) 256 h, no-by w _ ew q)
+      bad_threads q = rw (eq-eqb (bytes % 4) 0 e, le-leb (bytes / 4) 256 h, no_by w _ ew q)
 
       module _ (q : not w ≡ false) (v : Bool) (ev : v ≡ (leb 1 cells && leb cells 1024)) where
-        pub bad-cells : not v ≡ true → some (CellsOutOfRange 0) ≡ refusal
+        pub bad_cells : not v ≡ true → some (CellsOutOfRange 0) ≡ refusal
         unfolding testing
-        bad-cells r = rw (eq-eqb (bytes % 4) 0 e, le-leb (bytes / 4) 256 h, yes-by w _ ew q, no-by v _ ev r)
+        bad_cells r = rw (eq-eqb (bytes % 4) 0 e, le-leb (bytes / 4) 256 h, yes_by w _ ew q, no_by v _ ev r)
 
         module _ (r : not v ≡ false) (u : Bool) (eu : u ≡ (leb 1 groups && leb groups 8)) where
-          pub bad-groups : not u ≡ true → some (GroupsOutOfRange 0) ≡ refusal
+          pub bad_groups : not u ≡ true → some (GroupsOutOfRange 0) ≡ refusal
           unfolding testing
-          bad-groups s = rw (eq-eqb (bytes % 4) 0 e, le-leb (bytes / 4) 256 h, yes-by w _ ew q, yes-by v _ ev r, no-by u _ eu s)
+          bad_groups s = rw (eq-eqb (bytes % 4) 0 e, le-leb (bytes / 4) 256 h, yes_by w _ ew q, yes_by v _ ev r, no_by u _ eu s)
 
           module _ (s : not u ≡ false) (all : ℕ) (ea : all ≡ groups * cells + global) where
-            pub many-cells : 1024 < all → some (TooManyCells 0) ≡ refusal
+            pub many_cells_lem : 1024 < all → some (TooManyCells 0) ≡ refusal
             unfolding testing
-            many-cells m =
+            many_cells_lem m =
                 rw (
                   eq-eqb (bytes % 4) 0 e,
                   le-leb (bytes / 4) 256 h,
-                  yes-by w _ ew q,
-                  yes-by v _ ev r,
-                  yes-by u _ eu s,
+                  yes_by w _ ew q,
+                  yes_by v _ ev r,
+                  yes_by u _ eu s,
                   lt-leb (groups * cells + global) 1024 (omega arith),
                 )
 
             module _ (m : all ≤ 1024) where
-              pub bad-limit : 1000000 < limit → some (LimitOutOfRange 0) ≡ refusal
+              pub bad_limit : 1000000 < limit → some (LimitOutOfRange 0) ≡ refusal
               unfolding testing
-              bad-limit l =
+              bad_limit l =
                   rw (
                     eq-eqb (bytes % 4) 0 e,
                     le-leb (bytes / 4) 256 h,
-                    yes-by w _ ew q,
-                    yes-by v _ ev r,
-                    yes-by u _ eu s,
+                    yes_by w _ ew q,
+                    yes_by v _ ev r,
+                    yes_by u _ eu s,
                     le-leb (groups * cells + global) 1024 (omega arith),
                     lt-leb limit 1000000 l,
                   )
 
-              pub all-fine : limit ≤ 1000000 → none ≡ refusal
+              pub all_fine : limit ≤ 1000000 → none ≡ refusal
               unfolding testing
-              all-fine l =
+              all_fine l =
                   rw (
                     eq-eqb (bytes % 4) 0 e,
                     le-leb (bytes / 4) 256 h,
-                    yes-by w _ ew q,
-                    yes-by v _ ev r,
-                    yes-by u _ eu s,
+                    yes_by w _ ew q,
+                    yes_by v _ ev r,
+                    yes_by u _ eu s,
                     le-leb (groups * cells + global) 1024 (omega arith),
                     le-leb limit 1000000 l,
                   )
@@ -109,31 +109,31 @@ module _ (groups cells global held lent logged recorded : ℕ) where
   Refused r = LentIs groups cells global held lent logged recorded r
 
   module _ (own : ℕ) (eo : own ≡ groups * cells) where
-    pub bad-held : (held ≡ own → ⊥) → Refused (some CellsLength)
+    pub bad_held : (held ≡ own → ⊥) → Refused (some CellsLength)
     unfolding testing
-    bad-held n threads = rw (ne_eqb held (groups * cells) (λ e. n (e ∙ sym eo)))
+    bad_held n threads = rw (ne_eqb held (groups * cells) (λ e. n (e ∙ sym eo)))
 
     module _ (e : held ≡ own) (shared : ℕ) (es : shared ≡ global) where
-      pub bad-global : (lent ≡ shared → ⊥) → Refused (some CellsLength)
+      pub bad_global : (lent ≡ shared → ⊥) → Refused (some CellsLength)
       unfolding testing
-      bad-global n threads = rw (eq-eqb held (groups * cells) (e ∙ eo), ne_eqb lent global (λ q. n (q ∙ sym es)))
+      bad_global n threads = rw (eq-eqb held (groups * cells) (e ∙ eo), ne_eqb lent global (λ q. n (q ∙ sym es)))
 
       module _ (q : lent ≡ shared) where
-        bad-logged : (logged ≡ 8 * (groups * cells + global) → ⊥) → Refused (some LogLength)
+        bad_logged : (logged ≡ 8 * (groups * cells + global) → ⊥) → Refused (some LogLength)
         unfolding testing
-        bad-logged n threads = rw (eq-eqb held (groups * cells) (e ∙ eo), eq-eqb lent global (q ∙ es), ne_eqb logged (8 * (groups * cells + global)) n)
+        bad_logged n threads = rw (eq-eqb held (groups * cells) (e ∙ eo), eq-eqb lent global (q ∙ es), ne_eqb logged (8 * (groups * cells + global)) n)
 
-        pub bad-eighth : (logged % 8 ≡ 0 → ⊥) → Refused (some LogLength)
-        bad-eighth n = bad-logged (λ l. n (omega arith))
+        pub bad_eighth : (logged % 8 ≡ 0 → ⊥) → Refused (some LogLength)
+        bad_eighth n = bad_logged (λ l. n (omega arith))
 
         module _ (z : logged % 8 ≡ 0) (all : ℕ) (ea : all ≡ groups * cells + global) where
-          pub bad-log : (logged / 8 ≡ all → ⊥) → Refused (some LogLength)
-          bad-log n = bad-logged (λ l. n (omega arith))
+          pub bad_log : (logged / 8 ≡ all → ⊥) → Refused (some LogLength)
+          bad_log n = bad_logged (λ l. n (omega arith))
 
           module _ (l : logged / 8 ≡ all) where
-            pub bad-recorded : recorded < 3075 → Refused (some RecordsLength)
+            pub bad_recorded : recorded < 3075 → Refused (some RecordsLength)
             unfolding testing
-            bad-recorded m threads =
+            bad_recorded m threads =
                 rw (
                   eq-eqb held (groups * cells) (e ∙ eo),
                   eq-eqb lent global (q ∙ es),
@@ -141,9 +141,9 @@ module _ (groups cells global held lent logged recorded : ℕ) where
                   lt-leb 3075 recorded m,
                 )
 
-            pub lent-fine : 3075 ≤ recorded → Refused none
+            pub lent_fine : 3075 ≤ recorded → Refused none
             unfolding testing
-            lent-fine m threads =
+            lent_fine m threads =
                 rw (
                   eq-eqb held (groups * cells) (e ∙ eo),
                   eq-eqb lent global (q ∙ es),
@@ -152,30 +152,30 @@ module _ (groups cells global held lent logged recorded : ℕ) where
                 )
 
 module _ (held lent logged recorded room : ℕ) where
-  pub bad-cells-lent : (held ≡ 1024 → ⊥) → some CellsLength ≡ fileLent held lent logged recorded room
+  pub bad_cells_lent : (held ≡ 1024 → ⊥) → some CellsLength ≡ file_lent held lent logged recorded room
   unfolding testing
-  bad-cells-lent n = rw (ne_eqb held 1024 n)
+  bad_cells_lent n = rw (ne_eqb held 1024 n)
 
   module _ (e : held ≡ 1024) where
-    pub bad-global-lent : (lent ≡ 1024 → ⊥) → some CellsLength ≡ fileLent held lent logged recorded room
+    pub bad_global_lent : (lent ≡ 1024 → ⊥) → some CellsLength ≡ file_lent held lent logged recorded room
     unfolding testing
-    bad-global-lent n = rw (eq-eqb held 1024 e, ne_eqb lent 1024 n)
+    bad_global_lent n = rw (eq-eqb held 1024 e, ne_eqb lent 1024 n)
 
     module _ (s : lent ≡ 1024) where
-      pub bad-log-lent : (logged ≡ 8192 → ⊥) → some LogLength ≡ fileLent held lent logged recorded room
+      pub bad_log_lent : (logged ≡ 8192 → ⊥) → some LogLength ≡ file_lent held lent logged recorded room
       unfolding testing
-      bad-log-lent n = rw (eq-eqb held 1024 e, eq-eqb lent 1024 s, ne_eqb logged 8192 n)
+      bad_log_lent n = rw (eq-eqb held 1024 e, eq-eqb lent 1024 s, ne_eqb logged 8192 n)
 
       module _ (q : logged ≡ 8192) where
-        pub bad-records-lent : recorded < 3075 → some RecordsLength ≡ fileLent held lent logged recorded room
+        pub bad_records_lent : recorded < 3075 → some RecordsLength ≡ file_lent held lent logged recorded room
         unfolding testing
-        bad-records-lent l = rw (eq-eqb held 1024 e, eq-eqb lent 1024 s, eq-eqb logged 8192 q, lt-leb 3075 recorded l)
+        bad_records_lent l = rw (eq-eqb held 1024 e, eq-eqb lent 1024 s, eq-eqb logged 8192 q, lt-leb 3075 recorded l)
 
         module _ (h : 3075 ≤ recorded) where
-          pub bad-output-lent : room < 24576 → some OutputLength ≡ fileLent held lent logged recorded room
+          pub bad_output_lent : room < 24576 → some OutputLength ≡ file_lent held lent logged recorded room
           unfolding testing
-          bad-output-lent l = rw (eq-eqb held 1024 e, eq-eqb lent 1024 s, eq-eqb logged 8192 q, le-leb 3075 recorded h, lt-leb 24576 room l)
+          bad_output_lent l = rw (eq-eqb held 1024 e, eq-eqb lent 1024 s, eq-eqb logged 8192 q, le-leb 3075 recorded h, lt-leb 24576 room l)
 
-          pub all-lent : 24576 ≤ room → none ≡ fileLent held lent logged recorded room
+          pub all_lent : 24576 ≤ room → none ≡ file_lent held lent logged recorded room
           unfolding testing
-          all-lent l = rw (eq-eqb held 1024 e, eq-eqb lent 1024 s, eq-eqb logged 8192 q, le-leb 3075 recorded h, le-leb 24576 room l)
+          all_lent l = rw (eq-eqb held 1024 e, eq-eqb lent 1024 s, eq-eqb logged 8192 q, le-leb 3075 recorded h, le-leb 24576 room l)

@@ -3,14 +3,14 @@ use Rattle.std.proofs.Math.Option.{Option, none, some}
 use Rattle.std.specs.Prelude.{◌≡◌, ℕ}
 use Rattle.spec.specs.declared.Refusal.{Refusal}
 use Rattle.spec.specs.Shape.{sizes}
-use Rattle.spec.specs.Entries.{bareLent}
+use Rattle.spec.specs.Entries.{bare_lent}
 use Rattle.admission.specs.declared.Admission.{Admission}
 use Rattle.admission.specs.declared.Admission.TheVariants.{Accepted, Refused}
 
-abbrev pub refusalOf : Admission → Option Refusal
-refusalOf Accepted = none
-refusalOf (Refused why) = some why
+abbrev pub refusal_of : Admission → Option Refusal
+refusal_of Accepted = none
+refusal_of (Refused why) = some why
 
 -- What the lent buffers are refused for, however many threads there are.
 abbrev pub LentIs : (groups cells global held shared logged recorded : ℕ) → Option Refusal → Type 0
-LentIs groups cells global held shared logged recorded r = (threads : ℕ) → r ≡ bareLent (sizes threads cells groups global) held shared logged recorded
+LentIs groups cells global held shared logged recorded r = (threads : ℕ) → r ≡ bare_lent (sizes threads cells groups global) held shared logged recorded

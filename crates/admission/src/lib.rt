@@ -1,8 +1,8 @@
 // What a launch is refused for before its rows are looked at, and the lent buffers after them.
 ghost use Rattle.std.specs.Prelude.{◌≡◌, ◌&&◌, ◌+◌, ◌*◌, leb};
 ghost use Rattle.spec.specs.Shape.{sizes};
-ghost use Rattle.spec.specs.Entries.{bareNumbers, fileLent};
-ghost use Rattle.admission.specs.Refusing.{refusalOf, LentIs};
+ghost use Rattle.spec.specs.Entries.{bare_numbers, file_lent};
+ghost use Rattle.admission.specs.Refusing.{refusal_of, LentIs};
 
 use spec::Refusal;
 
@@ -49,7 +49,7 @@ pub fn numbers(
     global: u32,
     limit: u32,
 ) -> Admission
-    ensures { refusalOf result ≡ bareNumbers bytes (sizes threads cells groups global) limit }
+    ensures { refusal_of result ≡ bare_numbers bytes (sizes threads cells groups global) limit }
 {
     if bytes % 4 != 0 {
         return Admission::Refused(Refusal::TableLength);
@@ -87,7 +87,7 @@ pub fn lent(
     logged: usize,
     recorded: usize,
 ) -> Admission
-    ensures { LentIs groups cells global held shared logged recorded (refusalOf result) }
+    ensures { LentIs groups cells global held shared logged recorded (refusal_of result) }
 {
     if held != own_cells(groups, cells) {
         return Admission::Refused(Refusal::CellsLength);
@@ -115,7 +115,7 @@ pub fn lent_for_file(
     recorded: usize,
     room: usize,
 ) -> Admission
-    ensures { refusalOf result ≡ fileLent held shared logged recorded room }
+    ensures { refusal_of result ≡ file_lent held shared logged recorded room }
 {
     if held != 1024 {
         return Admission::Refused(Refusal::CellsLength);

@@ -9,20 +9,20 @@ use lib.Seq.{get_or-set_same, get_or-set_other, ext_get_or}
 use Rattle.spec.specs.declared.Outcome.{Outcome}
 use Rattle.spec.specs.declared.Value.{Value}
 use Rattle.spec.specs.declared.Value.TheVariants as value
-use Rattle.spec.specs.Report.{Line, headWith, headLines, intervalLines}
-use Rattle.reportvalues.specs.Values.{values_of, runValues}
-use Rattle.answerwords.specs.Codes.{valueCode, wordCount, outcomeWords}
+use Rattle.spec.specs.Report.{Line, head_with, head_lines, interval_lines}
+use Rattle.reportvalues.specs.Values.{values_of, run_values}
+use Rattle.answerwords.specs.Codes.{value_code, word_count, outcome_words}
 
 -- The first i words are the codes of the first i values.
 pub record Coded (values : List Value) (i : ℕ) (words : List ℕ) : Type 0 where
-  pub whole : length words ≡ wordCount
-  pub each : (k : ℕ) → k < i → get_or words k 0 ≡ valueCode (get_or values k value.Hyphen)
+  pub whole : length words ≡ word_count
+  pub each : (k : ℕ) → k < i → get_or words k 0 ≡ value_code (get_or values k value.Hyphen)
 
-pub code-more : (values : List Value) (i : ℕ) (words : List ℕ) (w : ℕ) → Coded values i words → i < wordCount → w ≡ valueCode (get_or values i value.Hyphen)
+pub code_more : (values : List Value) (i : ℕ) (words : List ℕ) (w : ℕ) → Coded values i words → i < word_count → w ≡ value_code (get_or values i value.Hyphen)
     → Coded values (i + 1) (set words i w)
-code-more values i words w d h e = record { whole = length-set words i w ∙ d.whole; each = λ k l. by k l (ℕ_discrete k i) }
+code_more values i words w d h e = record { whole = length-set words i w ∙ d.whole; each = λ k l. by k l (ℕ_discrete k i) }
   where
-    by : (k : ℕ) → k < i + 1 → Dec (k ≡ i) → get_or (set words i w) k 0 ≡ valueCode (get_or values k value.Hyphen)
+    by : (k : ℕ) → k < i + 1 → Dec (k ≡ i) → get_or (set words i w) k 0 ≡ value_code (get_or values k value.Hyphen)
     by k l (yes q) = rw q (get_or-set_same words i w 0 (omega (arith, d.whole)) ∙ e)
     by k l (no n) = get_or-set_other words i k w 0 n ∙ d.each k (omega arith)
 
@@ -31,22 +31,22 @@ blank = record { key = []; value = value.Hyphen }
 
 -- The lines that have a word.
 abbrev coded : Outcome → List Line
-coded o = headLines o ++ intervalLines o
+coded o = head_lines o ++ interval_lines o
 
-coded-many : (o : Outcome) → length (coded o) ≡ wordCount
-unfolding headLines headWith intervalLines
-coded-many o = refl
+coded_many : (o : Outcome) → length (coded o) ≡ word_count
+unfolding head_lines head_with interval_lines
+coded_many o = refl
 
-code_at : (o : Outcome) (k : ℕ) → k < wordCount → valueCode (get_or (runValues o) k value.Hyphen) ≡ get_or (outcomeWords o) k 0
-unfolding runValues values_of outcomeWords valueCode blank
+code_at : (o : Outcome) (k : ℕ) → k < word_count → value_code (get_or (run_values o) k value.Hyphen) ≡ get_or (outcome_words o) k 0
+unfolding run_values values_of outcome_words value_code blank
 code_at o k h =
     let value : Line → Value = λ l. l.value in
-    ap valueCode (get_or-append (map value (coded o)) _ _ k (omega (arith, length-map (coded o) value, coded-many o))
+    ap value_code (get_or-append (map value (coded o)) _ _ k (omega (arith, length-map (coded o) value, coded_many o))
     ∙ get_or-map value (coded o) k blank)
-    ∙ sym (get_or-map (λ (l : Line). valueCode l.value) (coded o) k blank)
+    ∙ sym (get_or-map (λ (l : Line). value_code l.value) (coded o) k blank)
 
-pub all_coded : (o : Outcome) (values : List Value) (i : ℕ) (words : List ℕ) → Coded values i words → i ≡ wordCount → values ≡ runValues o → words ≡ outcomeWords o
-unfolding outcomeWords
+pub all_coded : (o : Outcome) (values : List Value) (i : ℕ) (words : List ℕ) → Coded values i words → i ≡ word_count → values ≡ run_values o → words ≡ outcome_words o
+unfolding outcome_words
 all_coded o values i words d e ev =
-    ext_get_or 0 words (outcomeWords o) (d.whole ∙ sym (length-map (coded o) (λ (l : Line). valueCode l.value) ∙ coded-many o)) λ k h.
-    d.each k (omega (arith, d.whole)) ∙ ap (λ (v : List Value). valueCode (get_or v k value.Hyphen)) ev ∙ code_at o k (omega (arith, d.whole))
+    ext_get_or 0 words (outcome_words o) (d.whole ∙ sym (length-map (coded o) (λ (l : Line). value_code l.value) ∙ coded_many o)) λ k h.
+    d.each k (omega (arith, d.whole)) ∙ ap (λ (v : List Value). value_code (get_or v k value.Hyphen)) ev ∙ code_at o k (omega (arith, d.whole))

@@ -11,83 +11,83 @@ use Rattle.spec.specs.declared.Written.{Written}
 use Rattle.spec.specs.declared.Written.TheVariants as written
 use Rattle.spec.specs.declared.Value.{Value}
 use Rattle.spec.specs.declared.Value.TheVariants as value
-use Rattle.refusals.specs.Words.{refusalWords}
-use Rattle.spec.specs.Shape.{Sizes, allThreads}
-use Rattle.spec.specs.Report.{Line, headLines, intervalLines}
-use Rattle.spec.specs.Entries.{bareLaunch}
+use Rattle.refusals.specs.Words.{refusal_words}
+use Rattle.spec.specs.Shape.{Sizes, all_threads}
+use Rattle.spec.specs.Report.{Line, head_lines, interval_lines}
+use Rattle.spec.specs.Entries.{bare_launch}
 use Rattle.spec.specs.Demands.{LaunchDemand3}
 
 -- A length with a refusal's number and place beside it; 0, and two zeros, where there is none.
-unfoldable pub lengthIn : Written → ℕ
-lengthIn (written.Refused why) = 0
-lengthIn (written.Wrote n) = n
+unfoldable pub length_in : Written → ℕ
+length_in (written.Refused why) = 0
+length_in (written.Wrote n) = n
 
-unfoldable pub refusalIn : Written → List ℕ
-refusalIn (written.Refused why) = refusalWords why
-refusalIn (written.Wrote n) = 0 ∷ 0 ∷ []
+unfoldable pub refusal_in : Written → List ℕ
+refusal_in (written.Refused why) = refusal_words why
+refusal_in (written.Wrote n) = 0 ∷ 0 ∷ []
 
 -- A verdict's code is never 0, so that words that were never written are no verdict. A race with another group has one of its own, so that the way back is exact.
-unfoldable pub verdictCode : Verdict → ℕ
-verdictCode Passed = 1
-verdictCode (Race thread other kind at) = 2
-verdictCode (GroupRace thread otherGroup kind at) = 6
-verdictCode (Outside thread at) = 3
-verdictCode (Common thread at) = 7
-verdictCode (Diverged thread other) = 4
-verdictCode Spent = 5
+unfoldable pub verdict_code : Verdict → ℕ
+verdict_code Passed = 1
+verdict_code (Race thread other kind at) = 2
+verdict_code (GroupRace thread other_group kind at) = 6
+verdict_code (Outside thread at) = 3
+verdict_code (Common thread at) = 7
+verdict_code (Diverged thread other) = 4
+verdict_code Spent = 5
 
-unfoldable pub kindCode : AccessKind → ℕ
-kindCode ReadWrite = 1
-kindCode WriteRead = 2
-kindCode WriteWrite = 3
-kindCode ReadAdd = 4
-kindCode AddRead = 5
-kindCode WriteAdd = 6
-kindCode AddWrite = 7
+unfoldable pub kind_code : AccessKind → ℕ
+kind_code ReadWrite = 1
+kind_code WriteRead = 2
+kind_code WriteWrite = 3
+kind_code ReadAdd = 4
+kind_code AddRead = 5
+kind_code WriteAdd = 6
+kind_code AddWrite = 7
 
 -- What a line of the report says, as a word: 0 where it has no meaning.
-unfoldable pub valueCode : Value → ℕ
-valueCode value.Hyphen = 0
-valueCode (value.Number n) = n
-valueCode (value.Verdict v) = verdictCode v
-valueCode (value.Kind k) = kindCode k
-valueCode value.Report = 0
+unfoldable pub value_code : Value → ℕ
+value_code value.Hyphen = 0
+value_code (value.Number n) = n
+value_code (value.Verdict v) = verdict_code v
+value_code (value.Kind k) = kind_code k
+value_code value.Report = 0
 
 -- An outcome: a word for each line of the report's head, in their order, and then one for each line about its intervals.
-abbrev pub wordCount : ℕ
-wordCount = 11
+abbrev pub word_count : ℕ
+word_count = 11
 
-unfoldable pub outcomeWords : Outcome → List ℕ
-outcomeWords o = map (λ (l : Line). valueCode l.value) (headLines o ++ intervalLines o)
+unfoldable pub outcome_words : Outcome → List ℕ
+outcome_words o = map (λ (l : Line). value_code l.value) (head_lines o ++ interval_lines o)
 
-unfoldable pub ranIn : Answer → Bool
-ranIn (answer.Refused why) = false
-ranIn (answer.Ran o) = true
+unfoldable pub ran_in : Answer → Bool
+ran_in (answer.Refused why) = false
+ran_in (answer.Ran o) = true
 
-unfoldable pub outcomeIn : Answer → List ℕ
-outcomeIn (answer.Refused why) = replicate wordCount 0
-outcomeIn (answer.Ran o) = outcomeWords o
+unfoldable pub outcome_in : Answer → List ℕ
+outcome_in (answer.Refused why) = replicate word_count 0
+outcome_in (answer.Ran o) = outcome_words o
 
-unfoldable pub whyIn : Answer → List ℕ
-whyIn (answer.Refused why) = refusalWords why
-whyIn (answer.Ran o) = 0 ∷ 0 ∷ []
+unfoldable pub why_in : Answer → List ℕ
+why_in (answer.Refused why) = refusal_words why
+why_in (answer.Ran o) = 0 ∷ 0 ∷ []
 
 -- The way back, for the report writer. A code that there is none of is read as spent, so that no slip becomes passed.
-unfoldable pub kindFrom : ℕ → AccessKind
-kindFrom code =
+unfoldable pub kind_from : ℕ → AccessKind
+kind_from code =
     cond (eqb code 1) ReadWrite (cond (eqb code 2) WriteRead (cond (eqb code 4) ReadAdd (cond (eqb code 5) AddRead (cond (eqb code 6) WriteAdd
     (cond (eqb code 7) AddWrite WriteWrite)))))
 
-unfoldable pub verdictFrom : (code otherGroup thread other kind at : ℕ) → Verdict
-verdictFrom code otherGroup thread other kind at =
+unfoldable pub verdict_from : (code other_group thread other kind at : ℕ) → Verdict
+verdict_from code other_group thread other kind at =
     cond (eqb code 1) Passed
-    (cond (eqb code 2) (Race thread other (kindFrom kind) at) (cond (eqb code 3) (Outside thread at) (cond (eqb code 4) (Diverged thread other)
-    (cond (eqb code 6) (GroupRace thread otherGroup (kindFrom kind) at) (cond (eqb code 7) (Common thread at) Spent)))))
+    (cond (eqb code 2) (Race thread other (kind_from kind) at) (cond (eqb code 3) (Outside thread at) (cond (eqb code 4) (Diverged thread other)
+    (cond (eqb code 6) (GroupRace thread other_group (kind_from kind) at) (cond (eqb code 7) (Common thread at) Spent)))))
 
-unfoldable pub outcomeFrom : List ℕ → Outcome
-outcomeFrom ws =
+unfoldable pub outcome_from : List ℕ → Outcome
+outcome_from ws =
     record {
-      verdict = verdictFrom (get_or ws 0 0) (get_or ws 3 0) (get_or ws 4 0) (get_or ws 5 0) (get_or ws 6 0) (get_or ws 7 0);
+      verdict = verdict_from (get_or ws 0 0) (get_or ws 3 0) (get_or ws 4 0) (get_or ws 5 0) (get_or ws 6 0) (get_or ws 7 0);
       row = get_or ws 1 0;
       group = get_or ws 2 0;
       rows = get_or ws 8 0;
@@ -97,7 +97,7 @@ outcomeFrom ws =
 
 -- Demand 3 of a bare launch, of the words that its caller is handed: the flag that it ran, the outcome's words, both kinds of cells and the step counts that
 -- are left.
-abbrev pub RanDemand3 : (table : List ℕ) → Sizes → (limit : ℕ) → (lentCells lentGlobal : List ℕ) → (ran : Bool)
-    → (outcome left leftGlobal counts : List ℕ) → Type 0
-RanDemand3 table Z limit lentCells lentGlobal ran outcome left leftGlobal counts =
-    ran ≡ true → LaunchDemand3 (bareLaunch table Z limit lentCells lentGlobal) (outcomeFrom outcome) (take (allThreads Z) counts) (left ++ leftGlobal)
+abbrev pub RanDemand3 : (table : List ℕ) → Sizes → (limit : ℕ) → (lent_cells lent_global : List ℕ) → (ran : Bool)
+    → (outcome left left_global counts : List ℕ) → Type 0
+RanDemand3 table Z limit lent_cells lent_global ran outcome left left_global counts =
+    ran ≡ true → LaunchDemand3 (bare_launch table Z limit lent_cells lent_global) (outcome_from outcome) (take (all_threads Z) counts) (left ++ left_global)

@@ -1,11 +1,11 @@
 // Answers as words, for programs in C and Rust.
 ghost use Rattle.std.specs.Prelude.{◌≡◌};
-ghost use Rattle.answerwords.specs.Codes.{lengthIn, refusalIn, verdictCode, kindCode, valueCode, outcomeWords, kindFrom, verdictFrom, outcomeFrom};
+ghost use Rattle.answerwords.specs.Codes.{length_in, refusal_in, verdict_code, kind_code, value_code, outcome_words, kind_from, verdict_from, outcome_from};
 
 use spec::{AccessKind, Outcome, Value, Verdict, Written};
 
 fn kind_code(kind: AccessKind) -> u32
-    ensures { result ≡ kindCode kind }
+    ensures { result ≡ kind_code kind }
 {
     match kind {
         AccessKind::ReadWrite => 1,
@@ -19,7 +19,7 @@ fn kind_code(kind: AccessKind) -> u32
 }
 
 fn verdict_code(verdict: Verdict) -> u32
-    ensures { result ≡ verdictCode verdict }
+    ensures { result ≡ verdict_code verdict }
 {
     match verdict {
         Verdict::Passed => 1,
@@ -33,7 +33,7 @@ fn verdict_code(verdict: Verdict) -> u32
 }
 
 fn value_code(value: Value) -> u32
-    ensures { result ≡ valueCode value }
+    ensures { result ≡ value_code value }
 {
     match value {
         Value::Hyphen => 0,
@@ -48,7 +48,7 @@ fn value_code(value: Value) -> u32
 pub const WORDS: usize = 11;
 
 pub fn outcome_words(outcome: Outcome) -> [u32; WORDS]
-    ensures { result ≡ outcomeWords outcome }
+    ensures { result ≡ outcome_words outcome }
 {
     let values = reportvalues::run_values(outcome);
     let mut words = [0u32; WORDS];
@@ -61,7 +61,7 @@ pub fn outcome_words(outcome: Outcome) -> [u32; WORDS]
 }
 
 fn kind_from(code: u32) -> AccessKind
-    ensures { result ≡ kindFrom code }
+    ensures { result ≡ kind_from code }
 {
     if code == 1 {
         return AccessKind::ReadWrite;
@@ -85,7 +85,7 @@ fn kind_from(code: u32) -> AccessKind
 }
 
 fn verdict_from(code: u32, othergroup: u32, thread: u32, other: u32, kind: u32, at: u32) -> Verdict
-    ensures { result ≡ verdictFrom code othergroup thread other kind at }
+    ensures { result ≡ verdict_from code othergroup thread other kind at }
 {
     if code == 1 {
         return Verdict::Passed;
@@ -109,7 +109,7 @@ fn verdict_from(code: u32, othergroup: u32, thread: u32, other: u32, kind: u32, 
 }
 
 pub fn outcome_from(words: &[u32; WORDS]) -> Outcome
-    ensures { result ≡ outcomeFrom words.now }
+    ensures { result ≡ outcome_from words.now }
 {
     let verdict = verdict_from(words[0], words[3], words[4], words[5], words[6], words[7]);
     Outcome {
@@ -123,8 +123,8 @@ pub fn outcome_from(words: &[u32; WORDS]) -> Outcome
 }
 
 pub fn tell_written(answer: Written, refusal: &mut [u32; 2]) -> usize
-    ensures size { result ≡ lengthIn answer }
-    ensures why { refusal.new ≡ refusalIn answer }
+    ensures size { result ≡ length_in answer }
+    ensures why { refusal.new ≡ refusal_in answer }
 {
     match answer {
         Written::Refused(why) => {

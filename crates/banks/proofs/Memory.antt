@@ -9,27 +9,27 @@ use native.Mathlib.Decide.{ℕ_discrete}
 use lib.Dec.{ltb}
 use lib.ListN.{length, get_or, set, length-set, replicate, length-replicate, get_or-replicate}
 use lib.Seq.{get_or-set_same, get_or-set_other}
-use Rattle.spec.specs.Mask.{Mask, members, membersFrom}
-use Rattle.spec.specs.Banks.{different, inBank, mostInBank, conflictCost}
-use Rattle.spec.proofs.BankLaws.{cost-bound}
-use Rattle.spec.proofs.Laws.{lt-or-le, map-members}
-use Rattle.spec.specs.Limits.{commonFrom}
+use Rattle.spec.specs.Mask.{Mask, members, members_from}
+use Rattle.spec.specs.Banks.{different, in_bank, most_in_bank, conflict_cost}
+use Rattle.spec.proofs.BankLaws.{cost_bound}
+use Rattle.spec.proofs.Laws.{lt_or_le, map_members}
+use Rattle.spec.specs.Limits.{common_from}
 use Rattle.spec.specs.Lists.{passing}
 use Rattle.banks.specs.Counting.{AllCells, Older, RowCounted, own}
-use Rattle.banks.specs.Remembering.{AtOneDistance, Nearby, CostOf, lanesFrom, Memo, Remembered, RowCosts}
-use Rattle.banks.proofs.Costing.{nobody-left}
-use Rattle.banks.proofs.Near.{all_pass, cells-own, recalled-near}
-use Rattle.banks.proofs.Distance.{cost-same}
+use Rattle.banks.specs.Remembering.{AtOneDistance, Nearby, CostOf, lanes_from, Memo, Remembered, RowCosts}
+use Rattle.banks.proofs.Costing.{nobody_left}
+use Rattle.banks.proofs.Near.{all_pass, cells_own, recalled_near}
+use Rattle.banks.proofs.Distance.{cost_same}
 
 -- The numbers of the first t threads, written from `at` on.
 pub record Writing (cell : ℕ → ℕ) (at : ℕ) (memo₀ memo : List ℕ) (t : ℕ) : Type 0 where
   pub come : t ≤ 32
   pub size : length memo ≡ length memo₀
-  pub lanes : (j : ℕ) → j < t → lanesFrom memo at j ≡ cell j
+  pub lanes : (j : ℕ) → j < t → lanes_from memo at j ≡ cell j
   pub others : (i : ℕ) → (i < at) ⊎ (at + 32 ≤ i) → get_or memo i 0 ≡ get_or memo₀ i 0
 
-pub writing-none : (cell : ℕ → ℕ) (at : ℕ) (memo : List ℕ) → Writing cell at memo memo 0
-writing-none cell at memo = record { come = omega arith; size = refl; lanes = λ j h. absurd (omega arith); others = λ i h. refl }
+pub writing_none : (cell : ℕ → ℕ) (at : ℕ) (memo : List ℕ) → Writing cell at memo memo 0
+writing_none cell at memo = record { come = omega arith; size = refl; lanes = λ j h. absurd (omega arith); others = λ i h. refl }
 
 beside : (i at t : ℕ) → (i < at) ⊎ (at + 32 ≤ i) → t < 32 → i ≡ at + t → ⊥
 beside i at t (inl h) l e = omega arith
@@ -45,22 +45,22 @@ module _ (cell : ℕ → ℕ) (at : ℕ) (memo₀ memo : List ℕ) (t : ℕ) (W 
         others = λ i o. get_or-set_other memo (at + t) i (cell t) 0 (beside i at t o h) ∙ W.others i o;
       }
     where
-      by : (j : ℕ) → j < t + 1 → Dec (j ≡ t) → lanesFrom (set memo (at + t) (cell t)) at j ≡ cell j
+      by : (j : ℕ) → j < t + 1 → Dec (j ≡ t) → lanes_from (set memo (at + t) (cell t)) at j ≡ cell j
       by j l (yes e) =
           ap (λ (z : ℕ). get_or (set memo (at + t) (cell t)) (at + z) 0) e ∙ get_or-set_same memo (at + t) (cell t) 0 (omega (arith, W.size)) ∙ ap cell (sym e)
       by j l (no n) = get_or-set_other memo (at + t) (at + j) (cell t) 0 (λ z. n (omega arith)) ∙ W.lanes j (omega (arith, n))
 
-  pub writing-all : 32 ≤ t → (mask cost : ℕ) → Remembered cell mask cost at memo₀ (set (set memo (at + 32) mask) (at + 33) cost)
-  writing-all h mask cost =
+  pub writing_all : 32 ≤ t → (mask cost : ℕ) → Remembered cell mask cost at memo₀ (set (set memo (at + 32) mask) (at + 33) cost)
+  writing_all h mask cost =
       let long : length (set memo (at + 32) mask) ≡ length memo₀ = length-set memo (at + 32) mask ∙ W.size in
       record {
         size = length-set (set memo (at + 32) mask) (at + 33) cost ∙ long;
         lanes = λ j l.
             get_or-set_other (set memo (at + 32) mask) (at + 33) (at + j) cost 0 (λ e. omega arith)
             ∙ get_or-set_other memo (at + 32) (at + j) mask 0 (λ e. omega arith) ∙ W.lanes j (omega arith);
-        mask_is = get_or-set_other (set memo (at + 32) mask) (at + 33) (at + 32) cost 0 (λ e. omega arith)
+        mask_is_lem = get_or-set_other (set memo (at + 32) mask) (at + 33) (at + 32) cost 0 (λ e. omega arith)
             ∙ get_or-set_same memo (at + 32) mask 0 (omega (arith, W.size));
-        cost-is = get_or-set_same (set memo (at + 32) mask) (at + 33) cost 0 (omega (arith, long));
+        cost_is = get_or-set_same (set memo (at + 32) mask) (at + 33) cost 0 (omega (arith, long));
         others = λ i o.
             get_or-set_other (set memo (at + 32) mask) (at + 33) i cost 0 (λ e. off i o e (omega arith))
             ∙ get_or-set_other memo (at + 32) i mask 0 (λ e. off i o e (omega arith)) ∙ W.others i (apart i o);
@@ -75,40 +75,40 @@ module _ (cell : ℕ → ℕ) (at : ℕ) (memo₀ memo : List ℕ) (t : ℕ) (W 
       apart i (inr h) = inr (omega arith)
 
 -- A cost is that of equal numbers.
-cost-as : (f g : ℕ → ℕ) (mask cost mask' cost' : ℕ) → ((t : ℕ) → t < 32 → g t ≡ f t) → mask' ≡ mask → cost' ≡ cost → CostOf f mask cost → CostOf g mask' cost'
+cost_as : (f g : ℕ → ℕ) (mask cost mask' cost' : ℕ) → ((t : ℕ) → t < 32 → g t ≡ f t) → mask' ≡ mask → cost' ≡ cost → CostOf f mask cost → CostOf g mask' cost'
 unfolding members
-cost-as f g mask cost mask' cost' h em ec C E e l =
+cost_as f g mask cost mask' cost' h em ec C E e l =
     let c = C E (sym em ∙ e) l in
-    let same = map-members g f 0 E (λ t q m. h t (omega arith)) in
-    (subst AllCells (sym same) c.0, ec ∙ c.1 ∙ ap conflictCost (sym same))
+    let same = map_members g f 0 E (λ t q m. h t (omega arith)) in
+    (subst AllCells (sym same) c.0, ec ∙ c.1 ∙ ap conflict_cost (sym same))
 
 -- Nothing is remembered at first: no thread, and no cost.
-pub memo-start : Memo (replicate 544 0)
-unfolding conflictCost different mostInBank inBank members
-memo-start =
+pub memo_start : Memo (replicate 544 0)
+unfolding conflict_cost different most_in_bank in_bank members
+memo_start =
     record {
       size = length-replicate {A = ℕ} 544 0;
       each = λ slot h E e l.
           let none = get_or-replicate {A = ℕ} 544 (slot * 34 + 32) 0 0 (omega arith) in
           let free = get_or-replicate {A = ℕ} 544 (slot * 34 + 33) 0 0 (omega arith) in
-          let nobody = nobody-left E 0 (sym e ∙ none) in (
-            subst (λ ts. AllCells (map (lanesFrom (replicate 544 0) (slot * 34)) ts)) (sym nobody) tt,
-            free ∙ ap (λ ts. conflictCost (map (lanesFrom (replicate 544 0) (slot * 34)) ts)) (sym nobody),
+          let nobody = nobody_left E 0 (sym e ∙ none) in (
+            subst (λ ts. AllCells (map (lanes_from (replicate 544 0) (slot * 34)) ts)) (sym nobody) tt,
+            free ∙ ap (λ ts. conflict_cost (map (lanes_from (replicate 544 0) (slot * 34)) ts)) (sym nobody),
           );
       few = λ slot h. let free = get_or-replicate {A = ℕ} 544 (slot * 34 + 33) 0 0 (omega arith) in omega arith;
     }
 
 module _ (cell : ℕ → ℕ) (mask cost slot : ℕ) (memo memo' : List ℕ) (M : Memo memo) (R : Remembered cell mask cost (slot * 34) memo memo') where
-  pub memo-more : cost ≤ 31 → CostOf cell mask cost → Memo memo'
-  memo-more l C =
+  pub memo_more : cost ≤ 31 → CostOf cell mask cost → Memo memo'
+  memo_more l C =
       record {
         size = R.size ∙ M.size;
         each = λ i h. by i h (ℕ_discrete i slot);
-        few = λ i h. few-by i h (ℕ_discrete i slot);
+        few = λ i h. few_by i h (ℕ_discrete i slot);
       }
     where
       outside : (i j : ℕ) → (i ≡ slot → ⊥) → j < 34 → (i * 34 + j < slot * 34) ⊎ (slot * 34 + 34 ≤ i * 34 + j)
-      outside i j n h = apart (lt-or-le i slot)
+      outside i j n h = apart (lt_or_le i slot)
         where
           apart : (i < slot) ⊎ (slot ≤ i) → (i * 34 + j < slot * 34) ⊎ (slot * 34 + 34 ≤ i * 34 + j)
           apart (inl q) = inl (omega arith)
@@ -117,29 +117,29 @@ module _ (cell : ℕ → ℕ) (mask cost slot : ℕ) (memo memo' : List ℕ) (M 
       here : (i k : ℕ) → i ≡ slot → get_or memo' (i * 34 + k) 0 ≡ get_or memo' (slot * 34 + k) 0
       here i k e = ap (λ (z : ℕ). get_or memo' (z * 34 + k) 0) e
 
-      by : (i : ℕ) → i < 16 → Dec (i ≡ slot) → CostOf (lanesFrom memo' (i * 34)) (get_or memo' (i * 34 + 32) 0) (get_or memo' (i * 34 + 33) 0)
-      by i h (yes e) = cost-as cell _ mask cost _ _ (λ t q. here i t e ∙ R.lanes t q) (here i 32 e ∙ R.mask_is) (here i 33 e ∙ R.cost-is) C
+      by : (i : ℕ) → i < 16 → Dec (i ≡ slot) → CostOf (lanes_from memo' (i * 34)) (get_or memo' (i * 34 + 32) 0) (get_or memo' (i * 34 + 33) 0)
+      by i h (yes e) = cost_as cell _ mask cost _ _ (λ t q. here i t e ∙ R.lanes t q) (here i 32 e ∙ R.mask_is_lem) (here i 33 e ∙ R.cost_is) C
       by i h (no n) =
-          cost-as (lanesFrom memo (i * 34)) _ _ _ _ _ (λ t q. R.others (i * 34 + t) (outside i t n (omega arith)))
+          cost_as (lanes_from memo (i * 34)) _ _ _ _ _ (λ t q. R.others (i * 34 + t) (outside i t n (omega arith)))
           (R.others (i * 34 + 32) (outside i 32 n (omega arith))) (R.others (i * 34 + 33) (outside i 33 n (omega arith))) (M.each i h)
 
-      few-by : (i : ℕ) → i < 16 → Dec (i ≡ slot) → get_or memo' (i * 34 + 33) 0 ≤ 31
-      few-by i h (yes e) = let z = here i 33 e ∙ R.cost-is in omega arith
-      few-by i h (no n) = let z = R.others (i * 34 + 33) (outside i 33 n (omega arith)) in omega (arith, M.few i h)
+      few_by : (i : ℕ) → i < 16 → Dec (i ≡ slot) → get_or memo' (i * 34 + 33) 0 ≤ 31
+      few_by i h (yes e) = let z = here i 33 e ∙ R.cost_is in omega arith
+      few_by i h (no n) = let z = R.others (i * 34 + 33) (outside i 33 n (omega arith)) in omega (arith, M.few i h)
 
-pub older-still : (k : ℕ) (stamps : List ℕ) → Older k stamps → Older (k + 1) stamps
-older-still k stamps O = record { size = O.size; below = λ i h. omega (arith, O.below i h) }
+pub older_still : (k : ℕ) (stamps : List ℕ) → Older k stamps → Older (k + 1) stamps
+older_still k stamps O = record { size = O.size; below = λ i h. omega (arith, O.below i h) }
 
-members-few : (k : ℕ) (E : Mask) (cell : ℕ → ℕ) → length (map cell (membersFrom k E)) ≤ length E
-unfolding membersFrom
-members-few k [] cell = omega arith
-members-few k (false ∷ E) cell = let z = members-few (suc k) E cell in omega arith
-members-few k (true ∷ E) cell = let z = members-few (suc k) E cell in omega arith
+members_few : (k : ℕ) (E : Mask) (cell : ℕ → ℕ) → length (map cell (members_from k E)) ≤ length E
+unfolding members_from
+members_few k [] cell = omega arith
+members_few k (false ∷ E) cell = let z = members_few (suc k) E cell in omega arith
+members_few k (true ∷ E) cell = let z = members_few (suc k) E cell in omega arith
 
-own-few : (cs : List ℕ) → length (own cs) ≤ length cs
+own_few : (cs : List ℕ) → length (own cs) ≤ length cs
 unfolding passing
-own-few [] = omega arith
-own-few (c ∷ cs) = by (ltb c commonFrom) (own-few cs)
+own_few [] = omega arith
+own_few (c ∷ cs) = by (ltb c common_from) (own_few cs)
   where
     by : (b : Bool) → length (own cs) ≤ length cs → length (cond b (c ∷ own cs) (own cs)) ≤ suc (length cs)
     by true h = omega (arith, h)
@@ -147,53 +147,53 @@ own-few (c ∷ cs) = by (ltb c commonFrom) (own-few cs)
 
 module _ (cell : ℕ → ℕ) (n mask stamp : ℕ) (stamps memo : List ℕ) (M : Memo memo) where
   -- one thread alone
-  pub costs-alone : n ≤ 1 → Older stamp stamps → RowCosts cell n mask stamp 0 stamps memo
+  pub costs_alone : n ≤ 1 → Older stamp stamps → RowCosts cell n mask stamp 0 stamps memo
   unfolding members
-  costs-alone h O =
+  costs_alone h O =
       record {
-        cost-is = λ E e l a.
-            let cs = map cell (membersFrom 0 E) in
-            let z = cost-bound (own cs) in
-            let y = members-few 0 E cell in
-            let x = own-few cs in
+        cost_is = λ E e l a.
+            let cs = map cell (members_from 0 E) in
+            let z = cost_bound (own cs) in
+            let y = members_few 0 E cell in
+            let x = own_few cs in
             omega arith;
         few = omega arith;
-        older = older-still stamp stamps O;
+        older = older_still stamp stamps O;
         memo = M;
       }
 
   -- a row that is remembered
-  pub costs-again : (slot : ℕ) → slot < 16 → n ≤ 32 → Older stamp stamps → get_or memo (slot * 34 + 32) 0 ≡ mask → AtOneDistance n cell (lanesFrom memo (slot * 34))
-      → Nearby cell (lanesFrom memo (slot * 34)) → RowCosts cell n mask stamp (get_or memo (slot * 34 + 33) 0) stamps memo
+  pub costs_again : (slot : ℕ) → slot < 16 → n ≤ 32 → Older stamp stamps → get_or memo (slot * 34 + 32) 0 ≡ mask → AtOneDistance n cell (lanes_from memo (slot * 34))
+      → Nearby cell (lanes_from memo (slot * 34)) → RowCosts cell n mask stamp (get_or memo (slot * 34 + 33) 0) stamps memo
   unfolding members
-  costs-again slot h few O em D N =
+  costs_again slot h few O em D N =
       record {
-        cost-is = λ E e l a.
+        cost_is = λ E e l a.
             let told = M.each slot h E (em ∙ e) (omega arith) in
-            let all = recalled-near _ 0 cell (lanesFrom memo (slot * 34)) E (λ t k. D t (omega arith)) N told.0 a in
-            told.1 ∙ sym (cost-same n cell (lanesFrom memo (slot * 34)) E l D all told.0) ∙ ap conflictCost (sym (all_pass commonFrom (omega arith) _ all));
+            let all = recalled_near _ 0 cell (lanes_from memo (slot * 34)) E (λ t k. D t (omega arith)) N told.0 a in
+            told.1 ∙ sym (cost_same n cell (lanes_from memo (slot * 34)) E l D all told.0) ∙ ap conflict_cost (sym (all_pass common_from (omega arith) _ all));
         few = M.few slot h;
-        older = older-still stamp stamps O;
+        older = older_still stamp stamps O;
         memo = M;
       }
 
   module _ (r : ℕ) (C : RowCounted cell n mask stamp r stamps) (few : n ≤ 32) where
     -- a row with numbers that are no cells' is counted, and not remembered
-    pub costs-part : 32 ≤ r → RowCosts cell n mask stamp (r - 32) stamps memo
-    costs-part h =
+    pub costs_part : 32 ≤ r → RowCosts cell n mask stamp (r - 32) stamps memo
+    costs_part h =
         record {
-          cost-is = λ E e l a. C.part h E e (omega arith) ∙ ap conflictCost (cells-own _ a);
+          cost_is = λ E e l a. C.part h E e (omega arith) ∙ ap conflict_cost (cells_own _ a);
           few = omega (arith, C.few);
           older = C.older;
           memo = M;
         }
 
     -- a row without them is remembered too
-    pub costs-new : (slot : ℕ) (memo' : List ℕ) → r < 32 → Remembered cell mask r (slot * 34) memo memo' → RowCosts cell n mask stamp r stamps memo'
-    costs-new slot memo' small R =
+    pub costs_new : (slot : ℕ) (memo' : List ℕ) → r < 32 → Remembered cell mask r (slot * 34) memo memo' → RowCosts cell n mask stamp r stamps memo'
+    costs_new slot memo' small R =
         record {
-          cost-is = λ E e l a. let told = C.whole small E e (omega arith) in told.1 ∙ ap conflictCost (sym (all_pass commonFrom (omega arith) _ told.0));
+          cost_is = λ E e l a. let told = C.whole small E e (omega arith) in told.1 ∙ ap conflict_cost (sym (all_pass common_from (omega arith) _ told.0));
           few = omega arith;
           older = C.older;
-          memo = memo-more cell mask r slot memo memo' M R (omega arith) (C.whole small);
+          memo = memo_more cell mask r slot memo memo' M R (omega arith) (C.whole small);
         }

@@ -8,26 +8,26 @@ use native.Mathlib.Omega.{arith}
 use borrow.Author.Tests.{lt-ltb, le-ltb, ltb-false}
 use lib.Dec.{ltb}
 use lib.ListN.{length}
-use Rattle.spec.specs.Limits.{commonFrom}
+use Rattle.spec.specs.Limits.{common_from}
 use Rattle.spec.specs.Lists.{passing}
-use Rattle.spec.specs.Mask.{Mask, members, membersFrom}
+use Rattle.spec.specs.Mask.{Mask, members, members_from}
 use Rattle.spec.specs.Word.{add, sub, less, truth}
-use Rattle.spec.proofs.Laws.{lt-or-le}
-use Rattle.spec.proofs.BankLaws.{cost-bound}
+use Rattle.spec.proofs.Laws.{lt_or_le}
+use Rattle.spec.proofs.BankLaws.{cost_bound}
 use Rattle.banks.specs.Counting.{AllCells, AllFar, Known, Older, RowCounted, own, cells_of}
 
 -- At a distance within 1,024 of own cells there is no common one.
-beside : (c o d : ℕ) → o < 1024 → sub c o ≡ d → add d 1024 < 2048 → (c < 1024) ⊎ ((commonFrom ≤ c) × (c < commonFrom + 256)) → c < 1024
+beside : (c o d : ℕ) → o < 1024 → sub c o ≡ d → add d 1024 < 2048 → (c < 1024) ⊎ ((common_from ≤ c) × (c < common_from + 256)) → c < 1024
 beside c o d l e n (inl h) = h
 beside c o d l e n (inr h) = absurd (let a = h.0 in let b = h.1 in omega (arith, a, b))
 
-pub recalled-near : (d k : ℕ) (cell other : ℕ → ℕ) (E : Mask) → ((t : ℕ) → t < k + length E → sub (cell t) (other t) ≡ d) → add d 1024 < 2048
-    → AllCells (map other (membersFrom k E)) → Known (map cell (membersFrom k E)) → AllCells (map cell (membersFrom k E))
-unfolding membersFrom
-recalled-near d k cell other [] D n a h = tt
-recalled-near d k cell other (false ∷ E) D n a h = recalled-near d (suc k) cell other E (λ t l. D t (omega arith)) n a h
-recalled-near d k cell other (true ∷ E) D n a h =
-    (beside (cell k) (other k) d a.0 (D k (omega arith)) n h.0, recalled-near d (suc k) cell other E (λ t l. D t (omega arith)) n a.1 h.1)
+pub recalled_near : (d k : ℕ) (cell other : ℕ → ℕ) (E : Mask) → ((t : ℕ) → t < k + length E → sub (cell t) (other t) ≡ d) → add d 1024 < 2048
+    → AllCells (map other (members_from k E)) → Known (map cell (members_from k E)) → AllCells (map cell (members_from k E))
+unfolding members_from
+recalled_near d k cell other [] D n a h = tt
+recalled_near d k cell other (false ∷ E) D n a h = recalled_near d (suc k) cell other E (λ t l. D t (omega arith)) n a h
+recalled_near d k cell other (true ∷ E) D n a h =
+    (beside (cell k) (other k) d a.0 (D k (omega arith)) n h.0, recalled_near d (suc k) cell other E (λ t l. D t (omega arith)) n a.1 h.1)
 
 -- Where all are cells', all are below what no cell reaches.
 pub all_pass : (k : ℕ) → 1024 ≤ k → (cs : List ℕ) → AllCells cs → passing (λ c. ltb c k) cs ≡ cs
@@ -37,14 +37,14 @@ all_pass k h (c ∷ cs) a =
     ap (λ b. cond b (c ∷ passing (λ c. ltb c k) cs) (passing (λ c. ltb c k) cs)) (lt-ltb c k (let l = a.0 in omega arith)) ∙ ap (λ l. c ∷ l) (all_pass k h cs a.1)
 
 -- Of known numbers those that can cost something are those that are cells'.
-pub cells-own : (cs : List ℕ) → Known cs → cells_of cs ≡ own cs
+pub cells_own : (cs : List ℕ) → Known cs → cells_of cs ≡ own cs
 unfolding passing
-cells-own [] h = refl
-cells-own (c ∷ cs) h = ap₂ (λ b l. cond b (c ∷ l) l) (alike h.0) (cells-own cs h.1)
+cells_own [] h = refl
+cells_own (c ∷ cs) h = ap₂ (λ b l. cond b (c ∷ l) l) (alike h.0) (cells_own cs h.1)
   where
-    alike : (c < 1024) ⊎ ((commonFrom ≤ c) × (c < commonFrom + 256)) → ltb c 1024 ≡ ltb c commonFrom
-    alike (inl l) = lt-ltb c 1024 l ∙ sym (lt-ltb c commonFrom (omega arith))
-    alike (inr l) = let m = l.0 in le-ltb c 1024 (omega arith) ∙ sym (le-ltb c commonFrom m)
+    alike : (c < 1024) ⊎ ((common_from ≤ c) × (c < common_from + 256)) → ltb c 1024 ≡ ltb c common_from
+    alike (inl l) = lt-ltb c 1024 l ∙ sym (lt-ltb c common_from (omega arith))
+    alike (inr l) = let m = l.0 in le-ltb c 1024 (omega arith) ∙ sym (le-ltb c common_from m)
 
 -- Numbers that are looked at one after the other: so many of those so far are below the first common cell's.
 pub record Looking (cell : ℕ → ℕ) (n near t : ℕ) : Type 0 where
@@ -52,60 +52,60 @@ pub record Looking (cell : ℕ → ℕ) (n near t : ℕ) : Type 0 where
   pub few : near ≤ t
   pub far : near ≡ 0 → AllFar t cell
 
-less-few : (x k : ℕ) → less x k ≤ 1
-less-few x k = by (ltb x k)
+less_few : (x k : ℕ) → less x k ≤ 1
+less_few x k = by (ltb x k)
   where
     by : (b : Bool) → truth b ≤ 1
     by true = omega arith
     by false = omega arith
 
-not-less : (x k : ℕ) → less x k ≡ 0 → k ≤ x
-not-less x k = by (ltb x k) refl
+not_less : (x k : ℕ) → less x k ≡ 0 → k ≤ x
+not_less x k = by (ltb x k) refl
   where
     by : (b : Bool) → ltb x k ≡ b → truth b ≡ 0 → k ≤ x
     by true q e = absurd (omega (arith, e))
     by false q e = ltb-false x k q
 
-pub looking-none : (cell : ℕ → ℕ) (n : ℕ) → Looking cell n 0 0
-looking-none cell n = record { come = omega arith; few = omega arith; far = λ e t h. absurd (omega arith) }
+pub looking_none : (cell : ℕ → ℕ) (n : ℕ) → Looking cell n 0 0
+looking_none cell n = record { come = omega arith; few = omega arith; far = λ e t h. absurd (omega arith) }
 
-pub looking-few : (cell : ℕ → ℕ) (n near t v : ℕ) → Looking cell n near t → v ≡ less (cell t) commonFrom → near + v ≤ t + 1
-looking-few cell n near t v L e = omega (arith, L.few, e, less-few (cell t) commonFrom)
+pub looking_few : (cell : ℕ → ℕ) (n near t v : ℕ) → Looking cell n near t → v ≡ less (cell t) common_from → near + v ≤ t + 1
+looking_few cell n near t v L e = omega (arith, L.few, e, less_few (cell t) common_from)
 
-pub looking-more : (cell : ℕ → ℕ) (n near t v : ℕ) → Looking cell n near t → t < n → v ≡ less (cell t) commonFrom → Looking cell n (near + v) (t + 1)
-looking-more cell n near t v L h e =
-    record { come = omega arith; few = looking-few cell n near t v L e; far = λ z i l. by z i (lt-or-le i t) l }
+pub looking_more : (cell : ℕ → ℕ) (n near t v : ℕ) → Looking cell n near t → t < n → v ≡ less (cell t) common_from → Looking cell n (near + v) (t + 1)
+looking_more cell n near t v L h e =
+    record { come = omega arith; few = looking_few cell n near t v L e; far = λ z i l. by z i (lt_or_le i t) l }
   where
-    by : near + v ≡ 0 → (i : ℕ) → (i < t) ⊎ (t ≤ i) → i < t + 1 → commonFrom ≤ cell i
+    by : near + v ≡ 0 → (i : ℕ) → (i < t) ⊎ (t ≤ i) → i < t + 1 → common_from ≤ cell i
     by z i (inl l) m = L.far (omega (arith, z)) i l
     by z i (inr l) m =
         let same : t ≡ i = omega arith in
-        subst (λ j. commonFrom ≤ cell j) same (not-less (cell t) commonFrom (sym e ∙ (let y : v ≡ 0 = omega (arith, z) in y)))
+        subst (λ j. common_from ≤ cell j) same (not_less (cell t) common_from (sym e ∙ (let y : v ≡ 0 = omega (arith, z) in y)))
 
 -- So none of them is a cell's.
-none-near : (cell : ℕ → ℕ) (k : ℕ) (E : Mask) → AllFar (k + length E) cell → cells_of (map cell (membersFrom k E)) ≡ []
-unfolding membersFrom passing
-none-near cell k [] F = refl
-none-near cell k (false ∷ E) F = none-near cell (suc k) E (λ t l. F t (omega arith))
-none-near cell k (true ∷ E) F =
+none_near : (cell : ℕ → ℕ) (k : ℕ) (E : Mask) → AllFar (k + length E) cell → cells_of (map cell (members_from k E)) ≡ []
+unfolding members_from passing
+none_near cell k [] F = refl
+none_near cell k (false ∷ E) F = none_near cell (suc k) E (λ t l. F t (omega arith))
+none_near cell k (true ∷ E) F =
     let far = F k (omega arith) in
-    ap (λ b. cond b (cell k ∷ cells_of (map cell (membersFrom (suc k) E))) (cells_of (map cell (membersFrom (suc k) E)))) (le-ltb (cell k) 1024 (omega (arith, far)))
-    ∙ none-near cell (suc k) E (λ t l. F t (omega arith))
+    ap (λ b. cond b (cell k ∷ cells_of (map cell (members_from (suc k) E))) (cells_of (map cell (members_from (suc k) E)))) (le-ltb (cell k) 1024 (omega (arith, far)))
+    ∙ none_near cell (suc k) E (λ t l. F t (omega arith))
 
 -- A row of such numbers is counted at once, and every row of fewer threads is counted as one of 32 at most.
-pub counted-far : (cell : ℕ → ℕ) (n mask stamp : ℕ) (stamps : List ℕ) → AllFar n cell → Older (stamp + 1) stamps → RowCounted cell n mask stamp 32 stamps
+pub counted_far : (cell : ℕ → ℕ) (n mask stamp : ℕ) (stamps : List ℕ) → AllFar n cell → Older (stamp + 1) stamps → RowCounted cell n mask stamp 32 stamps
 unfolding members
-counted-far cell n mask stamp stamps F O =
+counted_far cell n mask stamp stamps F O =
     record {
       whole = λ h E e l. absurd (omega arith);
       part = λ h E e l.
-          let none = ap length (none-near cell 0 E (λ t m. F t (omega (arith, l)))) in
-          let z = cost-bound (cells_of (map cell (membersFrom 0 E))) in
+          let none = ap length (none_near cell 0 E (λ t m. F t (omega (arith, l)))) in
+          let z = cost_bound (cells_of (map cell (members_from 0 E))) in
           omega arith;
       few = omega arith;
       older = O;
     }
 
-pub counted-fewer : (cell : ℕ → ℕ) (n mask stamp r : ℕ) (stamps : List ℕ) → n ≤ 32 → RowCounted cell 32 mask stamp r stamps → RowCounted cell n mask stamp r stamps
-counted-fewer cell n mask stamp r stamps h C =
+pub counted_fewer : (cell : ℕ → ℕ) (n mask stamp r : ℕ) (stamps : List ℕ) → n ≤ 32 → RowCounted cell 32 mask stamp r stamps → RowCounted cell n mask stamp r stamps
+counted_fewer cell n mask stamp r stamps h C =
     record { whole = C.whole; part = λ s E e l. C.part s E e (omega arith); few = C.few; older = C.older }

@@ -1,8 +1,8 @@
 // What a row's bank conflicts cost. They are counted by stamps: each cell has the last row that used it, so that nothing is cleared between rows. What
 // was counted last is remembered for a few rows: the same cells, all moved by one distance or by none, cost the same again.
 ghost use Rattle.std.specs.Prelude.{◌≡◌, true, ◌+◌, ◌-◌, ◌*◌, ◌^◌, ◌<◌, ◌≤◌, length, get_or};
-ghost use Rattle.banks.specs.Counting.{numbersIn, Older, Fit, Counted, RowCounted, AllFar};
-ghost use Rattle.banks.specs.Remembering.{AtOneDistance, Nearby, lanesFrom, Memo, Remembered, RowCosts};
+ghost use Rattle.banks.specs.Counting.{numbers_in, Older, Fit, Counted, RowCounted, AllFar};
+ghost use Rattle.banks.specs.Remembering.{AtOneDistance, Nearby, lanes_from, Memo, Remembered, RowCosts};
 
 // A cell that the row uses: where it has not used it before, its bank has one more. The largest count so far comes in and goes out.
 fn count(stamps: &mut [u32; 1024], counts: &mut [u32; 16], stamp: u32, i: usize, most: u32) -> u32
@@ -42,7 +42,7 @@ fn index(x: u32) -> usize
 // any the answer is 32 more, which no row costs.
 fn count_row(regs: &[u32; 512], r: usize, mask: u32, stamps: &mut [u32; 1024], stamp: u32) -> u32
     requires { (length regs.now ≡ 512) × (r < 16) × Older stamp stamps.old }
-    ensures { RowCounted (numbersIn regs.now r) 32 mask stamp result stamps.new }
+    ensures { RowCounted (numbers_in regs.now r) 32 mask stamp result stamps.new }
 {
     let mut m = mask;
     let mut t = 0;
@@ -67,8 +67,8 @@ fn count_row(regs: &[u32; 512], r: usize, mask: u32, stamps: &mut [u32; 1024], s
 // Whether the first n numbers in register r are at one distance from those that are remembered from `at` on.
 fn at_one_distance(regs: &[u32; 512], r: usize, memo: &[u32; 544], at: usize, n: usize) -> bool
     requires { (length regs.now ≡ 512) × (length memo.now ≡ 544) × (r < 16) × (at + 34 ≤ 544) × (n ≤ 32) }
-    ensures { result ≡ true → AtOneDistance n (numbersIn regs.now r) (lanesFrom memo.now at)
-        × Nearby (numbersIn regs.now r) (lanesFrom memo.now at) }
+    ensures { result ≡ true → AtOneDistance n (numbers_in regs.now r) (lanes_from memo.now at)
+        × Nearby (numbers_in regs.now r) (lanes_from memo.now at) }
 {
     let distance = words::sub(regs[r * 32], memo[at]);
     if 2048 <= words::add(distance, 1024) {
@@ -86,7 +86,7 @@ fn at_one_distance(regs: &[u32; 512], r: usize, memo: &[u32; 544], at: usize, n:
 // The numbers in register r, the mask and the cost, remembered from `at` on.
 fn remember(regs: &[u32; 512], r: usize, mask: u32, cost: u32, memo: &mut [u32; 544], at: usize)
     requires { (length regs.now ≡ 512) × (length memo.old ≡ 544) × (r < 16) × (at + 34 ≤ 544) }
-    ensures { Remembered (numbersIn regs.now r) mask cost at memo.old memo.new }
+    ensures { Remembered (numbers_in regs.now r) mask cost at memo.old memo.new }
 {
     let mut t = 0;
     while t < 32 {
@@ -101,8 +101,8 @@ fn remember(regs: &[u32; 512], r: usize, mask: u32, cost: u32, memo: &mut [u32; 
 fn recalls(regs: &[u32; 512], r: usize, n: u32, mask: u32, memo: &[u32; 544], at: usize) -> bool
     requires { (length regs.now ≡ 512) × (length memo.now ≡ 544) × (r < 16) × (at + 34 ≤ 544) × (n ≤ 32) }
     ensures { result ≡ true → (get_or memo.now (at + 32) 0 ≡ mask)
-        × AtOneDistance n (numbersIn regs.now r) (lanesFrom memo.now at)
-        × Nearby (numbersIn regs.now r) (lanesFrom memo.now at) }
+        × AtOneDistance n (numbers_in regs.now r) (lanes_from memo.now at)
+        × Nearby (numbers_in regs.now r) (lanes_from memo.now at) }
 {
     if memo[at + 32] != mask {
         return false;
@@ -113,7 +113,7 @@ fn recalls(regs: &[u32; 512], r: usize, n: u32, mask: u32, memo: &[u32; 544], at
 // Whether the first n numbers in register r are all common cells', or beyond: then they cost nothing. Mostly the first one tells that they are not.
 fn all_far(regs: &[u32; 512], r: usize, n: usize) -> bool
     requires { (length regs.now ≡ 512) × (r < 16) × (n ≤ 32) }
-    ensures { result ≡ true → AllFar n (numbersIn regs.now r) }
+    ensures { result ≡ true → AllFar n (numbers_in regs.now r) }
 {
     if regs[r * 32] < 65536 {
         return false;
@@ -137,7 +137,7 @@ fn count_new(
     stamp: u32,
 ) -> u32
     requires { (length regs.now ≡ 512) × (r < 16) × (n ≤ 32) × Older stamp stamps.old }
-    ensures { RowCounted (numbersIn regs.now r) n mask stamp result stamps.new }
+    ensures { RowCounted (numbers_in regs.now r) n mask stamp result stamps.new }
 {
     if all_far(regs, r, n as usize) {
         return 32;
@@ -157,7 +157,7 @@ pub fn row_cost(
     slot: usize,
 ) -> u32
     requires { (length regs.now ≡ 512) × (r < 16) × (n ≤ 32) × (mask < 2 ^ n) × Older stamp stamps.old × Memo memo.old × (slot < 16) }
-    ensures { RowCosts (numbersIn regs.now r) n mask stamp result stamps.new memo.new }
+    ensures { RowCosts (numbers_in regs.now r) n mask stamp result stamps.new memo.new }
 {
     if n <= 1 {
         return 0;

@@ -11,121 +11,121 @@ use Rattle.admission.specs.declared.Admission.TheVariants as admission
 use Rattle.spec.specs.declared.Refusal.{Refusal}
 use Rattle.spec.specs.declared.Written.{Written}
 use Rattle.spec.specs.declared.Written.TheVariants as written
-use Rattle.admission.specs.Refusing.{refusalOf}
-use Rattle.spec.specs.Answers.{first, told, toldIn}
+use Rattle.admission.specs.Refusing.{refusal_of}
+use Rattle.spec.specs.Answers.{first, told, told_in}
 use Rattle.spec.specs.Table.{rows_of}
-use Rattle.spec.specs.TableCheck.{tableRefusal}
-use Rattle.spec.specs.Launch.{Launch, launchIntervals, launchLog, ownAfter, globalAfter}
-use Rattle.spec.specs.LaunchFile.{Checked, Read, stop, read, refused, accepted, unlessRefused, checkedTable, fileLaunch}
-use Rattle.spec.specs.Entries.{fileLent, andState, fileChecked, bareLaunch, launchReport, reportLength, ifAccepted, fileAnswer, fileCellsAfter, fileGlobalAfter}
-use Rattle.spec.specs.Entries.{fileLogAfter, fileRecordsAfter, fileOutputAfter, checkedRefusal, over, checkPrints}
-use Rattle.spec.specs.Limits.{recordsLent, fileOutput}
-use Rattle.spec.specs.Intervals.{recordWords}
+use Rattle.spec.specs.TableCheck.{table_refusal}
+use Rattle.spec.specs.Launch.{Launch, launch_intervals, launch_log, own_after, global_after}
+use Rattle.spec.specs.LaunchFile.{Checked, Read, stop, read, refused, accepted, unless_refused, checked_table, file_launch}
+use Rattle.spec.specs.Entries.{file_lent, and_state, file_checked, bare_launch, launch_report, report_length, if_accepted, file_answer, file_cells_after, file_global_after}
+use Rattle.spec.specs.Entries.{file_log_after, file_records_after, file_output_after, checked_refusal, over, check_prints}
+use Rattle.spec.specs.Limits.{records_lent, file_output}
+use Rattle.spec.specs.Intervals.{record_words}
 use Rattle.spec.specs.Shape.{sizes}
 use Rattle.spec.specs.Demands.{ReportDemand3, FileReadable, OfWritten}
-use Rattle.spec.proofs.Laws.{front_of}
-use Rattle.structure.proofs.Refusals.{unless-none, orElse-none}
-use Rattle.readback.proofs.Runs.{file-readable, launch-printed, report-demand3}
+use Rattle.spec.proofs.Laws.{front_of_lem}
+use Rattle.structure.proofs.Refusals.{unless_none, or_else_none}
+use Rattle.readback.proofs.Runs.{file_readable, launch_printed, report_demand3}
 use Rattle.filerun.specs.Launches.{Lent, ReportedLaunch}
 
-pub lent_is : (held shared logged recorded room : ℕ) → fileLent held shared logged recorded room ≡ none
-    → (held ≡ 1024) × (shared ≡ 1024) × (logged ≡ 8192) × (recordsLent ≤ recorded) × (24576 ≤ room)
-unfolding fileLent first
+pub lent_is : (held shared logged recorded room : ℕ) → file_lent held shared logged recorded room ≡ none
+    → (held ≡ 1024) × (shared ≡ 1024) × (logged ≡ 8192) × (records_lent ≤ recorded) × (24576 ≤ room)
+unfolding file_lent first
 lent_is held shared logged recorded room e =
-    let own-tested = (orElse-none _ _).0 e in
-    let global-tested = (orElse-none _ _).0 own-tested.1 in
-    let log-tested = (orElse-none _ _).0 global-tested.1 in
-    let records-tested = (orElse-none _ _).0 log-tested.1 in
-    let output-tested = (orElse-none _ _).0 records-tested.1 in (
-      eqb-true _ _ ((unless-none _ _).0 own-tested.0),
-      eqb-true _ _ ((unless-none _ _).0 global-tested.0),
-      eqb-true _ _ ((unless-none _ _).0 log-tested.0),
-      leb-true _ _ ((unless-none _ _).0 records-tested.0),
-      leb-true _ _ ((unless-none _ _).0 output-tested.0),
+    let own-tested = (or_else_none _ _).0 e in
+    let global-tested = (or_else_none _ _).0 own-tested.1 in
+    let log_tested = (or_else_none _ _).0 global-tested.1 in
+    let records-tested = (or_else_none _ _).0 log_tested.1 in
+    let output-tested = (or_else_none _ _).0 records-tested.1 in (
+      eqb-true _ _ ((unless_none _ _).0 own-tested.0),
+      eqb-true _ _ ((unless_none _ _).0 global-tested.0),
+      eqb-true _ _ ((unless_none _ _).0 log_tested.0),
+      leb-true _ _ ((unless_none _ _).0 records-tested.0),
+      leb-true _ _ ((unless_none _ _).0 output-tested.0),
     )
 
 module _ (file cells global log records output : List ℕ) where
   -- The answer, by its case and by number and place, the buffers, and what may be read from the report.
   abbrev pub Entry : Written → (cells' global' log' records' output' : List ℕ) → Type 0
   Entry r cells' global' log' records' output' =
-      (r ≡ fileAnswer file cells global log records output)
-      × ((toldIn r ≡ told (checkedRefusal (fileChecked file cells global log records output)))
-      × ((cells' ≡ fileCellsAfter file cells global log records output)
-      × ((global' ≡ fileGlobalAfter file cells global log records output)
-      × ((log' ≡ fileLogAfter file cells global log records output)
-      × ((records' ≡ fileRecordsAfter file cells global log records output)
-      × ((output' ≡ fileOutputAfter file cells global log records output)
+      (r ≡ file_answer file cells global log records output)
+      × ((told_in r ≡ told (checked_refusal (file_checked file cells global log records output)))
+      × ((cells' ≡ file_cells_after file cells global log records output)
+      × ((global' ≡ file_global_after file cells global log records output)
+      × ((log' ≡ file_log_after file cells global log records output)
+      × ((records' ≡ file_records_after file cells global log records output)
+      × ((output' ≡ file_output_after file cells global log records output)
       × (OfWritten (FileReadable file) r output' × OfWritten (ReportDemand3 file) r output')))))))
 
-  abbrev byState : Option Refusal
-  byState = fileLent (length cells) (length global) (length log) (length records) (length output)
+  abbrev by_state : Option Refusal
+  by_state = file_lent (length cells) (length global) (length log) (length records) (length output)
 
-  told_in : (x : Checked Launch) → toldIn (reportLength x) ≡ told (checkedRefusal x)
-  unfolding reportLength toldIn told checkedRefusal
-  told_in (refused why) = refl
-  told_in (accepted launch) = refl
+  told_in_lem : (x : Checked Launch) → told_in (report_length x) ≡ told (checked_refusal x)
+  unfolding report_length told_in told checked_refusal
+  told_in_lem (refused why) = refl
+  told_in_lem (accepted launch) = refl
 
   -- A launch that is run is the file's.
-  checked-launch : (x : Checked Launch) (state : Option Refusal) (launch : Launch) → andState x state ≡ accepted launch → x ≡ accepted launch
-  unfolding andState unlessRefused checkedRefusal
-  checked-launch (refused why) state launch e = e
-  checked-launch (accepted l) none launch e = e
-  checked-launch (accepted l) (some why) launch e = absurd (none-ne-some why (sym (ap checkedRefusal e)))
+  checked_launch : (x : Checked Launch) (state : Option Refusal) (launch : Launch) → and_state x state ≡ accepted launch → x ≡ accepted launch
+  unfolding and_state unless_refused checked_refusal
+  checked_launch (refused why) state launch e = e
+  checked_launch (accepted l) none launch e = e
+  checked_launch (accepted l) (some why) launch e = absurd (none-ne-some why (sym (ap checked_refusal e)))
 
   -- What is written is what `check` prints.
-  of-written : (P : List ℕ → Type 0) → P (checkPrints file) → OfWritten P (fileAnswer file cells global log records output) (fileOutputAfter file cells global log records output)
-  unfolding fileAnswer fileOutputAfter fileChecked reportLength ifAccepted
-  of-written P h = by (fileChecked file cells global log records output) refl
+  of_written : (P : List ℕ → Type 0) → P (check_prints file) → OfWritten P (file_answer file cells global log records output) (file_output_after file cells global log records output)
+  unfolding file_answer file_output_after file_checked report_length if_accepted
+  of_written P h = by (file_checked file cells global log records output) refl
     where
-      by : (x : Checked Launch) → fileChecked file cells global log records output ≡ x → OfWritten P (reportLength x) (ifAccepted x output launchReport)
+      by : (x : Checked Launch) → file_checked file cells global log records output ≡ x → OfWritten P (report_length x) (if_accepted x output launch_report)
       by (refused why) e = tt
       by (accepted launch) e =
-          rw (front_of (launchReport launch) output (over (launchReport launch) output) refl)
-          (subst P (launch-printed file launch (checked-launch (fileLaunch file) byState launch e)) h)
+          rw (front_of_lem (launch_report launch) output (over (launch_report launch) output) refl)
+          (subst P (launch_printed file launch (checked_launch (file_launch file) by_state launch e)) h)
 
-  entry : (r : Written) (cells' global' log' records' output' : List ℕ) → r ≡ fileAnswer file cells global log records output
-      → cells' ≡ fileCellsAfter file cells global log records output → global' ≡ fileGlobalAfter file cells global log records output → log' ≡ fileLogAfter file cells
-      global log records output → records' ≡ fileRecordsAfter file cells global log records output
-      → output' ≡ fileOutputAfter file cells global log records output → Entry r cells' global' log' records' output'
-  unfolding fileAnswer
+  entry : (r : Written) (cells' global' log' records' output' : List ℕ) → r ≡ file_answer file cells global log records output
+      → cells' ≡ file_cells_after file cells global log records output → global' ≡ file_global_after file cells global log records output → log' ≡ file_log_after file cells
+      global log records output → records' ≡ file_records_after file cells global log records output
+      → output' ≡ file_output_after file cells global log records output → Entry r cells' global' log' records' output'
+  unfolding file_answer
   entry r cells' global' log' records' output' a c g l w o =
-      let written : (P : List ℕ → Type 0) → P (checkPrints file) → OfWritten P r output' = λ P h. rw (a, o) (of-written P h) in (
+      let written : (P : List ℕ → Type 0) → P (check_prints file) → OfWritten P r output' = λ P h. rw (a, o) (of_written P h) in (
         a,
         (
-          ap toldIn a ∙ told_in (fileChecked file cells global log records output),
-          (c, (g, (l, (w, (o, (written (FileReadable file) (file-readable file), written (ReportDemand3 file) (report-demand3 file))))))),
+          ap told_in a ∙ told_in_lem (file_checked file cells global log records output),
+          (c, (g, (l, (w, (o, (written (FileReadable file) (file_readable file), written (ReportDemand3 file) (report_demand3 file))))))),
         ),
       )
 
-  turned-back : (why : Refusal) → fileChecked file cells global log records output ≡ refused why → Entry (written.Refused why) cells global log records output
-  unfolding fileAnswer fileCellsAfter fileGlobalAfter fileLogAfter fileRecordsAfter fileOutputAfter reportLength ifAccepted
-  turned-back why e =
-      entry (written.Refused why) cells global log records output (sym (ap reportLength e))
-      (sym (ap (λ x. ifAccepted x cells ownAfter) e)) (sym (ap (λ x. ifAccepted x global globalAfter) e)) (sym (ap (λ x. ifAccepted x log launchLog) e))
-      (sym (ap (λ x. ifAccepted x records (λ launch. recordWords (launchIntervals launch))) e)) (sym (ap (λ x. ifAccepted x output launchReport) e))
+  turned_back : (why : Refusal) → file_checked file cells global log records output ≡ refused why → Entry (written.Refused why) cells global log records output
+  unfolding file_answer file_cells_after file_global_after file_log_after file_records_after file_output_after report_length if_accepted
+  turned_back why e =
+      entry (written.Refused why) cells global log records output (sym (ap report_length e))
+      (sym (ap (λ x. if_accepted x cells own_after) e)) (sym (ap (λ x. if_accepted x global global_after) e)) (sym (ap (λ x. if_accepted x log launch_log) e))
+      (sym (ap (λ x. if_accepted x records (λ launch. record_words (launch_intervals launch))) e)) (sym (ap (λ x. if_accepted x output launch_report) e))
 
   -- From the input, and from the state.
-  pub file-refuses : (why : Refusal) → fileLaunch file ≡ refused why → Entry (written.Refused why) cells global log records output
-  unfolding fileChecked andState
-  file-refuses why e = turned-back why (ap (λ x. andState x byState) e)
+  pub file_refuses : (why : Refusal) → file_launch file ≡ refused why → Entry (written.Refused why) cells global log records output
+  unfolding file_checked and_state
+  file_refuses why e = turned_back why (ap (λ x. and_state x by_state) e)
 
-  pub state-refuses : (launch : Launch) (why : Refusal) → fileLaunch file ≡ accepted launch → byState ≡ some why → Entry (written.Refused why) cells global log records output
-  unfolding fileChecked andState unlessRefused
-  state-refuses launch why e q = turned-back why (ap₂ andState e q)
+  pub state_refuses : (launch : Launch) (why : Refusal) → file_launch file ≡ accepted launch → by_state ≡ some why → Entry (written.Refused why) cells global log records output
+  unfolding file_checked and_state unless_refused
+  state_refuses launch why e q = turned_back why (ap₂ and_state e q)
 
-  pub ran : (launch : Launch) (r : Written) (cells' global' log' records' output' : List ℕ) → fileLaunch file ≡ accepted launch → byState ≡ none
+  pub ran : (launch : Launch) (r : Written) (cells' global' log' records' output' : List ℕ) → file_launch file ≡ accepted launch → by_state ≡ none
       → ReportedLaunch launch cells global log records output r cells' global' log' records' output' → Entry r cells' global' log' records' output'
-  unfolding fileChecked andState unlessRefused fileAnswer fileCellsAfter fileGlobalAfter fileLogAfter fileRecordsAfter fileOutputAfter reportLength ifAccepted
+  unfolding file_checked and_state unless_refused file_answer file_cells_after file_global_after file_log_after file_records_after file_output_after report_length if_accepted
   ran launch r cells' global' log' records' output' e q d =
-      let taken : fileChecked file cells global log records output ≡ accepted launch = ap₂ andState e q in
-      entry r cells' global' log' records' output' (d.answered ∙ sym (ap reportLength taken))
-      (d.cells_left ∙ sym (ap (λ x. ifAccepted x cells ownAfter) taken)) (d.global-left ∙ sym (ap (λ x. ifAccepted x global globalAfter) taken))
-      (d.log-left ∙ sym (ap (λ x. ifAccepted x log launchLog) taken))
-      (d.records-left ∙ sym (ap (λ x. ifAccepted x records (λ l. recordWords (launchIntervals l))) taken))
-      (d.report-written ∙ sym (ap (λ x. ifAccepted x output launchReport) taken))
+      let taken : file_checked file cells global log records output ≡ accepted launch = ap₂ and_state e q in
+      entry r cells' global' log' records' output' (d.answered ∙ sym (ap report_length taken))
+      (d.cells_left ∙ sym (ap (λ x. if_accepted x cells own_after) taken)) (d.global_left ∙ sym (ap (λ x. if_accepted x global global_after) taken))
+      (d.log_left ∙ sym (ap (λ x. if_accepted x log launch_log) taken))
+      (d.records_left ∙ sym (ap (λ x. if_accepted x records (λ l. record_words (launch_intervals l))) taken))
+      (d.report_written ∙ sym (ap (λ x. if_accepted x output launch_report) taken))
 
   -- What running the launch asks of the buffers.
-  pub roomy : byState ≡ none → Lent cells global log records × (fileOutput ≤ length output)
+  pub roomy : by_state ≡ none → Lent cells global log records × (file_output ≤ length output)
   roomy q =
       let lent = lent_is (length cells) (length global) (length log) (length records) (length output) q in
-      (record { cellsLent = lent.0; globalLent = lent.1; logLent = lent.2; recordsLent = lent.3 }, lent.4)
+      (record { cells_lent = lent.0; global_lent = lent.1; log_lent = lent.2; records_lent = lent.3 }, lent.4)

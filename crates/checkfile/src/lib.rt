@@ -1,7 +1,7 @@
 // A launch file checked whole: read, run over the lent buffers, and reported.
 ghost use Rattle.std.specs.Prelude.{◌≡◌};
-ghost use Rattle.spec.specs.Answers.{told, toldIn};
-ghost use Rattle.spec.specs.Entries.{checkedRefusal, fileChecked, fileAnswer, fileCellsAfter, fileGlobalAfter, fileLogAfter, fileRecordsAfter, fileOutputAfter};
+ghost use Rattle.spec.specs.Answers.{told, told_in};
+ghost use Rattle.spec.specs.Entries.{checked_refusal, file_checked, file_answer, file_cells_after, file_global_after, file_log_after, file_records_after, file_output_after};
 ghost use Rattle.spec.specs.Demands.{ReportDemand3, FileReadable, OfWritten};
 
 use admission::Admission;
@@ -17,18 +17,18 @@ pub fn check_file(
     records: &mut [u32],
     output: &mut [u8],
 ) -> Written
-    ensures answer { result ≡ fileAnswer file.now cells.old global.old log.old records.old output.old }
-    ensures refusal { toldIn result ≡ told (checkedRefusal (fileChecked file.now
+    ensures answer { result ≡ file_answer file.now cells.old global.old log.old records.old output.old }
+    ensures refusal { told_in result ≡ told (checked_refusal (file_checked file.now
         cells.old global.old log.old records.old output.old)) }
-    ensures cells { cells.new ≡ fileCellsAfter file.now
+    ensures cells { cells.new ≡ file_cells_after file.now
         cells.old global.old log.old records.old output.old }
-    ensures global { global.new ≡ fileGlobalAfter file.now
+    ensures global { global.new ≡ file_global_after file.now
         cells.old global.old log.old records.old output.old }
-    ensures log { log.new ≡ fileLogAfter file.now
+    ensures log { log.new ≡ file_log_after file.now
         cells.old global.old log.old records.old output.old }
-    ensures records { records.new ≡ fileRecordsAfter file.now
+    ensures records { records.new ≡ file_records_after file.now
         cells.old global.old log.old records.old output.old }
-    ensures output { output.new ≡ fileOutputAfter file.now
+    ensures output { output.new ≡ file_output_after file.now
         cells.old global.old log.old records.old output.old }
     ensures reads { OfWritten (FileReadable file.now) result output.new }
     ensures runs { OfWritten (ReportDemand3 file.now) result output.new }

@@ -1,6 +1,6 @@
 // The reader of the common file: one pass over its lines, as with a launch file. Every fault in it is refusal 37, at its line.
 ghost use Rattle.std.specs.Prelude.{◌≡◌};
-ghost use Rattle.commonfile.specs.CommonRead.{refusedAt, CommonRead};
+ghost use Rattle.commonfile.specs.CommonRead.{refused_at, CommonRead};
 
 use admission::Admission;
 use spec::Refusal;
@@ -15,7 +15,7 @@ pub struct CommonFile {
 }
 
 fn refused(line: u32) -> CommonFile
-    ensures { result ≡ refusedAt line }
+    ensures { result ≡ refused_at line }
 {
     let words = [0u32; 256];
     CommonFile {

@@ -21,11 +21,11 @@ module _ (d : ℕ) (F : ℕ → ℕ) (regs : List ℕ) where
 
   module _ (regs' : List ℕ) (t : ℕ) (P : Puts d F regs regs' t) where
     -- The lane that is next is as it was.
-    pub puts-old : lane d regs' t ≡ lane d regs t
-    puts-old = P.above (d * 32 + t) (λ j k e. omega arith)
+    pub puts_old : lane d regs' t ≡ lane d regs t
+    puts_old = P.above (d * 32 + t) (λ j k e. omega arith)
 
-    pub puts-more : (x : ℕ) → d < 16 → length regs ≡ 512 → t < 32 → x ≡ F t → Puts d F regs (set regs' (d * 32 + t) x) (t + 1)
-    puts-more x l s h ex =
+    pub puts_more : (x : ℕ) → d < 16 → length regs ≡ 512 → t < 32 → x ≡ F t → Puts d F regs (set regs' (d * 32 + t) x) (t + 1)
+    puts_more x l s h ex =
         record {
           few = omega arith;
           size = length-set regs' (d * 32 + t) x ∙ P.size;
@@ -37,46 +37,46 @@ module _ (d : ℕ) (F : ℕ → ℕ) (regs : List ℕ) where
         by j q (yes e) = ap (lane d (set regs' (d * 32 + t) x)) e ∙ get_or-set_same regs' (d * 32 + t) x 0 (omega (arith, P.size)) ∙ ex ∙ ap F (sym e)
         by j q (no n) = get_or-set_other regs' (d * 32 + t) (d * 32 + j) x 0 (λ e. n (omega arith)) ∙ P.below j (omega (arith, n))
 
-    pub puts-all : 32 ≤ t → Puts d F regs regs' 32
-    puts-all h = subst (Puts d F regs regs') (let e : t ≡ 32 = omega (arith, P.few) in e) P
+    pub puts_all : 32 ≤ t → Puts d F regs regs' 32
+    puts_all h = subst (Puts d F regs regs') (let e : t ≡ 32 = omega (arith, P.few) in e) P
 
-pub ruleset putting = (puts_none, puts-more, puts-all, rules)
+pub ruleset putting = (puts_none, puts_more, puts_all, rules)
 
 -- Two that put the same into the lanes of n threads agree there.
-pub puts-agree : (d n : ℕ) (F G : ℕ → ℕ) (regs ys zs : List ℕ) → n ≤ 32 → Puts d F regs ys 32 → Puts d G regs zs n
+pub puts_agree : (d n : ℕ) (F G : ℕ → ℕ) (regs ys zs : List ℕ) → n ≤ 32 → Puts d F regs ys 32 → Puts d G regs zs n
     → ((t : ℕ) → t < n → F t ≡ G t) → (t r : ℕ) → t < n → lane r ys t ≡ lane r zs t
-puts-agree d n F G regs ys zs l P Q same t r h = by (ℕ_discrete r d)
+puts_agree d n F G regs ys zs l P Q same t r h = by (ℕ_discrete r d)
   where
     by : Dec (r ≡ d) → lane r ys t ≡ lane r zs t
     by (yes e) = ap (λ i. lane i ys t) e ∙ P.below t (omega arith) ∙ same t h ∙ sym (Q.below t h) ∙ ap (λ i. lane i zs t) (sym e)
     by (no ne) = P.above (r * 32 + t) (λ j k e. ne (omega arith)) ∙ sym (Q.above (r * 32 + t) (λ j k e. ne (omega arith)))
 
 -- What is put may be told in another way.
-pub puts-same : (d : ℕ) (F G : ℕ → ℕ) (regs ys : List ℕ) → Puts d F regs ys 32 → ((t : ℕ) → t < 32 → F t ≡ G t) → Puts d G regs ys 32
-puts-same d F G regs ys P same = record { few = P.few; size = P.size; below = λ j h. P.below j h ∙ same j h; above = P.above }
+pub puts_same : (d : ℕ) (F G : ℕ → ℕ) (regs ys : List ℕ) → Puts d F regs ys 32 → ((t : ℕ) → t < 32 → F t ≡ G t) → Puts d G regs ys 32
+puts_same d F G regs ys P same = record { few = P.few; size = P.size; below = λ j h. P.below j h ∙ same j h; above = P.above }
 
 -- A lane, by whether it is on.
-pub given-on : (on x d : ℕ) (regs : List ℕ) (t : ℕ) → on ≡ 1 → x ≡ given on x d regs t
-given-on on x d regs t e = sym (rw (eq-eqb on 1 e))
+pub given_on : (on x d : ℕ) (regs : List ℕ) (t : ℕ) → on ≡ 1 → x ≡ given on x d regs t
+given_on on x d regs t e = sym (rw (eq-eqb on 1 e))
 
-pub given-off : (on x d : ℕ) (regs : List ℕ) (t : ℕ) → (on ≡ 1 → ⊥) → lane d regs t ≡ given on x d regs t
-given-off on x d regs t n = sym (rw (ne_eqb on 1 n))
+pub given_off : (on x d : ℕ) (regs : List ℕ) (t : ℕ) → (on ≡ 1 → ⊥) → lane d regs t ≡ given on x d regs t
+given_off on x d regs t n = sym (rw (ne_eqb on 1 n))
 
 -- Every bit of 2 ^ n - 1 is 1.
-all-bits : (j t : ℕ) → (2 ^ (suc j + t) - 1) / 2 ^ t % 2 ≡ 1
-all-bits j t =
+all_bits : (j t : ℕ) → (2 ^ (suc j + t) - 1) / 2 ^ t % 2 ≡ 1
+all_bits j t =
     ap (λ z. z / 2 ^ t % 2) (ones_split (suc j) t) ∙ ap (λ z. z % 2) (high (2 ^ suc j - 1) t (ones_lt t))
     ∙ (let e : (2 ^ suc j - 1) % 2 ≡ 1 = omega (arith, pow_pos j) in e)
 
-pub all-on : (n mask t : ℕ) → mask ≡ 2 ^ n - 1 → t < n → mask / 2 ^ t % 2 ≡ 1
-all-on n mask t e h =
-    ap (λ z. z / 2 ^ t % 2) (e ∙ ap (λ z. 2 ^ z - 1) (let q : n ≡ suc (n - 1 - t) + t = omega arith in q)) ∙ all-bits (n - 1 - t) t
+pub all_on : (n mask t : ℕ) → mask ≡ 2 ^ n - 1 → t < n → mask / 2 ^ t % 2 ≡ 1
+all_on n mask t e h =
+    ap (λ z. z / 2 ^ t % 2) (e ∙ ap (λ z. 2 ^ z - 1) (let q : n ≡ suc (n - 1 - t) + t = omega arith in q)) ∙ all_bits (n - 1 - t) t
 
 -- Whether a lane is stored to.
 module _ (n mask t : ℕ) where
-  pub stored-all : mask ≡ 2 ^ n - 1 → stored n mask t ≡ true
+  pub stored_all : mask ≡ 2 ^ n - 1 → stored n mask t ≡ true
   unfolding stored
-  stored-all e = rw (eq-eqb mask (2 ^ n - 1) e)
+  stored_all e = rw (eq-eqb mask (2 ^ n - 1) e)
 
   pub stored_some : (mask ≡ 2 ^ n - 1 → ⊥) → stored n mask t ≡ eqb (mask / 2 ^ t % 2) 1
   unfolding stored
@@ -86,8 +86,8 @@ module _ (n mask t : ℕ) where
   stored_on q = by (ℕ_discrete mask (2 ^ n - 1))
     where
       by : Dec (mask ≡ 2 ^ n - 1) → stored n mask t ≡ true
-      by (yes e) = stored-all e
+      by (yes e) = stored_all e
       by (no ne) = stored_some ne ∙ eq-eqb (mask / 2 ^ t % 2) 1 q
 
-  pub stored-off : t < n → (mask / 2 ^ t % 2 ≡ 1 → ⊥) → stored n mask t ≡ false
-  stored-off h q = stored_some (λ e. q (all-on n mask t e h)) ∙ ne_eqb (mask / 2 ^ t % 2) 1 q
+  pub stored_off : t < n → (mask / 2 ^ t % 2 ≡ 1 → ⊥) → stored n mask t ≡ false
+  stored_off h q = stored_some (λ e. q (all_on n mask t e h)) ∙ ne_eqb (mask / 2 ^ t % 2) 1 q

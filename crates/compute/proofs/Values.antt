@@ -5,25 +5,25 @@ use Prim.Native.Nat.{ℕ, ◌+◌, ◌*◌, ◌<◌, ◌≤◌}
 use native.Mathlib.Omega.{arith}
 use native.Mathlib.Decide.{ℕ_discrete}
 use lib.ListN.{replicate, get_or-replicate}
-use Rattle.spec.specs.Op.{Calc, SET, TID, COUNT, LAUNCHTID, CALC, value, opTable, op_of}
+use Rattle.spec.specs.Op.{Calc, SET, TID, COUNT, LAUNCHTID, CALC, value, op_table, op_of}
 use Rattle.layout.specs.Memory.{ComputeAsks, lane}
 use Rattle.lanes.specs.Lanes.{Filled, zip}
 use Rattle.lanes.proofs.Ops.{OpIs, same_op}
 use Rattle.compute.specs.RowLanes.{RowLanes}
 
 module _ {op n a b : ℕ} {regs : List ℕ} where
-  pub by-set : {k : ℕ} → op ≡ 1 → k ≡ a + 256 * b → RowLanes op n a b regs (replicate 32 k)
-  unfolding op_of opTable value
-  by-set {k} e ek =
+  pub by_set : {k : ℕ} → op ≡ 1 → k ≡ a + 256 * b → RowLanes op n a b regs (replicate 32 k)
+  unfolding op_of op_table value
+  by_set {k} e ek =
       record {
         of = λ c o g. record {
           at = λ t h. get_or-replicate 32 t k 0 h ∙ ek ∙ ap (λ z. value z n t (g * n + t) a b (lane a regs t) (lane b regs t)) (same_op op 1 c SET e refl o);
         };
       }
 
-  pub by-tid : {v : List ℕ} → op ≡ 2 → Filled (λ t. t) v 32 → RowLanes op n a b regs v
-  unfolding op_of opTable value
-  by-tid e L =
+  pub by_tid : {v : List ℕ} → op ≡ 2 → Filled (λ t. t) v 32 → RowLanes op n a b regs v
+  unfolding op_of op_table value
+  by_tid e L =
       record {
         of = λ c o g. record {
           at = λ t h. L.below t h ∙ ap (λ z. value z n t (g * n + t) a b (lane a regs t) (lane b regs t)) (same_op op 2 c TID e refl o);
@@ -31,7 +31,7 @@ module _ {op n a b : ℕ} {regs : List ℕ} where
       }
 
   pub by_count : op ≡ 3 → RowLanes op n a b regs (replicate 32 n)
-  unfolding op_of opTable value
+  unfolding op_of op_table value
   by_count e =
       record {
         of = λ c o g. record {
@@ -39,13 +39,13 @@ module _ {op n a b : ℕ} {regs : List ℕ} where
         };
       }
 
-  pub by-registers : {k : ℕ} {x y v : List ℕ} {d : Calc} {f : ℕ → ℕ → ℕ} → op ≡ k → OpIs k d f → Filled (lane a regs) x 32 → Filled (lane b regs) y 32
+  pub by_registers : {k : ℕ} {x y v : List ℕ} {d : Calc} {f : ℕ → ℕ → ℕ} → op ≡ k → OpIs k d f → Filled (lane a regs) x 32 → Filled (lane b regs) y 32
       → Filled (zip f x y) v 32 → RowLanes op n a b regs v
-  by-registers {k} {x} {y} {v} {d} {f} e I X Y L =
+  by_registers {k} {x} {y} {v} {d} {f} e I X Y L =
       record {
         of = λ c o g. record {
           at = λ t h. L.below t h ∙ ap₂ f (X.below t h) (Y.below t h)
-              ∙ ap (λ v. v n t (g * n + t) a b (lane a regs t) (lane b regs t)) (sym I.gives ∙ ap value (same_op op k c d e I.op-is o));
+              ∙ ap (λ v. v n t (g * n + t) a b (lane a regs t) (lane b regs t)) (sym I.gives ∙ ap value (same_op op k c d e I.op_is o));
         };
       }
 
@@ -53,9 +53,9 @@ module _ {op n a b : ℕ} {regs : List ℕ} where
 abbrev pub ReadsThere : Calc → (n a b : ℕ) → Type 0
 ReadsThere c n a b = (t u p q p' q' : ℕ) → (a < 16 → p ≡ p') → (b < 16 → q ≡ q') → value c n t u a b p q ≡ value c n t u a b p' q'
 
-pub reads-there : (op d a b n : ℕ) (c : Calc) → op_of op ≡ CALC c → ComputeAsks op d a b → ReadsThere c n a b
-unfolding op_of opTable value
-reads-there op d a b n c o A t u p q p' q' ep eq = by (ℕ_discrete op 1) (ℕ_discrete op 2) (ℕ_discrete op 3)
+pub reads_there : (op d a b n : ℕ) (c : Calc) → op_of op ≡ CALC c → ComputeAsks op d a b → ReadsThere c n a b
+unfolding op_of op_table value
+reads_there op d a b n c o A t u p q p' q' ep eq = by (ℕ_discrete op 1) (ℕ_discrete op 2) (ℕ_discrete op 3)
   where
     unread : (k : Calc) → k ≡ c → value k n t u a b p q ≡ value k n t u a b p' q' → value c n t u a b p q ≡ value c n t u a b p' q'
     unread k e r = ap (λ z. value z n t u a b p q) (sym e) ∙ r ∙ ap (λ z. value z n t u a b p' q') e
@@ -66,6 +66,6 @@ reads-there op d a b n c o A t u p q p' q' ep eq = by (ℕ_discrete op 1) (ℕ_d
     by (no x) (no y) (yes e) = unread COUNT (same_op op 3 c COUNT e refl o) refl
     by (no x) (no y) (no z) = let k : 4 ≤ op = omega (arith, A.known) in ap₂ (value c n t u a b) (ep (A.left k)) (eq (A.right k))
 
-pub launch-reads : (n a b : ℕ) → ReadsThere LAUNCHTID n a b
+pub launch_reads : (n a b : ℕ) → ReadsThere LAUNCHTID n a b
 unfolding value
-launch-reads n a b t u p q p' q' ep eq = refl
+launch_reads n a b t u p q p' q' ep eq = refl

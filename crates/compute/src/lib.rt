@@ -1,7 +1,7 @@
 // A computing row: its values in all 32 lanes, then a store under the mask.
 ghost use Rattle.std.specs.Prelude.{◌≡◌, ◌+◌, ◌*◌, ◌/◌, ◌%◌, ◌^◌, ◌<◌, ◌≤◌, length, get_or};
 ghost use Rattle.spec.specs.Op.{LAUNCHTID};
-ghost use Rattle.layout.specs.Memory.{ComputeAsks, lane, Puts, computedLane, Computed};
+ghost use Rattle.layout.specs.Memory.{ComputeAsks, lane, Puts, computed_lane, Computed};
 ghost use Rattle.lanes.specs.Lanes.{Filled};
 ghost use Rattle.compute.specs.RowLanes.{picked, numbered, RowLanes};
 
@@ -133,7 +133,7 @@ fn put_numbers(regs: &mut [u32; 512], group: u32, n: u32, d: usize, on: u32)
 // A row of op 19, the launch number. It stores as every computing row does.
 pub fn launch_row(regs: &mut [u32; 512], group: u32, n: u32, mask: u32, d: usize)
     requires { (group < 8) × (n ≤ 32) × (d < 16) × (length regs.old ≡ 512) }
-    ensures { Puts d (computedLane LAUNCHTID group n mask d 0 0 regs.old) regs.old regs.new 32 }
+    ensures { Puts d (computed_lane LAUNCHTID group n mask d 0 0 regs.old) regs.old regs.new 32 }
 {
     let full = masks::all(n);
     let on = if mask == full { 4294967295 } else { mask };

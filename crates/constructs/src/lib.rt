@@ -1,9 +1,9 @@
 // The rows of constructs, and BARRIER. Masks are saved on entry, with the construct's row beside them.
 ghost use Rattle.std.specs.Prelude.{◌≡◌, ◌-◌, ◌*◌, ◌<◌, ◌≤◌, length, set};
-ghost use Rattle.spec.specs.Limits.{logPerCell};
-ghost use Rattle.layout.specs.Represents.{Room, Counted, RoomForWhile, DepthAsks, movedOn};
-ghost use Rattle.layout.specs.Constructs.{ifState, elseState, endifState, whileState, endwhileState, savedAfter, openersAfter, EnteredWhile, ConstructDone};
-ghost use Rattle.layout.specs.Constructs.{barrierNext, barrierLog};
+ghost use Rattle.spec.specs.Limits.{log_per_cell};
+ghost use Rattle.layout.specs.Represents.{Room, Counted, RoomForWhile, DepthAsks, moved_on};
+ghost use Rattle.layout.specs.Constructs.{if_state, else_state, endif_state, while_state, endwhile_state, saved_after, openers_after, EnteredWhile, ConstructDone};
+ghost use Rattle.layout.specs.Constructs.{barrier_next, barrier_log};
 
 fn if_row(
     regs: &[u32; 512],
@@ -13,7 +13,7 @@ fn if_row(
     s: layout::State,
 ) -> layout::State
     requires { Room s × (a < 16) × (s.depth < 8) }
-    ensures { Counted s result × (result ≡ ifState a regs.now s) × (saved.new ≡ set saved.old s.depth s.mask)
+    ensures { Counted s result × (result ≡ if_state a regs.now s) × (saved.new ≡ set saved.old s.depth s.mask)
         × (openers.new ≡ set openers.old s.depth s.row) }
 {
     let depth = s.depth;
@@ -35,7 +35,7 @@ fn if_row(
 
 fn else_row(saved: &[u32; 8], openers: &mut [usize; 8], s: layout::State) -> layout::State
     requires { Room s × (0 < s.depth) × (s.depth ≤ 8) }
-    ensures { Counted s result × (result ≡ elseState saved.now s)
+    ensures { Counted s result × (result ≡ else_state saved.now s)
         × (openers.new ≡ set openers.old (s.depth - 1) s.row) }
 {
     let depth = s.depth;
@@ -56,7 +56,7 @@ fn else_row(saved: &[u32; 8], openers: &mut [usize; 8], s: layout::State) -> lay
 
 fn endif_row(saved: &[u32; 8], s: layout::State) -> layout::State
     requires { Room s × (0 < s.depth) × (s.depth ≤ 8) }
-    ensures { Counted s result × (result ≡ endifState saved.now s) }
+    ensures { Counted s result × (result ≡ endif_state saved.now s) }
 {
     let depth = s.depth;
     let m = saved[depth - 1];
@@ -97,9 +97,9 @@ fn while_row(
     s: layout::State,
 ) -> layout::State
     requires { Room s × (a < 16) × (end < 256) × RoomForWhile s openers.old }
-    ensures { Counted s result × (result ≡ whileState a end regs.now s saved.old openers.old)
-        × (saved.new ≡ savedAfter 35 s saved.old openers.old)
-        × (openers.new ≡ openersAfter 35 s openers.old) }
+    ensures { Counted s result × (result ≡ while_state a end regs.now s saved.old openers.old)
+        × (saved.new ≡ saved_after 35 s saved.old openers.old)
+        × (openers.new ≡ openers_after 35 s openers.old) }
 {
     let row = s.row;
     let mask = s.mask;
@@ -130,7 +130,7 @@ fn while_row(
 
 fn endwhile_row(openers: &[usize; 8], s: layout::State) -> layout::State
     requires { Room s × (0 < s.depth) × (s.depth ≤ 8) }
-    ensures { Counted s result × (result ≡ endwhileState openers.now s) }
+    ensures { Counted s result × (result ≡ endwhile_state openers.now s) }
 {
     let depth = s.depth;
     layout::State {
@@ -168,7 +168,7 @@ pub fn construct_row(
 // On at the next row, after one more step of each enabled thread.
 pub fn moved(s: layout::State) -> layout::State
     requires { Room s }
-    ensures { result ≡ movedOn s }
+    ensures { result ≡ moved_on s }
 {
     layout::State {
         reach: s.reach,
@@ -183,8 +183,8 @@ pub fn moved(s: layout::State) -> layout::State
 
 // BARRIER, in a launch of so many cells.
 pub fn barrier_row(log: &mut [u32], cells: usize, n: u32, s: layout::State) -> layout::Next
-    requires { Room s × (1 ≤ n) × (n ≤ 32) × (length log.old ≡ logPerCell * cells) }
-    ensures { (result ≡ barrierNext n s) × (log.new ≡ barrierLog n s cells log.old) }
+    requires { Room s × (1 ≤ n) × (n ≤ 32) × (length log.old ≡ log_per_cell * cells) }
+    ensures { (result ≡ barrier_next n s) × (log.new ≡ barrier_log n s cells log.old) }
 {
     let mask = s.mask;
     let all = masks::all(n);

@@ -8,45 +8,45 @@ use native.Mathlib.Omega.{arith}
 use lib.Dec.{ltb}
 use lib.ListN.{length, take, drop}
 use Rattle.spec.specs.Text.{text}
-use Rattle.spec.specs.LaunchFile.{stop, read, times, due, rowValue}
+use Rattle.spec.specs.LaunchFile.{stop, read, times, due, row_value}
 use Rattle.spec.specs.declared.Refusal.TheVariants.{LineNotDue}
 use Rattle.spec.specs.Table.{rows_of}
-use Rattle.filelines.specs.Lines.{keyedValue, nextIn}
-use Rattle.filelines.specs.Values.{rowBytes, as_row}
-use Rattle.filelines.proofs.RowBytes.{turned, times-rows}
-use Rattle.contents.specs.Taken.{taken, putRow, foursOf, RowsTaken}
+use Rattle.filelines.specs.Lines.{keyed_value, next_in}
+use Rattle.filelines.specs.Values.{row_bytes, as_row}
+use Rattle.filelines.proofs.RowBytes.{turned, times_rows}
+use Rattle.contents.specs.Taken.{taken, put_row, fours_of, RowsTaken}
 use Rattle.contents.proofs.Times.{Going, start, more, stops, fronts, ends}
-use Rattle.contents.proofs.Filling.{row_put, row_kept, row-long, fours-rows}
+use Rattle.contents.proofs.Filling.{row_put, row_kept, row_long, fours_rows}
 
 pub record RowsGoing (file : List ℕ) (n : ℕ) (table after rest : List ℕ) (k : ℕ) : Type 0 where
   pub under : k ≤ n
   pub long : length after ≡ 1024
-  pub going : Going "row" rowBytes file k rest (foursOf (take (4 * k) after))
+  pub going : Going "row" row_bytes file k rest (fours_of (take (4 * k) after))
   pub kept : drop (4 * k) after ≡ drop (4 * k) table
 
 pub rows_start : (file : List ℕ) (n : ℕ) (table : List ℕ) → length table ≡ 1024 → RowsGoing file n table table file 0
-unfolding foursOf
-rows_start file n table l = record { under = omega arith; long = l; going = start "row" rowBytes file; kept = refl }
+unfolding fours_of
+rows_start file n table l = record { under = omega arith; long = l; going = start "row" row_bytes file; kept = refl }
 
 module _ {file : List ℕ} {n : ℕ} {table after rest : List ℕ} {k : ℕ} (g : RowsGoing file n table after rest k) where
-  pub rows_more : n ≤ 256 → k < n → (op d a b : ℕ) → keyedValue (text "row") rowBytes rest ≡ some (op ∷ d ∷ a ∷ b ∷ [])
-      → {put left : List ℕ} → put ≡ putRow after (4 * k) op d a b → left ≡ nextIn rest → RowsGoing file n table put left (k + 1)
+  pub rows_more : n ≤ 256 → k < n → (op d a b : ℕ) → keyed_value (text "row") row_bytes rest ≡ some (op ∷ d ∷ a ∷ b ∷ [])
+      → {put left : List ℕ} → put ≡ put_row after (4 * k) op d a b → left ≡ next_in rest → RowsGoing file n table put left (k + 1)
   rows_more m h op d a b e p q =
       record {
         under = omega arith;
-        long = ap length p ∙ row-long after (4 * k) op d a b ∙ g.long;
+        long = ap length p ∙ row_long after (4 * k) op d a b ∙ g.long;
         going = λ i line.
             rw (q, p, row_put after k op d a b g.long (omega arith))
-            (more "row" rowBytes file k rest (foursOf (take (4 * k) after)) g.going (op ∷ d ∷ a ∷ b ∷ []) e i line);
+            (more "row" row_bytes file k rest (fours_of (take (4 * k) after)) g.going (op ∷ d ∷ a ∷ b ∷ []) e i line);
         kept = rw p (row_kept after table k op d a b g.kept);
       }
 
-  pub rows-stop : k < n → keyedValue (text "row") rowBytes rest ≡ none → RowsTaken n file table after k rest
-  rows-stop h e =
+  pub rows_stop : k < n → keyed_value (text "row") row_bytes rest ≡ none → RowsTaken n file table after k rest
+  rows_stop h e =
       record {
         within = omega arith;
-        lines = λ line. stops "row" rowBytes file k rest (foursOf (take (4 * k) after)) g.going n h e line (foursOf (take (4 * n) after)) rest;
-        front = fronts "row" rowBytes file k rest (foursOf (take (4 * k) after)) g.going;
+        lines = λ line. stops "row" row_bytes file k rest (fours_of (take (4 * k) after)) g.going n h e line (fours_of (take (4 * n) after)) rest;
+        front = fronts "row" row_bytes file k rest (fours_of (take (4 * k) after)) g.going;
         long = g.long;
         kept = g.kept;
       }
@@ -57,21 +57,21 @@ module _ {file : List ℕ} {n : ℕ} {table after rest : List ℕ} {k : ℕ} (g 
       record {
         within = omega arith;
         lines = λ line.
-            ends "row" rowBytes file k rest (foursOf (take (4 * k) after)) g.going n e line
-            ∙ ap (λ (m : ℕ). taken n line k (foursOf (take (4 * m) after)) rest) e;
-        front = fronts "row" rowBytes file k rest (foursOf (take (4 * k) after)) g.going;
+            ends "row" row_bytes file k rest (fours_of (take (4 * k) after)) g.going n e line
+            ∙ ap (λ (m : ℕ). taken n line k (fours_of (take (4 * m) after)) rest) e;
+        front = fronts "row" row_bytes file k rest (fours_of (take (4 * k) after)) g.going;
         long = g.long;
         kept = g.kept;
       }
 
 -- The rows of the definition, where it reads them.
-pub rows-lines : {n : ℕ} {file table after : List ℕ} {good : ℕ} {rest : List ℕ} → RowsTaken n file table after good rest
-    → (line : ℕ) → times n (due "row" rowValue) line file ≡ taken n line good (rows_of (take (4 * n) after)) rest
+pub rows_lines : {n : ℕ} {file table after : List ℕ} {good : ℕ} {rest : List ℕ} → RowsTaken n file table after good rest
+    → (line : ℕ) → times n (due "row" row_value) line file ≡ taken n line good (rows_of (take (4 * n) after)) rest
 unfolding taken
-rows-lines {n} {file} {table} {after} {good} {rest} T line =
-    times-rows n line file ∙ ap (turned (map as_row)) (T.lines line) ∙ by (ltb good n)
+rows_lines {n} {file} {table} {after} {good} {rest} T line =
+    times_rows n line file ∙ ap (turned (map as_row)) (T.lines line) ∙ by (ltb good n)
   where
-    by : (b : Bool) → turned (map as_row) (cond b (stop (LineNotDue (line + good))) (read (foursOf (take (4 * n) after)) (line + n) rest))
+    by : (b : Bool) → turned (map as_row) (cond b (stop (LineNotDue (line + good))) (read (fours_of (take (4 * n) after)) (line + n) rest))
         ≡ cond b (stop (LineNotDue (line + good))) (read (rows_of (take (4 * n) after)) (line + n) rest)
     by true = unfold turned in refl
-    by false = unfold turned in (ap (λ xs. read xs (line + n) rest) (fours-rows (take (4 * n) after)))
+    by false = unfold turned in (ap (λ xs. read xs (line + n) rest) (fours_rows (take (4 * n) after)))

@@ -3,29 +3,29 @@ use Rattle.std.specs.Prelude.{◌≡◌, List, [], ◌∷◌, cond, ℕ, ◌+◌
 use Prim.Native.String.{String}
 use Rattle.spec.specs.Text.{text}
 use Rattle.spec.specs.LaunchFile.{Read, stop, read, times, due, number}
-use Rattle.filelines.specs.Values.{rowBytes}
+use Rattle.filelines.specs.Values.{row_bytes}
 use Rattle.spec.specs.declared.Refusal.TheVariants.{LineNotDue}
 
 -- Line `line` is the first of them.
 unfoldable pub taken : {A : Type 0} → (n line good : ℕ) → List A → (rest : List ℕ) → Read (List A)
 taken n line good xs rest = cond (ltb good n) (stop (LineNotDue (line + good))) (read xs (line + n) rest)
 
-abbrev pub putRow : List ℕ → ℕ → (op d a b : ℕ) → List ℕ
-putRow table at op d a b = set (set (set (set table at op) (at + 1) d) (at + 2) a) (at + 3) b
+abbrev pub put_row : List ℕ → ℕ → (op d a b : ℕ) → List ℕ
+put_row table at op d a b = set (set (set (set table at op) (at + 1) d) (at + 2) a) (at + 3) b
 
 -- Bytes by fours, as the row lines give them.
-unfoldable pub foursOf : List ℕ → List (List ℕ)
-foursOf [] = []
-foursOf (op ∷ []) = []
-foursOf (op ∷ d ∷ []) = []
-foursOf (op ∷ d ∷ a ∷ []) = []
-foursOf (op ∷ d ∷ a ∷ b ∷ rest) = (op ∷ d ∷ a ∷ b ∷ []) ∷ foursOf rest
+unfoldable pub fours_of : List ℕ → List (List ℕ)
+fours_of [] = []
+fours_of (op ∷ []) = []
+fours_of (op ∷ d ∷ []) = []
+fours_of (op ∷ d ∷ a ∷ []) = []
+fours_of (op ∷ d ∷ a ∷ b ∷ rest) = (op ∷ d ∷ a ∷ b ∷ []) ∷ fours_of rest
 
 -- n rows: the bytes of the good lines go to the table's front, and all behind them is as it was.
 pub record RowsTaken (n : ℕ) (file table after : List ℕ) (good : ℕ) (rest : List ℕ) : Type 0 where
   pub within : good ≤ n
-  pub lines : (line : ℕ) → times n (due "row" rowBytes) line file ≡ taken n line good (foursOf (take (4 * n) after)) rest
-  pub front : (line : ℕ) → times good (due "row" rowBytes) line file ≡ read (foursOf (take (4 * good) after)) (line + good) rest
+  pub lines : (line : ℕ) → times n (due "row" row_bytes) line file ≡ taken n line good (fours_of (take (4 * n) after)) rest
+  pub front : (line : ℕ) → times good (due "row" row_bytes) line file ≡ read (fours_of (take (4 * good) after)) (line + good) rest
   pub long : length after ≡ 1024
   pub kept : drop (4 * good) after ≡ drop (4 * good) table
 

@@ -1,13 +1,13 @@
 // The rows and the cells of a launch file, line by line.
 ghost use Rattle.std.specs.Prelude.{◌≡◌, ◌*◌, ◌<◌, ◌≤◌, length};
-ghost use Rattle.contents.specs.Taken.{putRow, RowsTaken, CellsTaken};
+ghost use Rattle.contents.specs.Taken.{put_row, RowsTaken, CellsTaken};
 
 use filelines::Bytes;
 use text::Number;
 
 fn put_row(table: &mut [u8; 1024], row: usize, op: u8, d: u8, a: u8, b: u8)
     requires { row < 256 }
-    ensures { table.new ≡ putRow table.old (4 * row) op d a b }
+    ensures { table.new ≡ put_row table.old (4 * row) op d a b }
 {
     let at = 4 * row;
     table[at] = op;

@@ -6,39 +6,39 @@ use mathlib.Core.Option.{Option, none, some}
 use Prim.Native.Nat.{ℕ, zero, suc}
 use Rattle.spec.specs.Text.{text}
 use Rattle.spec.specs.Table.{Row}
-use Rattle.spec.specs.LaunchFile.{Read, stop, read, Reader, continue, ◌>>=◌, gives, inOrder, times, given, due, rowValue}
-use Rattle.filelines.specs.Lines.{keyed, valueIn, nextIn, keyedValue, lineRead}
-use Rattle.filelines.specs.Values.{fourBytes, rowBytes, as_row}
-use Rattle.filelines.proofs.DueLines.{due-line}
+use Rattle.spec.specs.LaunchFile.{Read, stop, read, Reader, continue, ◌>>=◌, gives, in_order, times, given, due, row_value}
+use Rattle.filelines.specs.Lines.{keyed, value_in, next_in, keyed_value, line_read}
+use Rattle.filelines.specs.Values.{four_bytes, row_bytes, as_row}
+use Rattle.filelines.proofs.DueLines.{due_line}
 
 -- A value that is taken further.
-given-given : {A B C : Type 0} (o : Option A) (f : A → Option B) (g : B → Option C) → given (given o f) g ≡ given o (λ a. given (f a) g)
+given_given : {A B C : Type 0} (o : Option A) (f : A → Option B) (g : B → Option C) → given (given o f) g ≡ given o (λ a. given (f a) g)
 unfolding given
-given-given none f g = refl
-given-given (some a) f g = refl
+given_given none f g = refl
+given_given (some a) f g = refl
 
-row-value : (value : List ℕ) → given (rowBytes value) (λ bytes. some (as_row bytes)) ≡ rowValue value
-unfolding rowValue rowBytes fourBytes as_row given
-row-value value = simp given-given
+row_value_lem : (value : List ℕ) → given (row_bytes value) (λ bytes. some (as_row bytes)) ≡ row_value value
+unfolding row_value row_bytes four_bytes as_row given
+row_value_lem value = simp given_given
 
 -- What a reading comes to, with each value turned.
 unfoldable pub turned : {A B : Type 0} → (A → B) → Read A → Read B
 turned f (stop why) = stop why
 turned f (read a line rest) = read (f a) line rest
 
-line_row : (line : ℕ) (rest : List ℕ) → due "row" rowValue line rest ≡ turned as_row (due "row" rowBytes line rest)
-unfolding keyedValue
+line_row : (line : ℕ) (rest : List ℕ) → due "row" row_value line rest ≡ turned as_row (due "row" row_bytes line rest)
+unfolding keyed_value
 line_row line rest =
-    due-line line "row" rowValue rest ∙ by (keyed (text "row") rest) ∙ sym (ap (turned as_row) (due-line line "row" rowBytes rest))
+    due_line line "row" row_value rest ∙ by (keyed (text "row") rest) ∙ sym (ap (turned as_row) (due_line line "row" row_bytes rest))
   where
-    one : (o : Option (List ℕ)) → lineRead line (given o (λ bytes. some (as_row bytes))) (nextIn rest) ≡ turned as_row (lineRead line o (nextIn rest))
-    one none = unfold given lineRead turned in refl
-    one (some a) = unfold given lineRead turned in refl
+    one : (o : Option (List ℕ)) → line_read line (given o (λ bytes. some (as_row bytes))) (next_in rest) ≡ turned as_row (line_read line o (next_in rest))
+    one none = unfold given line_read turned in refl
+    one (some a) = unfold given line_read turned in refl
 
-    by : (k : Bool) → lineRead line (cond k (rowValue (valueIn rest)) none) (nextIn rest)
-        ≡ turned as_row (lineRead line (cond k (rowBytes (valueIn rest)) none) (nextIn rest))
-    by true = ap (λ (o : Option Row). lineRead line o (nextIn rest)) (sym (row-value (valueIn rest))) ∙ one (rowBytes (valueIn rest))
-    by false = unfold lineRead turned in refl
+    by : (k : Bool) → line_read line (cond k (row_value (value_in rest)) none) (next_in rest)
+        ≡ turned as_row (line_read line (cond k (row_bytes (value_in rest)) none) (next_in rest))
+    by true = ap (λ (o : Option Row). line_read line o (next_in rest)) (sym (row_value_lem (value_in rest))) ∙ one (row_bytes (value_in rest))
+    by false = unfold line_read turned in refl
 
 -- One line more.
 module _ (n : ℕ) (p : Reader Row) (q : Reader (List ℕ))
@@ -55,9 +55,9 @@ module _ (n : ℕ) (p : Reader Row) (q : Reader (List ℕ))
   one_more (stop why) = refl
   one_more (read x line rest) = ap (λ r. continue r (λ ys. gives (as_row x ∷ ys))) (all line rest) ∙ behind x (times n q line rest)
 
-pub times-rows : (n line : ℕ) (file : List ℕ) → times n (due "row" rowValue) line file ≡ turned (map as_row) (times n (due "row" rowBytes) line file)
-unfolding times inOrder gives turned ◌>>=◌
-times-rows zero line file = refl
-times-rows (suc n) line file =
-    ap (λ r. continue r (λ x. times n (due "row" rowValue) >>= λ ys. gives (x ∷ ys))) (line_row line file)
-    ∙ one_more n (due "row" rowValue) (due "row" rowBytes) (times-rows n) (due "row" rowBytes line file)
+pub times_rows : (n line : ℕ) (file : List ℕ) → times n (due "row" row_value) line file ≡ turned (map as_row) (times n (due "row" row_bytes) line file)
+unfolding times in_order gives turned ◌>>=◌
+times_rows zero line file = refl
+times_rows (suc n) line file =
+    ap (λ r. continue r (λ x. times n (due "row" row_value) >>= λ ys. gives (x ∷ ys))) (line_row line file)
+    ∙ one_more n (due "row" row_value) (due "row" row_bytes) (times_rows n) (due "row" row_bytes line file)

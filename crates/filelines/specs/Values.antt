@@ -1,28 +1,28 @@
 -- Values as the source answers them, and as the definition does. Assumes nothing.
 use Rattle.std.specs.Prelude.{List, [], ◌∷◌, Bool, true, false, cond, ℕ, get_or}
 use Rattle.std.proofs.Math.Option.{Option, none, some}
-use Rattle.spec.specs.Lists.{equalList}
-use Rattle.spec.specs.Text.{comma, splitAt}
+use Rattle.spec.specs.Lists.{equal_list}
+use Rattle.spec.specs.Text.{comma, split_at}
 use Rattle.spec.specs.LaunchFile.{given, byte}
 use Rattle.spec.specs.Table.{Row, row_of}
 use Rattle.filelines.specs.declared.Bytes.{Bytes}
 use Rattle.filelines.specs.declared.Bytes.TheVariants.{Four, Bad}
 
-abbrev pub bytesIn : Bytes → Option (List ℕ)
-bytesIn (Four op d a b) = some (op ∷ d ∷ a ∷ b ∷ [])
-bytesIn Bad = none
+abbrev pub bytes_in : Bytes → Option (List ℕ)
+bytes_in (Four op d a b) = some (op ∷ d ∷ a ∷ b ∷ [])
+bytes_in Bad = none
 
 abbrev pub word_in : Bool → Option (Unit {0})
 word_in true = some tt
 word_in false = none
 
 -- A fixed text, given by its bytes.
-unfoldable pub exactBytes : List ℕ → List ℕ → Option (Unit {0})
-exactBytes word value = cond (equalList value word) (some tt) none
+unfoldable pub exact_bytes : List ℕ → List ℕ → Option (Unit {0})
+exact_bytes word value = cond (equal_list value word) (some tt) none
 
 -- Four numbers below 256.
-unfoldable pub fourBytes : (op d a b : List ℕ) → Option (List ℕ)
-fourBytes op d a b =
+unfoldable pub four_bytes : (op d a b : List ℕ) → Option (List ℕ)
+four_bytes op d a b =
     given (byte op) λ op.
     given (byte d) λ d.
     given (byte a) λ a.
@@ -30,12 +30,12 @@ fourBytes op d a b =
     some (op ∷ d ∷ a ∷ b ∷ [])
 
 -- A row's value, byte by byte: a row of the definition does not tell which op was unknown.
-unfoldable pub rowBytes : List ℕ → Option (List ℕ)
-rowBytes value =
-    given (splitAt comma value) λ first.
-    given (splitAt comma first.behind) λ second.
-    given (splitAt comma second.behind) λ third.
-    fourBytes first.before second.before third.before third.behind
+unfoldable pub row_bytes : List ℕ → Option (List ℕ)
+row_bytes value =
+    given (split_at comma value) λ first.
+    given (split_at comma first.behind) λ second.
+    given (split_at comma second.behind) λ third.
+    four_bytes first.before second.before third.before third.behind
 
 -- The row of four bytes.
 unfoldable pub as_row : List ℕ → Row

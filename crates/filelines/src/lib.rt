@@ -3,8 +3,8 @@ ghost use Rattle.std.specs.Prelude.{◌≡◌};
 ghost use Rattle.spec.specs.Text.{text};
 ghost use Rattle.spec.specs.LaunchFile.{number};
 ghost use Rattle.text.specs.Numbers.{number_of};
-ghost use Rattle.filelines.specs.Lines.{keyed, valueIn, nextIn, keyedValue};
-ghost use Rattle.filelines.specs.Values.{bytesIn, word_in, exactBytes, fourBytes, rowBytes};
+ghost use Rattle.filelines.specs.Lines.{keyed, value_in, next_in, keyed_value};
+ghost use Rattle.filelines.specs.Values.{bytes_in, word_in, exact_bytes, four_bytes, row_bytes};
 
 use text::Number;
 
@@ -17,7 +17,7 @@ pub enum Bytes {
 
 // What is left behind the first line.
 pub fn next<'a>(rest: &'a [u8]) -> &'a [u8]
-    ensures { result.now ≡ nextIn rest.now }
+    ensures { result.now ≡ next_in rest.now }
 {
     let line = text::before(rest, 10);
     text::behind(rest, line)
@@ -25,7 +25,7 @@ pub fn next<'a>(rest: &'a [u8]) -> &'a [u8]
 
 // The part of the first line after its first `=`.
 pub fn value<'a>(rest: &'a [u8]) -> &'a [u8]
-    ensures { result.now ≡ valueIn rest.now }
+    ensures { result.now ≡ value_in rest.now }
 {
     let line = text::before(rest, 10);
     let name = text::before(line, 61);
@@ -49,7 +49,7 @@ pub fn is_keyed(rest: &[u8], key: &[u8]) -> bool
 
 // The number that the first line gives this key.
 pub fn number_line(rest: &[u8], key: &[u8]) -> Number
-    ensures { keyedValue key.now number rest.now ≡ number_of result }
+    ensures { keyed_value key.now number rest.now ≡ number_of result }
 {
     if is_keyed(rest, key) {
         let found = value(rest);
@@ -61,7 +61,7 @@ pub fn number_line(rest: &[u8], key: &[u8]) -> Number
 
 // Whether the first line gives this key this text.
 pub fn word_line(rest: &[u8], key: &[u8], word: &[u8]) -> bool
-    ensures { keyedValue key.now (exactBytes word.now) rest.now ≡ word_in result }
+    ensures { keyed_value key.now (exact_bytes word.now) rest.now ≡ word_in result }
 {
     if is_keyed(rest, key) {
         let found = value(rest);
@@ -73,7 +73,7 @@ pub fn word_line(rest: &[u8], key: &[u8], word: &[u8]) -> bool
 
 // Four numbers below 256.
 fn four<'a>(op: &'a [u8], d: &'a [u8], a: &'a [u8], b: &'a [u8]) -> Bytes
-    ensures { fourBytes op.now d.now a.now b.now ≡ bytesIn result }
+    ensures { four_bytes op.now d.now a.now b.now ≡ bytes_in result }
 {
     let Number::Value(x) = text::number_below(op, 256) else {
         return Bytes::Bad;
@@ -92,7 +92,7 @@ fn four<'a>(op: &'a [u8], d: &'a [u8], a: &'a [u8], b: &'a [u8]) -> Bytes
 
 // A row's value: four numbers with commas between them.
 pub fn row(found: &[u8]) -> Bytes
-    ensures { rowBytes found.now ≡ bytesIn result }
+    ensures { row_bytes found.now ≡ bytes_in result }
 {
     let op = text::before(found, 44);
     if found.len() <= op.len() {
@@ -114,7 +114,7 @@ pub fn row(found: &[u8]) -> Bytes
 
 // The row that the first line gives.
 pub fn row_line(rest: &[u8]) -> Bytes
-    ensures { keyedValue (text "row") rowBytes rest.now ≡ bytesIn result }
+    ensures { keyed_value (text "row") row_bytes rest.now ≡ bytes_in result }
 {
     if is_keyed(rest, b"row") {
         let found = value(rest);

@@ -1,13 +1,13 @@
 // What the program check prints for a launch file: the report of its run, or of its refusal.
 ghost use Rattle.std.specs.Prelude.{◌≡◌, ◌≤◌, length, take};
-ghost use Rattle.spec.specs.Entries.{over, checkPrints};
+ghost use Rattle.spec.specs.Entries.{over, check_prints};
 ghost use Rattle.spec.specs.Demands.{ReportDemand3, FileReadable};
 
 use spec::Written;
 
 pub fn report_file(file: &[u8], output: &mut [u8; 24576]) -> usize
-    ensures long { result ≡ length (checkPrints file.now) }
-    ensures written { output.new ≡ over (checkPrints file.now) output.old }
+    ensures long { result ≡ length (check_prints file.now) }
+    ensures written { output.new ≡ over (check_prints file.now) output.old }
     ensures fits { result ≤ length output.new }
     ensures reads { FileReadable file.now (take result output.new) }
     ensures runs { ReportDemand3 file.now (take result output.new) }

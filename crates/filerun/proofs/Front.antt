@@ -6,7 +6,7 @@ use native.Mathlib.Omega.{arith}
 use lib.ListN.{length, take, drop}
 use lib.Seq.{take_at, drop_at, length-take-le}
 use Rattle.spec.specs.Entries.{over}
-use Rattle.layout.specs.Views.{putPart}
+use Rattle.layout.specs.Views.{put_part}
 
 pub front_length : (k : ℕ) (xs : List ℕ) → k ≤ length xs → k ≡ length (take k xs)
 front_length k xs h = sym (length-take-le k xs h)
@@ -23,12 +23,12 @@ pub given_back : (k : ℕ) (ys xs : List ℕ) → length ys ≡ k → ys ++ drop
 unfolding over
 given_back k ys xs e = ap (λ (n : ℕ). ys ++ drop n xs) (sym e)
 
-pub given-back-over : (w ys xs l : List ℕ) → l ≡ over w xs → length ys ≡ length w → ys ++ drop (length w) l ≡ over ys xs
+pub given_back_over : (w ys xs l : List ℕ) → l ≡ over w xs → length ys ≡ length w → ys ++ drop (length w) l ≡ over ys xs
 unfolding over
-given-back-over w ys xs l q e =
+given_back_over w ys xs l q e =
     ap (λ (p : List ℕ). ys ++ p) (ap (drop (length w)) q ∙ drop_at w (drop (length w) xs) (length w) refl) ∙ given_back (length w) ys xs e
 
 -- Words put at the front stand over what was there.
-pub placed-over : (w xs placed : List ℕ) → placed ≡ putPart 0 w xs → placed ≡ over w xs
-unfolding over putPart
-placed-over w xs placed e = e ∙ ap (λ n. w ++ drop n xs) (let z : 0 + length w ≡ length w = omega arith in z)
+pub placed_over : (w xs placed : List ℕ) → placed ≡ put_part 0 w xs → placed ≡ over w xs
+unfolding over put_part
+placed_over w xs placed e = e ∙ ap (λ n. w ++ drop n xs) (let z : 0 + length w ≡ length w = omega arith in z)

@@ -6,137 +6,137 @@ use Prim.Native.Nat.{ℕ, ◌+◌, ◌*◌, ◌≤◌}
 use native.Mathlib.Nat.{mul-le-mul}
 use native.Mathlib.Omega.{arith}
 use lib.ListN.{length, take, drop, replicate, length-replicate}
-use Rattle.spec.specs.Limits.{launchLogPerCell, fileOutput}
+use Rattle.spec.specs.Limits.{launch_log_per_cell, file_output}
 use Rattle.spec.specs.declared.Outcome.{Outcome}
 use Rattle.spec.specs.declared.Refusal.{Refusal}
 use Rattle.spec.specs.declared.Written.{Written}
 use Rattle.spec.specs.declared.Written.TheVariants.{Wrote}
 use Rattle.spec.specs.Table.{rows_of}
-use Rattle.spec.specs.Launch.{Launch, launchOutcome, launchSteps, launchLog, ownAfter, globalAfter}
-use Rattle.spec.specs.Report.{runReport, reportOf}
-use Rattle.spec.specs.Entries.{over, bareLaunch, launchReport, writerRefusal, writerAnswer, writerBuffer, written_of, keptIf}
-use Rattle.spec.proofs.Laws.{front_of}
-use Rattle.allruns.proofs.LaunchSteps.{steps-long}
-use Rattle.launchrun.specs.Launches.{RunIs, sizesBy}
+use Rattle.spec.specs.Launch.{Launch, launch_outcome, launch_steps, launch_log, own_after, global_after}
+use Rattle.spec.specs.Report.{run_report, report_of}
+use Rattle.spec.specs.Entries.{over, bare_launch, launch_report, writer_refusal, writer_answer, writer_buffer, written_of, kept_if}
+use Rattle.spec.proofs.Laws.{front_of_lem}
+use Rattle.allruns.proofs.LaunchSteps.{steps_long}
+use Rattle.launchrun.specs.Launches.{RunIs, sizes_by}
 use Rattle.report.specs.Subjects.{ran, FitsOutput}
-use Rattle.report.proofs.Entry.{lines-right, fitting}
-use Rattle.reportlines.proofs.Writing.{over-length}
-use Rattle.filerun.specs.Launches.{CanRun, launchOf, Ran, ReportedLaunch}
-use Rattle.layout.specs.Views.{putPart}
-use Rattle.filerun.proofs.Front.{given_back, given-back-over, placed-over}
+use Rattle.report.proofs.Entry.{lines_right, fitting}
+use Rattle.reportlines.proofs.Writing.{over_length}
+use Rattle.filerun.specs.Launches.{CanRun, launch_of, Ran, ReportedLaunch}
+use Rattle.layout.specs.Views.{put_part}
+use Rattle.filerun.proofs.Front.{given_back, given_back_over, placed_over}
 
 -- The writer has room for the report of as many threads and cells as a launch has.
 module _ (o : Outcome) (steps cells global output : List ℕ) where
   accepted : 1 ≤ length steps → length steps ≤ 256 → 1 ≤ length cells + length global → length cells + length global ≤ 1024 → 24576 ≤ length output
       → FitsOutput (ran o) steps cells global
-      → (writerRefusal (ran o) steps cells global output ≡ none) × (length (runReport o steps cells global) ≤ 24576)
-  unfolding reportOf
+      → (writer_refusal (ran o) steps cells global output ≡ none) × (length (run_report o steps cells global) ≤ 24576)
+  unfolding report_of
   accepted one most some few room fits =
-      let right = lines-right o steps cells global one most some few in
-      (fitting (ran o) steps cells global output (length (reportOf (ran o) steps cells global)) right refl (omega (arith, fits right)), fits right)
+      let right = lines_right o steps cells global one most some few in
+      (fitting (ran o) steps cells global output (length (report_of (ran o) steps cells global)) right refl (omega (arith, fits right)), fits right)
 
-  wrote : writerRefusal (ran o) steps cells global output ≡ none → writerAnswer (ran o) steps cells global output ≡ Wrote (length (runReport o steps cells global))
-  unfolding writerAnswer written_of reportOf
-  wrote e = ap (λ (x : Option Refusal). written_of x (length (runReport o steps cells global))) e
+  wrote : writer_refusal (ran o) steps cells global output ≡ none → writer_answer (ran o) steps cells global output ≡ Wrote (length (run_report o steps cells global))
+  unfolding writer_answer written_of report_of
+  wrote e = ap (λ (x : Option Refusal). written_of x (length (run_report o steps cells global))) e
 
-  written : writerRefusal (ran o) steps cells global output ≡ none → writerBuffer (ran o) steps cells global output ≡ over (runReport o steps cells global) output
-  unfolding writerBuffer keptIf reportOf
-  written e = ap (λ (x : Option Refusal). keptIf x output (over (runReport o steps cells global) output)) e
+  written : writer_refusal (ran o) steps cells global output ≡ none → writer_buffer (ran o) steps cells global output ≡ over (run_report o steps cells global) output
+  unfolding writer_buffer kept_if report_of
+  written e = ap (λ (x : Option Refusal). kept_if x output (over (run_report o steps cells global) output)) e
 
 -- A buffer of 1,024 words has room for the words that were put at its front.
-pub placed-room : (w xs placed : List ℕ) → placed ≡ putPart 0 w xs → length w ≤ 1024 → length xs ≡ 1024 → length w ≤ length placed
-placed-room w xs placed p few long =
-    let e = ap length (placed-over w xs placed p) ∙ over-length w xs (omega (arith, few, long)) in omega (arith, few, long, e)
+pub placed_room : (w xs placed : List ℕ) → placed ≡ put_part 0 w xs → length w ≤ 1024 → length xs ≡ 1024 → length w ≤ length placed
+placed_room w xs placed p few long =
+    let e = ap length (placed_over w xs placed p) ∙ over_length w xs (omega (arith, few, long)) in omega (arith, few, long, e)
 
 -- A launch's threads are some of 256.
-pub threads-few : (groups threads : ℕ) → groups ≤ 8 → threads ≤ 32 → groups * threads ≤ 256
-threads-few groups threads g t = let h : groups * threads ≤ 8 * 32 = mul-le-mul g t in omega (arith, h)
+pub threads_few : (groups threads : ℕ) → groups ≤ 8 → threads ≤ 32 → groups * threads ≤ 256
+threads_few groups threads g t = let h : groups * threads ≤ 8 * 32 = mul-le-mul g t in omega (arith, h)
 
-threads-some : (groups threads : ℕ) → 1 ≤ groups → 1 ≤ threads → 1 ≤ groups * threads
-threads-some groups threads g t = let h : 1 * 1 ≤ groups * threads = mul-le-mul g t in omega (arith, h)
+threads_some : (groups threads : ℕ) → 1 ≤ groups → 1 ≤ threads → 1 ≤ groups * threads
+threads_some groups threads g t = let h : 1 * 1 ≤ groups * threads = mul-le-mul g t in omega (arith, h)
 
 module _ (table ends : List ℕ) (threads groups each limit : ℕ) (common words shared cells global log records : List ℕ)
     (asks : CanRun table ends threads groups each limit common words shared) where
   abbrev launch : Launch
-  launch = launchOf table threads groups each limit common words shared
+  launch = launch_of table threads groups each limit common words shared
 
   -- The buffers: the words placed, the fronts and the step counts that the run gave back.
-  module _ (placed placedGlobal : List ℕ) (p : placed ≡ over words cells) (pg : placedGlobal ≡ over shared global) (o : Outcome)
+  module _ (placed placed_global : List ℕ) (p : placed ≡ over words cells) (pg : placed_global ≡ over shared global) (o : Outcome)
       (ys gs zs ws counts : List ℕ)
-      (ran-it : RunIs (bareLaunch table (sizesBy threads groups each common (take (length shared) placedGlobal)) limit (take (length words) placed)
-      (take (length shared) placedGlobal)) records o ys gs zs ws counts) where
+      (ran-it : RunIs (bare_launch table (sizes_by threads groups each common (take (length shared) placed_global)) limit (take (length words) placed)
+      (take (length shared) placed_global)) records o ys gs zs ws counts) where
     -- The run was that of the launch.
     run : RunIs launch records o ys gs zs ws counts
     run =
         subst (λ l. RunIs l records o ys gs zs ws counts)
-        (ap₂ (λ w s. bareLaunch table (sizesBy threads groups each common s) limit w s) (front_of words cells placed p) (front_of shared global placedGlobal pg)) ran-it
+        (ap₂ (λ w s. bare_launch table (sizes_by threads groups each common s) limit w s) (front_of_lem words cells placed p) (front_of_lem shared global placed_global pg)) ran-it
 
-    pub left : length ys ≡ length words → length gs ≡ length shared → length zs ≡ launchLogPerCell * (length words + length shared)
+    pub left : length ys ≡ length words → length gs ≡ length shared → length zs ≡ launch_log_per_cell * (length words + length shared)
         → Ran table threads groups each limit common words shared cells global log records o (ys ++ drop (length words) placed)
-        (gs ++ drop (length shared) placedGlobal) (zs ++ drop (launchLogPerCell * (length words + length shared)) log) ws counts
+        (gs ++ drop (length shared) placed_global) (zs ++ drop (launch_log_per_cell * (length words + length shared)) log) ws counts
     left ly lg lz =
         record {
           ran = record {
-            outcome-is = run.outcome-is;
-            cells_left = given-back-over words ys cells placed p ly ∙ ap (λ (w : List ℕ). over w cells) run.cells_are;
-            global-left = given-back-over shared gs global placedGlobal pg lg ∙ ap (λ (w : List ℕ). over w global) run.global-are;
-            log-left = given_back (launchLogPerCell * (length words + length shared)) zs log lz ∙ ap (λ (w : List ℕ). over w log) run.log_is;
-            records-left = run.records-are;
-            steps-left = run.steps-are;
+            outcome_is = run.outcome_is;
+            cells_left = given_back_over words ys cells placed p ly ∙ ap (λ (w : List ℕ). over w cells) run.cells_are;
+            global_left = given_back_over shared gs global placed_global pg lg ∙ ap (λ (w : List ℕ). over w global) run.global_are;
+            log_left = given_back (launch_log_per_cell * (length words + length shared)) zs log lz ∙ ap (λ (w : List ℕ). over w log) run.log_is;
+            records_left = run.records_are;
+            steps_left = run.steps_are;
           };
-          own-long = sym (ap length run.cells_are) ∙ ly;
-          global-long = sym (ap length run.global-are) ∙ lg;
+          own_long = sym (ap length run.cells_are) ∙ ly;
+          global_long_lem = sym (ap length run.global_are) ∙ lg;
         }
 
   -- Every thread has its count.
-  counted : length (launchSteps launch) ≡ groups * threads
-  unfolding launchSteps bareLaunch
-  counted = steps-long (rows_of table) (sizesBy threads groups each common shared) limit (words ++ shared) asks.someGroup
+  counted : length (launch_steps launch) ≡ groups * threads
+  unfolding launch_steps bare_launch
+  counted = steps_long (rows_of table) (sizes_by threads groups each common shared) limit (words ++ shared) asks.some_group
 
   module _ (o : Outcome) (cells' global' log' records' counts : List ℕ)
       (R : Ran table threads groups each limit common words shared cells global log records o cells' global' log' records' counts) where
-    pub counts-long : length counts ≡ 256
-    counts-long =
-        ap length R.ran.steps-left
-        ∙ over-length (launchSteps launch) (replicate 256 0)
-        (omega (arith, counted, threads-few groups threads asks.fewGroups asks.fewThreads, length-replicate {A = ℕ} 256 0))
+    pub counts_long : length counts ≡ 256
+    counts_long =
+        ap length R.ran.steps_left
+        ∙ over_length (launch_steps launch) (replicate 256 0)
+        (omega (arith, counted, threads_few groups threads asks.few_groups asks.few_threads, length-replicate {A = ℕ} 256 0))
         ∙ length-replicate {A = ℕ} 256 0
 
     abbrev front : List ℕ
     front = take (length words) cells'
 
-    abbrev frontGlobal : List ℕ
-    frontGlobal = take (length shared) global'
+    abbrev front_global : List ℕ
+    front_global = take (length shared) global'
 
-    front-is : front ≡ ownAfter launch
-    front-is = ap (λ k. take k cells') (sym R.own-long) ∙ front_of (ownAfter launch) cells cells' R.ran.cells_left
+    front_is : front ≡ own_after launch
+    front_is = ap (λ k. take k cells') (sym R.own_long) ∙ front_of_lem (own_after launch) cells cells' R.ran.cells_left
 
-    global-is : frontGlobal ≡ globalAfter launch
-    global-is = ap (λ k. take k global') (sym R.global-long) ∙ front_of (globalAfter launch) global global' R.ran.global-left
+    global_is : front_global ≡ global_after launch
+    global_is = ap (λ k. take k global') (sym R.global_long_lem) ∙ front_of_lem (global_after launch) global global' R.ran.global_left
 
-    pub reported : (output : List ℕ) → fileOutput ≤ length output → (used : ℕ) → used ≡ groups * threads → let steps = take used counts in (out : List ℕ) (r : Written)
-        → r ≡ writerAnswer (ran o) steps front frontGlobal output → out ≡ writerBuffer (ran o) steps front frontGlobal output
-        → FitsOutput (ran o) steps front frontGlobal → ReportedLaunch launch cells global log records output r cells' global' log' records' out
-    unfolding launchReport
+    pub reported : (output : List ℕ) → file_output ≤ length output → (used : ℕ) → used ≡ groups * threads → let steps = take used counts in (out : List ℕ) (r : Written)
+        → r ≡ writer_answer (ran o) steps front front_global output → out ≡ writer_buffer (ran o) steps front front_global output
+        → FitsOutput (ran o) steps front front_global → ReportedLaunch launch cells global log records output r cells' global' log' records' out
+    unfolding launch_report
     reported output room used eu out r answer buffer fits =
         let steps = take used counts in
-        let own-long : length front ≡ length words = ap length front-is ∙ R.own-long in
-        let global-long : length frontGlobal ≡ length shared = ap length global-is ∙ R.global-long in
-        let steps-are : steps ≡ launchSteps launch =
-        subst (λ k. take k counts ≡ launchSteps launch) (counted ∙ sym eu) (front_of (launchSteps launch) (replicate 256 0) counts R.ran.steps-left) in
-        let every : length steps ≡ groups * threads = ap length steps-are ∙ counted in
-        let some_words : 1 ≤ length words = omega (arith, asks.own, threads-some groups each asks.someGroup asks.someCell) in
-        let taken = accepted o steps front frontGlobal output (omega (arith, every, threads-some groups threads asks.someGroup asks.someThread))
-        (omega (arith, every, threads-few groups threads asks.fewGroups asks.fewThreads)) (omega (arith, own-long, global-long, some_words))
-        (omega (arith, own-long, global-long, asks.fewCells)) room fits in
-        let whole : runReport o steps front frontGlobal ≡ launchReport launch =
-        λ i. runReport (R.ran.outcome-is i) (steps-are i) (front-is i) (global-is i) in
+        let own_long : length front ≡ length words = ap length front_is ∙ R.own_long in
+        let global_long_lem : length front_global ≡ length shared = ap length global_is ∙ R.global_long_lem in
+        let steps_are : steps ≡ launch_steps launch =
+        subst (λ k. take k counts ≡ launch_steps launch) (counted ∙ sym eu) (front_of_lem (launch_steps launch) (replicate 256 0) counts R.ran.steps_left) in
+        let every : length steps ≡ groups * threads = ap length steps_are ∙ counted in
+        let some_words : 1 ≤ length words = omega (arith, asks.own, threads_some groups each asks.some_group asks.some_cell) in
+        let taken = accepted o steps front front_global output (omega (arith, every, threads_some groups threads asks.some_group asks.some_thread))
+        (omega (arith, every, threads_few groups threads asks.few_groups asks.few_threads)) (omega (arith, own_long, global_long_lem, some_words))
+        (omega (arith, own_long, global_long_lem, asks.few_cells)) room fits in
+        let whole : run_report o steps front front_global ≡ launch_report launch =
+        λ i. run_report (R.ran.outcome_is i) (steps_are i) (front_is i) (global_is i) in
         record {
-          answered = answer ∙ wrote o steps front frontGlobal output taken.0 ∙ ap (λ (w : List ℕ). Wrote (length w)) whole;
+          answered = answer ∙ wrote o steps front front_global output taken.0 ∙ ap (λ (w : List ℕ). Wrote (length w)) whole;
           cells_left = R.ran.cells_left;
-          global-left = R.ran.global-left;
-          log-left = R.ran.log-left;
-          records-left = R.ran.records-left;
+          global_left = R.ran.global_left;
+          log_left = R.ran.log_left;
+          records_left = R.ran.records_left;
           fits = omega (arith, ap length whole, taken.1);
-          report-written = buffer ∙ written o steps front frontGlobal output taken.0 ∙ ap (λ (w : List ℕ). over w output) whole;
+          report_written = buffer ∙ written o steps front front_global output taken.0 ∙ ap (λ (w : List ℕ). over w output) whole;
         }

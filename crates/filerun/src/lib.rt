@@ -1,6 +1,6 @@
 // An accepted launch: run over the front of the lent buffers, and reported.
 ghost use Rattle.std.specs.Prelude.{◌≡◌, ◌*◌, ◌≤◌, length};
-ghost use Rattle.spec.specs.Limits.{fileOutput};
+ghost use Rattle.spec.specs.Limits.{file_output};
 ghost use Rattle.filerun.specs.Launches.{CanRun, Lent, Ran, Reported};
 
 use spec::{Outcome, Subject, Written};
@@ -75,7 +75,7 @@ pub fn report_launch(
     output: &mut [u8],
 ) -> Written
     requires { CanRun table.now ends.now threads groups each limit common.now words.now shared.now
-        × Lent cells.old global.old log.old records.old × (fileOutput ≤ length output.old) }
+        × Lent cells.old global.old log.old records.old × (file_output ≤ length output.old) }
     ensures { Reported table.now threads groups each limit common.now words.now shared.now
         cells.old global.old log.old records.old output.old result
         cells.new global.new log.new records.new output.new }

@@ -4,7 +4,7 @@ ghost use Rattle.std.specs.Int.Count.{count_trailing_zeros};
 ghost use Rattle.spec.specs.declared.Verdict.TheVariants.{GroupRace};
 ghost use Rattle.layout.specs.Logging.{SameBut};
 ghost use Rattle.layout.specs.Memory.{KeptBut, CellNumber};
-ghost use Rattle.layout.specs.Shared.{GroupAsks, GlobalAsks, GlobalOne, GlobalTurn, GlobalRow, groupKindWord};
+ghost use Rattle.layout.specs.Shared.{GroupAsks, GlobalAsks, GlobalOne, GlobalTurn, GlobalRow, group_kind_word};
 
 fn index(x: u32) -> usize
     ensures { result ≡ x }
@@ -15,7 +15,7 @@ fn index(x: u32) -> usize
 // The verdict where thread t's access of the cell numbered x meets the groups `others`: the lowest is named.
 fn group_race(masks: &[u32], cells: usize, x: u32, t: u32, others: u32, op: u8) -> spec::Verdict
     requires { (0 < others) × GroupAsks op cells x masks.now }
-    ensures { result ≡ GroupRace t (count_trailing_zeros 32 others) (groupKindWord op cells x (count_trailing_zeros 32 others) masks.now) x }
+    ensures { result ≡ GroupRace t (count_trailing_zeros 32 others) (group_kind_word op cells x (count_trailing_zeros 32 others) masks.now) x }
 {
     let other = masks::lowest(others);
     let kind = groupmasks::race_kind(masks, cells, index(x), other, op);

@@ -8,10 +8,10 @@ use borrow.Author.Tests.{eq-eqb, ne_eqb}
 use lib.Bits.{bit_and, bit_or, or_zero_l, or_zero_r}
 use lib.ListN.{length, get_or, set}
 use Rattle.spec.specs.Access.{Mode, reads, writes, adds, agree}
-use Rattle.spec.specs.Log.{shownKind}
-use Rattle.layout.specs.Logging.{mode_of, rank, place_of, word_of, hasBit, maskEntered}
-use Rattle.layout.specs.Shared.{GroupAsks, groupsMet, rivalsWord, groupKindWord}
-use Rattle.layout.proofs.LogTests.{word-reads, word-writes}
+use Rattle.spec.specs.Log.{shown_kind}
+use Rattle.layout.specs.Logging.{mode_of, rank, place_of, word_of, has_bit, mask_entered}
+use Rattle.layout.specs.Shared.{GroupAsks, groups_met, rivals_word, group_kind_word}
+use Rattle.layout.proofs.LogTests.{word_reads, word_writes}
 
 -- The groups that an access meets: by a LOAD writers and adders, by a STORE all, by an ATOMIC ADD writers and readers.
 module _ (op k i bit : ℕ) (masks : List ℕ) where
@@ -27,32 +27,32 @@ module _ (op k i bit : ℕ) (masks : List ℕ) where
   abbrev readers : ℕ
   readers = get_or masks i 0
 
-  adders-are : word_of (rank adds) k i masks ≡ adders
+  adders_are : word_of (rank adds) k i masks ≡ adders
   unfolding word_of place_of rank
-  adders-are = refl
+  adders_are = refl
 
-  pub rivals-load : op ≡ 16 → rivalsWord op k i bit masks ≡ beside (bit_or writers adders)
-  unfolding rivalsWord groupsMet mode_of agree
-  rivals-load e = rw (eq-eqb op 16 e) (ap₂ (λ (w y : ℕ). beside (bit_or w y)) (word-writes k i masks) (or_zero_r (word_of (rank adds) k i masks) ∙ adders-are))
+  pub rivals_load : op ≡ 16 → rivals_word op k i bit masks ≡ beside (bit_or writers adders)
+  unfolding rivals_word groups_met mode_of agree
+  rivals_load e = rw (eq-eqb op 16 e) (ap₂ (λ (w y : ℕ). beside (bit_or w y)) (word_writes k i masks) (or_zero_r (word_of (rank adds) k i masks) ∙ adders_are))
 
-  pub rivals-store : op ≡ 17 → rivalsWord op k i bit masks ≡ beside (bit_or writers (bit_or adders readers))
-  unfolding rivalsWord groupsMet mode_of agree
-  rivals-store e =
+  pub rivals_store : op ≡ 17 → rivals_word op k i bit masks ≡ beside (bit_or writers (bit_or adders readers))
+  unfolding rivals_word groups_met mode_of agree
+  rivals_store e =
       rw (ne_eqb op 16 (λ z. omega arith), eq-eqb op 17 e)
-      (ap₂ (λ (w y : ℕ). beside (bit_or w y)) (word-writes k i masks) (ap₂ bit_or adders-are (word-reads k i masks)))
+      (ap₂ (λ (w y : ℕ). beside (bit_or w y)) (word_writes k i masks) (ap₂ bit_or adders_are (word_reads k i masks)))
 
-  pub rivals-add : op ≡ 18 → rivalsWord op k i bit masks ≡ beside (bit_or writers readers)
-  unfolding rivalsWord groupsMet mode_of agree
-  rivals-add e =
+  pub rivals_add : op ≡ 18 → rivals_word op k i bit masks ≡ beside (bit_or writers readers)
+  unfolding rivals_word groups_met mode_of agree
+  rivals_add e =
       rw (ne_eqb op 16 (λ z. omega arith), ne_eqb op 17 (λ z. omega arith))
-      (ap₂ (λ (w y : ℕ). beside (bit_or w y)) (word-writes k i masks) (or_zero_l (word_of (rank reads) k i masks) ∙ word-reads k i masks))
+      (ap₂ (λ (w y : ℕ). beside (bit_or w y)) (word_writes k i masks) (or_zero_l (word_of (rank reads) k i masks) ∙ word_reads k i masks))
 
 -- The kind of a race, by the other group's bits: adders are not looked at where they agree with the access.
-pub kind-is : (op k i u : ℕ) (masks : List ℕ)
-    → shownKind (hasBit u (get_or masks (k + i) 0)) (hasBit u (get_or masks (2 * k + i) 0)) (mode_of op) ≡ groupKindWord op k i u masks
-unfolding groupKindWord groupsMet
-kind-is op k i u masks =
-    sym (ap₂ (λ w d. shownKind (hasBit u w) (hasBit u d) (mode_of op)) (word-writes k i masks) (adders-are op k i 0 masks)) ∙ by (mode_of op)
+pub kind_is : (op k i u : ℕ) (masks : List ℕ)
+    → shown_kind (has_bit u (get_or masks (k + i) 0)) (has_bit u (get_or masks (2 * k + i) 0)) (mode_of op) ≡ group_kind_word op k i u masks
+unfolding group_kind_word groups_met
+kind_is op k i u masks =
+    sym (ap₂ (λ w d. shown_kind (has_bit u w) (has_bit u d) (mode_of op)) (word_writes k i masks) (adders_are op k i 0 masks)) ∙ by (mode_of op)
   where
     wrote : ℕ
     wrote = word_of (rank writes) k i masks
@@ -60,11 +60,11 @@ kind-is op k i u masks =
     added : ℕ
     added = word_of (rank adds) k i masks
 
-    by : (m : Mode) → shownKind (hasBit u wrote) (hasBit u added) m
-        ≡ shownKind (hasBit u (cond (agree false writes m) 0 wrote)) (hasBit u (cond (agree false adds m) 0 added)) m
-    by reads = unfold agree shownKind in refl
-    by writes = unfold agree shownKind in refl
-    by adds = unfold agree shownKind in refl
+    by : (m : Mode) → shown_kind (has_bit u wrote) (has_bit u added) m
+        ≡ shown_kind (has_bit u (cond (agree false writes m) 0 wrote)) (has_bit u (cond (agree false adds m) 0 added)) m
+    by reads = unfold agree shown_kind in refl
+    by writes = unfold agree shown_kind in refl
+    by adds = unfold agree shown_kind in refl
 
 -- The mask that an access enters is one of the buffer's words.
 pub place_inside : (op k i : ℕ) (masks : List ℕ) (p : ℕ) → GroupAsks op k i masks → p ≡ place_of (rank (mode_of op)) k i → (p < length masks) × (p < 3072)
@@ -76,6 +76,6 @@ place_inside op k i masks p A e = by (mode_of op) e
     by writes e = (omega (arith, A.inside, A.sized), omega (arith, A.inside, A.few))
     by adds e = (omega (arith, A.inside, A.sized), omega (arith, A.inside, A.few))
 
-pub entered_by : (op k i bit : ℕ) (masks : List ℕ) (p : ℕ) → p ≡ place_of (rank (mode_of op)) k i → set masks p (bit_or (get_or masks p 0) bit) ≡ maskEntered op k i bit masks
-unfolding maskEntered word_of
+pub entered_by : (op k i bit : ℕ) (masks : List ℕ) (p : ℕ) → p ≡ place_of (rank (mode_of op)) k i → set masks p (bit_or (get_or masks p 0) bit) ≡ mask_entered op k i bit masks
+unfolding mask_entered word_of
 entered_by op k i bit masks p e = ap (λ (z : ℕ). set masks z (bit_or (get_or masks z 0) bit)) e

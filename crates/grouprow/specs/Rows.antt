@@ -1,6 +1,6 @@
 -- What a row of a group asks of the buffers of its own cells and of the global ones, and what it comes to. Assumes nothing.
 use Rattle.std.specs.Prelude.{◌≡◌, List, ℕ, ◌+◌, ◌-◌, ◌*◌, ◌<◌, ◌≤◌, length, get_or}
-use Rattle.spec.specs.Limits.{logPerCell, groupsPerCell}
+use Rattle.spec.specs.Limits.{log_per_cell, groups_per_cell}
 use Rattle.spec.specs.Op.{CALC, LAUNCHTID, OWN, GLOBAL, Mem, MEM, WHILE, op_of}
 use Rattle.spec.specs.Shape.{Shape}
 use Rattle.spec.specs.Table.{rows_of, row_at, end_of}
@@ -9,7 +9,7 @@ use Rattle.layout.specs.declared.State.{State}
 use Rattle.layout.specs.declared.Next.{Next}
 use Rattle.layout.specs.Represents.{Room, Counts, DepthAsks}
 use Rattle.layout.specs.Running.{RowAsks, RegsAfter}
-use Rattle.layout.specs.Constructs.{savedAfter, openersAfter}
+use Rattle.layout.specs.Constructs.{saved_after, openers_after}
 use Rattle.layout.specs.Groups.{GroupStands, GroupAfter}
 use Rattle.launchrows.specs.LaunchRows.{Numbered}
 
@@ -30,29 +30,29 @@ pub record GlobalRowAsks (op d a : ℕ) : Type 0 where
 
 -- The sizes of the buffers.
 pub record BufferSizes (cells log global shared masks : List ℕ) : Type 0 where
-  pub log-sized : length log ≡ logPerCell * length cells
-  pub cells-few : length cells ≤ 1024
-  pub shared-sized : length shared ≡ logPerCell * length global
-  pub masks-sized : length masks ≡ groupsPerCell * length global
-  pub global-few : length global ≤ 1024
+  pub log_sized_lem : length log ≡ log_per_cell * length cells
+  pub cells_few : length cells ≤ 1024
+  pub shared_sized : length shared ≡ log_per_cell * length global
+  pub masks_sized : length masks ≡ groups_per_cell * length global
+  pub global_few : length global ≤ 1024
 
 -- What a row asks: one of the table that the state and the buffers suit.
 pub record GroupReady (table ends : List ℕ) (n group : ℕ) (s : State) (regs cells log saved openers global shared masks : List ℕ) : Type 0 where
   pub some : 1 ≤ n
-  pub group-few : group < 8
+  pub group_few : group < 8
   pub inside : s.row * 4 + 3 < length table
   pub room : Room s
-  pub own-asks : (18 < get_or table (s.row * 4) 0 → get_or table (s.row * 4) 0 < 32 → ⊥)
+  pub own_asks : (18 < get_or table (s.row * 4) 0 → get_or table (s.row * 4) 0 < 32 → ⊥)
       → RowAsks (get_or table (s.row * 4) 0) (get_or table (s.row * 4 + 1) 0) (get_or table (s.row * 4 + 2) 0) (get_or table (s.row * 4 + 3) 0)
-  pub launch-asks : get_or table (s.row * 4) 0 ≡ 19 → LaunchRowAsks (get_or table (s.row * 4) 0) (get_or table (s.row * 4 + 1) 0)
-  pub global-asks : 19 < get_or table (s.row * 4) 0 → get_or table (s.row * 4) 0 < 32
+  pub launch_asks : get_or table (s.row * 4) 0 ≡ 19 → LaunchRowAsks (get_or table (s.row * 4) 0) (get_or table (s.row * 4 + 1) 0)
+  pub global_asks : 19 < get_or table (s.row * 4) 0 → get_or table (s.row * 4) 0 < 32
       → GlobalRowAsks (get_or table (s.row * 4) 0) (get_or table (s.row * 4 + 1) 0) (get_or table (s.row * 4 + 2) 0)
   pub depths : DepthAsks (get_or table (s.row * 4) 0) s openers
-  pub ends-right : (row_at (rows_of table) s.row).op ≡ WHILE → get_or ends s.row 0 ≡ end_of (rows_of table) s.row
+  pub ends_right : (row_at (rows_of table) s.row).op ≡ WHILE → get_or ends s.row 0 ≡ end_of (rows_of table) s.row
   pub sizes : BufferSizes cells log global shared masks
   pub shape : Shape
   pub state : LockState
-  pub threads-are : shape.threads ≡ n
+  pub threads_are : shape.threads ≡ n
   pub stands : GroupStands shape state s regs cells log saved openers global shared masks
 
 -- The registers after a row: as a group alone has them, but for the launch number.
@@ -69,5 +69,5 @@ pub record GroupSteps (table : List ℕ) (n group : ℕ) (s : State) (common reg
       global' shared' masks'
   pub regs_are : GroupRegsAfter (get_or table (s.row * 4) 0) n group s.mask (get_or table (s.row * 4 + 1) 0) (get_or table (s.row * 4 + 2) 0)
       (get_or table (s.row * 4 + 3) 0) regs regs'
-  pub saved-are : saved' ≡ savedAfter (get_or table (s.row * 4) 0) s saved openers
-  pub openers-are : openers' ≡ openersAfter (get_or table (s.row * 4) 0) s openers
+  pub saved_are : saved' ≡ saved_after (get_or table (s.row * 4) 0) s saved openers
+  pub openers_are : openers' ≡ openers_after (get_or table (s.row * 4) 0) s openers

@@ -4,7 +4,7 @@ ghost use Rattle.layout.specs.Counting.{Roomy, NextCounted};
 ghost use Rattle.banks.specs.Counting.{Older};
 ghost use Rattle.banks.specs.Remembering.{Memo};
 ghost use Rattle.intervals.specs.Records.{RecordAsks};
-ghost use Rattle.step.specs.Recording.{RowRecorded, cellDue};
+ghost use Rattle.step.specs.Recording.{RowRecorded, cell_due};
 ghost use Rattle.grouprow.specs.Rows.{GroupReady, GroupSteps};
 
 // The op is told apart once, outside the loops over the threads; the shorter a row of an op is, the sooner it is told apart.
@@ -36,7 +36,7 @@ pub fn group_row(
         regs.new cells.new log.new saved.new openers.new
         global.new shared.new masks.new
         × NextCounted (get_or table.now (s.row * 4) 0) s result counts.old counts.new
-        × RowRecorded (get_or table.now (s.row * 4) 0) n group (cellDue table.now s regs.old) s result
+        × RowRecorded (get_or table.now (s.row * 4) 0) n group (cell_due table.now s regs.old) s result
         records.old records.new stamps.new memo.new }
 {
     let row = s.row;

@@ -1,7 +1,7 @@
 // The lock-step run of one group of a launch: one row after the other, until the table's end, the limit, or a stop.
 ghost use Rattle.std.specs.Prelude.{◌≡◌, ◌+◌, ◌^◌, ◌-◌, ◌<◌, ◌≤◌, length};
-ghost use Rattle.spec.specs.Limits.{maxCommon, recordsLent};
-ghost use Rattle.layout.specs.Running.{Runnable, startState};
+ghost use Rattle.spec.specs.Limits.{max_common, records_lent};
+ghost use Rattle.layout.specs.Running.{Runnable, start_state};
 ghost use Rattle.layout.specs.Counting.{Roomy, Added};
 ghost use Rattle.banks.specs.Counting.{Older};
 ghost use Rattle.banks.specs.Remembering.{Memo};
@@ -35,7 +35,7 @@ fn finish(counts: &mut [u32; 32], v: spec::Verdict, s: layout::State) -> Ended
 // All n threads at row 0, after so many rows and barriers of the launch.
 fn start(n: u32, rows: u32, barriers: u32) -> layout::State
     requires { n ≤ 32 }
-    ensures { result ≡ startState (2 ^ n - 1) rows barriers }
+    ensures { result ≡ start_state (2 ^ n - 1) rows barriers }
 {
     layout::State {
         reach: 0,
@@ -69,7 +69,7 @@ pub fn run_group(
     memo: &mut [u32; 544],
 ) -> Ended
     requires { Runnable table.now ends.now × (1 ≤ n) × (n ≤ 32) × (group < 8) × (limit ≤ 1000000) × (rows ≤ limit) × (barriers ≤ rows)
-        × BufferSizes cells.old log.old global.old shared.old masks.old × (length common.now ≤ maxCommon) × (recordsLent ≤ length records.old)
+        × BufferSizes cells.old log.old global.old shared.old masks.old × (length common.now ≤ max_common) × (records_lent ≤ length records.old)
         × Older (rows + 1) stamps.old × Memo memo.old
         × SomeStart table.now n group limit rows barriers common.now cells.old global.old masks.old records.old }
     ensures { GroupRan table.now n group limit rows barriers common.now cells.old global.old

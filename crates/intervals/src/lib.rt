@@ -1,12 +1,12 @@
 // The records of the barrier intervals in the lent list, three words each: the row due at its start, its rows, its cost. While an interval goes on, its
 // record holds the rows run before it in place of its own.
 ghost use Rattle.std.specs.Prelude.{◌≡◌, ◌+◌, ◌*◌, ◌<◌, ◌≤◌, length, get_or};
-ghost use Rattle.spec.specs.Limits.{recordsLent};
-ghost use Rattle.intervals.specs.Records.{inUse, begun, ended, charged, released, costsUpTo, EndAsks};
+ghost use Rattle.spec.specs.Limits.{records_lent};
+ghost use Rattle.intervals.specs.Records.{in_use, begun, ended, charged, released, costs_up_to, EndAsks};
 
 // The record in use: when all are, the last one goes on.
 fn in_use(earlier: u32) -> usize
-    ensures { (result ≡ inUse earlier) × (result ≤ 1024) }
+    ensures { (result ≡ in_use earlier) × (result ≤ 1024) }
 {
     if earlier < 1024 {
         return earlier as usize;
@@ -16,7 +16,7 @@ fn in_use(earlier: u32) -> usize
 
 // An interval starts at this row, with so many rows run before it.
 fn begin(records: &mut [u32], k: usize, row: u32, rows: u32)
-    requires { (recordsLent ≤ length records.old) × (k ≤ 1024) }
+    requires { (records_lent ≤ length records.old) × (k ≤ 1024) }
     ensures { records.new ≡ begun k row rows records.old }
 {
     records[k * 3] = row;
@@ -26,7 +26,7 @@ fn begin(records: &mut [u32], k: usize, row: u32, rows: u32)
 
 // The first one starts with the launch.
 pub fn launch(records: &mut [u32])
-    requires { recordsLent ≤ length records.old }
+    requires { records_lent ≤ length records.old }
     ensures { records.new ≡ begun 0 0 0 records.old }
 {
     begin(records, 0, 0, 0);
@@ -34,7 +34,7 @@ pub fn launch(records: &mut [u32])
 
 // An interval is over, with so many rows run.
 fn end(records: &mut [u32], k: usize, rows: u32)
-    requires { (recordsLent ≤ length records.old) × (k ≤ 1024) × (get_or records.old (k * 3 + 1) 0 ≤ rows) }
+    requires { (records_lent ≤ length records.old) × (k ≤ 1024) × (get_or records.old (k * 3 + 1) 0 ≤ rows) }
     ensures { records.new ≡ ended k rows records.old }
 {
     records[k * 3 + 1] = rows - records[k * 3 + 1];
@@ -42,7 +42,7 @@ fn end(records: &mut [u32], k: usize, rows: u32)
 
 // What a row costs, after so many intervals.
 pub fn charge(records: &mut [u32], earlier: u32, cost: u32)
-    requires { (recordsLent ≤ length records.old) × (get_or records.old (inUse earlier * 3 + 2) 0 + cost < 4294967296) }
+    requires { (records_lent ≤ length records.old) × (get_or records.old (in_use earlier * 3 + 2) 0 + cost < 4294967296) }
     ensures { records.new ≡ charged earlier cost records.old }
 {
     // Most rows cost nothing.
@@ -55,7 +55,7 @@ pub fn charge(records: &mut [u32], earlier: u32, cost: u32)
 
 // A release, after so many intervals before the one that it ends: the run goes on at this row, with so many rows run.
 pub fn release(records: &mut [u32], earlier: u32, row: u32, rows: u32)
-    requires { (recordsLent ≤ length records.old) × (get_or records.old (inUse earlier * 3 + 1) 0 ≤ rows) }
+    requires { (records_lent ≤ length records.old) × (get_or records.old (in_use earlier * 3 + 1) 0 ≤ rows) }
     ensures { records.new ≡ released earlier row rows records.old }
 {
     if earlier < 1024 {
@@ -67,8 +67,8 @@ pub fn release(records: &mut [u32], earlier: u32, row: u32, rows: u32)
 
 // The costs of the first records, together.
 fn costs(records: &[u32], count: usize) -> u32
-    requires { (recordsLent ≤ length records.now) × (count ≤ 1025) × (costsUpTo count records.now < 4294967296) }
-    ensures { result ≡ costsUpTo count records.now }
+    requires { (records_lent ≤ length records.now) × (count ≤ 1025) × (costs_up_to count records.now < 4294967296) }
+    ensures { result ≡ costs_up_to count records.now }
 {
     let mut sum: u32 = 0;
     let mut k = 0;
@@ -82,8 +82,8 @@ fn costs(records: &[u32], count: usize) -> u32
 // The run is over, after so many intervals and rows: the last interval is, and all records' costs are put together.
 pub fn finish(records: &mut [u32], earlier: u32, rows: u32) -> u32
     requires { EndAsks earlier rows records.old }
-    ensures records { records.new ≡ ended (inUse earlier) rows records.old }
-    ensures conflicts { result ≡ costsUpTo (inUse earlier + 1) records.new }
+    ensures records { records.new ≡ ended (in_use earlier) rows records.old }
+    ensures conflicts { result ≡ costs_up_to (in_use earlier + 1) records.new }
 {
     let k = in_use(earlier);
     end(records, k, rows);

@@ -1,8 +1,8 @@
 // The report of one kernel over common cells: of its run, or of what it is refused for.
 ghost use Rattle.std.specs.Prelude.{◌≤◌, length};
-ghost use Rattle.spec.specs.Limits.{maxCommon, fileOutput};
-ghost use Rattle.spec.specs.LaunchFile.{fileLaunch};
-ghost use Rattle.spec.specs.PairFiles.{kernelChecked};
+ghost use Rattle.spec.specs.Limits.{max_common, file_output};
+ghost use Rattle.spec.specs.LaunchFile.{file_launch};
+ghost use Rattle.spec.specs.PairFiles.{kernel_checked};
 ghost use Rattle.commonfile.specs.CommonRead.{answer_of};
 ghost use Rattle.kernelreport.specs.Kernels.{KernelReported};
 
@@ -10,8 +10,8 @@ use admission::Admission;
 
 // The kernel's own input is looked at first, and then what was found in the common file.
 pub fn report_kernel(file: &[u8], found: Admission, common: &[u32], output: &mut [u8]) -> usize
-    requires { (length common.now ≤ maxCommon) × (fileOutput ≤ length output.old) }
-    ensures { KernelReported (kernelChecked (fileLaunch file.now) (answer_of found common.now))
+    requires { (length common.now ≤ max_common) × (file_output ≤ length output.old) }
+    ensures { KernelReported (kernel_checked (file_launch file.now) (answer_of found common.now))
         output.old result output.new }
 {
     let own = filelaunch::file_launch(file);

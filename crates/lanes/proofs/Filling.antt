@@ -22,7 +22,7 @@ module _ (F : ℕ → ℕ) where
         by j k (yes e) = ap (λ z. get_or (set v t x) z 0) e ∙ get_or-set_same v t x 0 (omega (arith, L.size)) ∙ ex ∙ ap F (sym e)
         by j k (no n) = get_or-set_other v t j x 0 n ∙ L.below j (omega (arith, n))
 
-    pub filled-all : 32 ≤ t → Filled F v 32
-    filled-all h = subst (Filled F v) (let e : t ≡ 32 = omega (arith, L.few) in e) L
+    pub filled_all : 32 ≤ t → Filled F v 32
+    filled_all h = subst (Filled F v) (let e : t ≡ 32 = omega (arith, L.few) in e) L
 
-pub ruleset filling = (filled_none, filled_more, filled-all, rules)
+pub ruleset filling = (filled_none, filled_more, filled_all, rules)

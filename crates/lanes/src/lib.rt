@@ -1,6 +1,6 @@
 // The ops that read two registers, over 32 lanes at once: straight loops, lane t being thread t's.
 ghost use Rattle.std.specs.Int.Bits.{bit_and, bit_or, bit_xor};
-ghost use Rattle.spec.specs.Word.{add, sub, mul, shr, sar, equal, less, signedLess};
+ghost use Rattle.spec.specs.Word.{add, sub, mul, shr, sar, equal, less, signed_less};
 ghost use Rattle.lanes.specs.Lanes.{Filled, zip};
 
 pub fn add_lanes(p: [u32; 32], q: [u32; 32]) -> [u32; 32]
@@ -144,7 +144,7 @@ pub fn lt_lanes(p: [u32; 32], q: [u32; 32]) -> [u32; 32]
 }
 
 pub fn slt_lanes(p: [u32; 32], q: [u32; 32]) -> [u32; 32]
-    ensures { Filled (zip signedLess p q) result 32 }
+    ensures { Filled (zip signed_less p q) result 32 }
 {
     let mut v: [u32; 32] = [0; 32];
     let mut t = 0;

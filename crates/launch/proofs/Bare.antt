@@ -7,23 +7,23 @@ use native.Mathlib.Omega.{arith}
 use borrow.Author.Tests.{eqb-true, leb-true}
 use lib.Dec.{leb}
 use lib.ListN.{length, replicate}
-use Rattle.spec.specs.Limits.{launchLogPerCell, recordsLent, maxLaunchThreads}
+use Rattle.spec.specs.Limits.{launch_log_per_cell, records_lent, max_launch_threads}
 use Rattle.spec.specs.declared.Refusal.{Refusal}
 use Rattle.spec.specs.declared.Outcome.{Outcome}
 use Rattle.spec.specs.declared.Answer.{Answer}
 use Rattle.spec.specs.declared.Answer.TheVariants as answer
-use Rattle.spec.specs.Answers.{first, told, toldBy}
+use Rattle.spec.specs.Answers.{first, told, told_by}
 use Rattle.spec.specs.Table.{rows_of}
-use Rattle.spec.specs.TableCheck.{tableRefusal}
-use Rattle.spec.specs.Shape.{Sizes, allOwn, allCells}
-use Rattle.spec.specs.Intervals.{recordWords}
-use Rattle.spec.specs.Launch.{Launch, launchOutcome, launchIntervals, launchSteps, launchLog, ownAfter, globalAfter}
-use Rattle.spec.specs.Entries.{bareNumbers, bareLent, bareRefusal, bareLaunch, answer_of, keptIf, bareAnswer, bareCells, bareGlobal, bareLog, bareRecords}
-use Rattle.spec.specs.Entries.{bareSteps, over}
+use Rattle.spec.specs.TableCheck.{table_refusal}
+use Rattle.spec.specs.Shape.{Sizes, all_own, all_cells}
+use Rattle.spec.specs.Intervals.{record_words}
+use Rattle.spec.specs.Launch.{Launch, launch_outcome, launch_intervals, launch_steps, launch_log, own_after, global_after}
+use Rattle.spec.specs.Entries.{bare_numbers, bare_lent, bare_refusal, bare_launch, answer_of, kept_if, bare_answer, bare_cells, bare_global, bare_log, bare_records}
+use Rattle.spec.specs.Entries.{bare_steps, over}
 use Rattle.spec.specs.Demands.{BareDemand3}
-use Rattle.structure.proofs.Refusals.{unless-none, orElse-none}
+use Rattle.structure.proofs.Refusals.{unless_none, or_else_none}
 use Rattle.allruns.proofs.Bools.{and_left, and_right}
-use Rattle.allruns.proofs.Launches.{bare-demand3}
+use Rattle.allruns.proofs.Launches.{bare_demand3}
 use Rattle.launchrun.specs.Launches.{RunIs}
 use Rattle.admission.proofs.Answers.{found, passed, ends}
 
@@ -31,131 +31,131 @@ use Rattle.admission.proofs.Answers.{found, passed, ends}
 pub record Fine (bytes : ℕ) (Z : Sizes) (limit : ℕ) : Type 0 where
   pub fours : bytes % 4 ≡ 0
   pub rows : bytes / 4 ≤ 256
-  pub some-threads : 1 ≤ Z.threads
-  pub few-threads : Z.threads ≤ 32
-  pub some-groups : 1 ≤ Z.groups
-  pub few-groups : Z.groups ≤ 8
-  pub few-cells : allCells Z ≤ 1024
-  pub few-rows : limit ≤ 1000000
+  pub some_threads : 1 ≤ Z.threads
+  pub few_threads_lem : Z.threads ≤ 32
+  pub some_groups : 1 ≤ Z.groups
+  pub few_groups_lem : Z.groups ≤ 8
+  pub few_cells_lem : all_cells Z ≤ 1024
+  pub few_rows_lem : limit ≤ 1000000
 
-pub fine : (bytes : ℕ) (Z : Sizes) (limit : ℕ) → bareNumbers bytes Z limit ≡ none → Fine bytes Z limit
-unfolding bareNumbers first
+pub fine : (bytes : ℕ) (Z : Sizes) (limit : ℕ) → bare_numbers bytes Z limit ≡ none → Fine bytes Z limit
+unfolding bare_numbers first
 fine bytes Z limit e =
-    let length-tested = (orElse-none _ _).0 e in
-    let rows-tested = (orElse-none _ _).0 length-tested.1 in
-    let threads-tested = (orElse-none _ _).0 rows-tested.1 in
-    let cells-tested = (orElse-none _ _).0 threads-tested.1 in
-    let groups-tested = (orElse-none _ _).0 cells-tested.1 in
-    let all_tested = (orElse-none _ _).0 groups-tested.1 in
-    let limit-tested = (orElse-none _ _).0 all_tested.1 in
-    let t = (unless-none _ _).0 threads-tested.0 in
-    let g = (unless-none _ _).0 groups-tested.0 in
+    let length-tested = (or_else_none _ _).0 e in
+    let rows-tested = (or_else_none _ _).0 length-tested.1 in
+    let threads-tested = (or_else_none _ _).0 rows-tested.1 in
+    let cells-tested = (or_else_none _ _).0 threads-tested.1 in
+    let groups_tested = (or_else_none _ _).0 cells-tested.1 in
+    let all_tested = (or_else_none _ _).0 groups_tested.1 in
+    let limit-tested = (or_else_none _ _).0 all_tested.1 in
+    let t = (unless_none _ _).0 threads-tested.0 in
+    let g = (unless_none _ _).0 groups_tested.0 in
     record {
-      fours = eqb-true _ _ ((unless-none _ _).0 length-tested.0);
-      rows = leb-true _ _ ((unless-none _ _).0 rows-tested.0);
-      some-threads = leb-true _ _ (and_left (leb 1 Z.threads) _ t);
-      few-threads = leb-true _ _ (and_right (leb 1 Z.threads) _ t);
-      some-groups = leb-true _ _ (and_left (leb 1 Z.groups) _ g);
-      few-groups = leb-true _ _ (and_right (leb 1 Z.groups) _ g);
-      few-cells = leb-true _ _ ((unless-none _ _).0 all_tested.0);
-      few-rows = leb-true _ _ ((unless-none _ _).0 limit-tested.0);
+      fours = eqb-true _ _ ((unless_none _ _).0 length-tested.0);
+      rows = leb-true _ _ ((unless_none _ _).0 rows-tested.0);
+      some_threads = leb-true _ _ (and_left (leb 1 Z.threads) _ t);
+      few_threads_lem = leb-true _ _ (and_right (leb 1 Z.threads) _ t);
+      some_groups = leb-true _ _ (and_left (leb 1 Z.groups) _ g);
+      few_groups_lem = leb-true _ _ (and_right (leb 1 Z.groups) _ g);
+      few_cells_lem = leb-true _ _ ((unless_none _ _).0 all_tested.0);
+      few_rows_lem = leb-true _ _ ((unless_none _ _).0 limit-tested.0);
     }
 
-pub readable : (table : List ℕ) (Z : Sizes) (limit : ℕ) → bareNumbers (length table) Z limit ≡ none → (length table % 4 ≡ 0) × (length table ≤ 4 * 256)
+pub readable : (table : List ℕ) (Z : Sizes) (limit : ℕ) → bare_numbers (length table) Z limit ≡ none → (length table % 4 ≡ 0) × (length table ≤ 4 * 256)
 readable table Z limit e = let f = fine (length table) Z limit e in (f.fours, omega (arith, f.fours, f.rows))
 
-pub lent_is : (Z : Sizes) (held shared logged recorded : ℕ) → bareLent Z held shared logged recorded ≡ none
-    → (held ≡ allOwn Z) × (shared ≡ Z.global) × (logged ≡ launchLogPerCell * allCells Z) × (recordsLent ≤ recorded)
-unfolding bareLent first
+pub lent_is : (Z : Sizes) (held shared logged recorded : ℕ) → bare_lent Z held shared logged recorded ≡ none
+    → (held ≡ all_own Z) × (shared ≡ Z.global) × (logged ≡ launch_log_per_cell * all_cells Z) × (records_lent ≤ recorded)
+unfolding bare_lent first
 lent_is Z held shared logged recorded e =
-    let own-tested = (orElse-none _ _).0 e in
-    let global-tested = (orElse-none _ _).0 own-tested.1 in
-    let log-tested = (orElse-none _ _).0 global-tested.1 in
-    let records-tested = (orElse-none _ _).0 log-tested.1 in (
-      eqb-true _ _ ((unless-none _ _).0 own-tested.0),
-      eqb-true _ _ ((unless-none _ _).0 global-tested.0),
-      eqb-true _ _ ((unless-none _ _).0 log-tested.0),
-      leb-true _ _ ((unless-none _ _).0 records-tested.0),
+    let own-tested = (or_else_none _ _).0 e in
+    let global-tested = (or_else_none _ _).0 own-tested.1 in
+    let log_tested = (or_else_none _ _).0 global-tested.1 in
+    let records-tested = (or_else_none _ _).0 log_tested.1 in (
+      eqb-true _ _ ((unless_none _ _).0 own-tested.0),
+      eqb-true _ _ ((unless_none _ _).0 global-tested.0),
+      eqb-true _ _ ((unless_none _ _).0 log_tested.0),
+      leb-true _ _ ((unless_none _ _).0 records-tested.0),
     )
 
 module _ (table : List ℕ) (Z : Sizes) (limit : ℕ) (cells global log records steps : List ℕ) where
   abbrev refusal : Option Refusal
-  refusal = bareRefusal table Z limit cells global log records
+  refusal = bare_refusal table Z limit cells global log records
 
   abbrev launch : Launch
-  launch = bareLaunch table Z limit cells global
+  launch = bare_launch table Z limit cells global
 
   -- the answer, by its case and by number and place, the buffers, and what the answer says of every run
   abbrev pub Entry : Answer → (cells' global' log' records' steps' : List ℕ) → Type 0
   Entry r cells' global' log' records' steps' =
-      (r ≡ bareAnswer table Z limit cells global log records)
-      × ((toldBy r ≡ told (bareRefusal table Z limit cells global log records))
-      × ((cells' ≡ bareCells table Z limit cells global log records)
-      × ((global' ≡ bareGlobal table Z limit cells global log records)
-      × ((log' ≡ bareLog table Z limit cells global log records)
-      × ((records' ≡ bareRecords table Z limit cells global log records)
-      × ((steps' ≡ bareSteps table Z limit cells global log records steps) × BareDemand3 table Z limit cells global r cells' global' steps'))))))
+      (r ≡ bare_answer table Z limit cells global log records)
+      × ((told_by r ≡ told (bare_refusal table Z limit cells global log records))
+      × ((cells' ≡ bare_cells table Z limit cells global log records)
+      × ((global' ≡ bare_global table Z limit cells global log records)
+      × ((log' ≡ bare_log table Z limit cells global log records)
+      × ((records' ≡ bare_records table Z limit cells global log records)
+      × ((steps' ≡ bare_steps table Z limit cells global log records steps) × BareDemand3 table Z limit cells global r cells' global' steps'))))))
 
-  told-by : (x : Option Refusal) (o : Outcome) → toldBy (answer_of x o) ≡ told x
-  unfolding answer_of toldBy told
-  told-by none o = refl
-  told-by (some why) o = refl
+  told_by_lem : (x : Option Refusal) (o : Outcome) → told_by (answer_of x o) ≡ told x
+  unfolding answer_of told_by told
+  told_by_lem none o = refl
+  told_by_lem (some why) o = refl
 
-  entry : (r : Answer) (cells' global' log' records' steps' : List ℕ) → r ≡ bareAnswer table Z limit cells global log records
-      → cells' ≡ bareCells table Z limit cells global log records → global' ≡ bareGlobal table Z limit cells global log records
-      → log' ≡ bareLog table Z limit cells global log records → records' ≡ bareRecords table Z limit cells global log records
-      → steps' ≡ bareSteps table Z limit cells global log records steps → Entry r cells' global' log' records' steps'
-  unfolding bareAnswer
+  entry : (r : Answer) (cells' global' log' records' steps' : List ℕ) → r ≡ bare_answer table Z limit cells global log records
+      → cells' ≡ bare_cells table Z limit cells global log records → global' ≡ bare_global table Z limit cells global log records
+      → log' ≡ bare_log table Z limit cells global log records → records' ≡ bare_records table Z limit cells global log records
+      → steps' ≡ bare_steps table Z limit cells global log records steps → Entry r cells' global' log' records' steps'
+  unfolding bare_answer
   entry r cells' global' log' records' steps' a c g l w s = (
     a,
     (
-      ap toldBy a ∙ told-by refusal _,
-      (c, (g, (l, (w, (s, rw (a, c, g, s) (bare-demand3 table Z limit cells global log records steps)))))),
+      ap told_by a ∙ told_by_lem refusal _,
+      (c, (g, (l, (w, (s, rw (a, c, g, s) (bare_demand3 table Z limit cells global log records steps)))))),
     ),
   )
 
   -- The entry, by what is refused.
-  by-refusal : (x : Option Refusal) → refusal ≡ x → (r : Answer) (cells' global' log' records' steps' : List ℕ) → r ≡ answer_of x (launchOutcome launch)
-      → cells' ≡ keptIf x cells (ownAfter launch) → global' ≡ keptIf x global (globalAfter launch) → log' ≡ keptIf x log (launchLog launch)
-      → records' ≡ keptIf x records (over (recordWords (launchIntervals launch)) records)
-      → steps' ≡ keptIf x steps (over (launchSteps launch) (replicate maxLaunchThreads 0)) → Entry r cells' global' log' records' steps'
-  unfolding bareAnswer bareCells bareGlobal bareLog bareRecords bareSteps
-  by-refusal x e r cells' global' log' records' steps' a c g l w s =
-      entry r cells' global' log' records' steps' (a ∙ sym (ap (λ y. answer_of y (launchOutcome launch)) e)) (c ∙ sym (ap (λ y. keptIf y cells (ownAfter launch)) e))
-      (g ∙ sym (ap (λ y. keptIf y global (globalAfter launch)) e)) (l ∙ sym (ap (λ y. keptIf y log (launchLog launch)) e))
-      (w ∙ sym (ap (λ y. keptIf y records (over (recordWords (launchIntervals launch)) records)) e))
-      (s ∙ sym (ap (λ y. keptIf y steps (over (launchSteps launch) (replicate maxLaunchThreads 0))) e))
+  by_refusal : (x : Option Refusal) → refusal ≡ x → (r : Answer) (cells' global' log' records' steps' : List ℕ) → r ≡ answer_of x (launch_outcome launch)
+      → cells' ≡ kept_if x cells (own_after launch) → global' ≡ kept_if x global (global_after launch) → log' ≡ kept_if x log (launch_log launch)
+      → records' ≡ kept_if x records (over (record_words (launch_intervals launch)) records)
+      → steps' ≡ kept_if x steps (over (launch_steps launch) (replicate max_launch_threads 0)) → Entry r cells' global' log' records' steps'
+  unfolding bare_answer bare_cells bare_global bare_log bare_records bare_steps
+  by_refusal x e r cells' global' log' records' steps' a c g l w s =
+      entry r cells' global' log' records' steps' (a ∙ sym (ap (λ y. answer_of y (launch_outcome launch)) e)) (c ∙ sym (ap (λ y. kept_if y cells (own_after launch)) e))
+      (g ∙ sym (ap (λ y. kept_if y global (global_after launch)) e)) (l ∙ sym (ap (λ y. kept_if y log (launch_log launch)) e))
+      (w ∙ sym (ap (λ y. kept_if y records (over (record_words (launch_intervals launch)) records)) e))
+      (s ∙ sym (ap (λ y. kept_if y steps (over (launch_steps launch) (replicate max_launch_threads 0))) e))
 
   refused : (why : Refusal) → refusal ≡ some why → Entry (answer.Refused why) cells global log records steps
-  unfolding answer_of keptIf
-  refused why e = by-refusal (some why) e (answer.Refused why) cells global log records steps refl refl refl refl refl refl
+  unfolding answer_of kept_if
+  refused why e = by_refusal (some why) e (answer.Refused why) cells global log records steps refl refl refl refl refl refl
 
-  abbrev byNumbers : Option Refusal
-  byNumbers = bareNumbers (length table) Z limit
+  abbrev by_numbers : Option Refusal
+  by_numbers = bare_numbers (length table) Z limit
 
-  abbrev byTable : Option Refusal
-  byTable = tableRefusal (rows_of table)
+  abbrev by_table : Option Refusal
+  by_table = table_refusal (rows_of table)
 
-  abbrev byState : Option Refusal
-  byState = bareLent Z (length cells) (length global) (length log) (length records)
+  abbrev by_state : Option Refusal
+  by_state = bare_lent Z (length cells) (length global) (length log) (length records)
 
-  pub numbers-refuse : (why : Refusal) → byNumbers ≡ some why → Entry (answer.Refused why) cells global log records steps
-  unfolding bareRefusal
-  numbers-refuse why e = refused why (found byNumbers why _ e)
+  pub numbers_refuse : (why : Refusal) → by_numbers ≡ some why → Entry (answer.Refused why) cells global log records steps
+  unfolding bare_refusal
+  numbers_refuse why e = refused why (found by_numbers why _ e)
 
-  pub table-refuses : (why : Refusal) → byNumbers ≡ none → byTable ≡ some why → Entry (answer.Refused why) cells global log records steps
-  unfolding bareRefusal
-  table-refuses why n e = refused why (passed byNumbers _ n ∙ found byTable why _ e)
+  pub table_refuses : (why : Refusal) → by_numbers ≡ none → by_table ≡ some why → Entry (answer.Refused why) cells global log records steps
+  unfolding bare_refusal
+  table_refuses why n e = refused why (passed by_numbers _ n ∙ found by_table why _ e)
 
-  pub state-refuses : (why : Refusal) → byNumbers ≡ none → byTable ≡ none → byState ≡ some why → Entry (answer.Refused why) cells global log records steps
-  unfolding bareRefusal
-  state-refuses why n t e = refused why (passed byNumbers _ n ∙ passed byTable _ t ∙ found byState why _ e)
+  pub state_refuses : (why : Refusal) → by_numbers ≡ none → by_table ≡ none → by_state ≡ some why → Entry (answer.Refused why) cells global log records steps
+  unfolding bare_refusal
+  state_refuses why n t e = refused why (passed by_numbers _ n ∙ passed by_table _ t ∙ found by_state why _ e)
 
   -- The run's sizes are those that were handed in.
-  pub ran : (Y : Sizes) → Y ≡ Z → (o : Outcome) (cells' global' log' records' steps' : List ℕ) → byNumbers ≡ none → byTable ≡ none → byState ≡ none
-      → RunIs (bareLaunch table Y limit cells global) records o cells' global' log' records' steps' → Entry (answer.Ran o) cells' global' log' records' steps'
-  unfolding bareRefusal answer_of keptIf
+  pub ran : (Y : Sizes) → Y ≡ Z → (o : Outcome) (cells' global' log' records' steps' : List ℕ) → by_numbers ≡ none → by_table ≡ none → by_state ≡ none
+      → RunIs (bare_launch table Y limit cells global) records o cells' global' log' records' steps' → Entry (answer.Ran o) cells' global' log' records' steps'
+  unfolding bare_refusal answer_of kept_if
   ran Y same o cells' global' log' records' steps' n t s R' =
-      let R = subst (λ X. RunIs (bareLaunch table X limit cells global) records o cells' global' log' records' steps') same R' in
-      by-refusal none (passed byNumbers _ n ∙ passed byTable _ t ∙ passed byState _ s ∙ ends) (answer.Ran o) cells' global' log' records' steps'
-      (ap answer.Ran R.outcome-is) R.cells_are R.global-are R.log_is R.records-are R.steps-are
+      let R = subst (λ X. RunIs (bare_launch table X limit cells global) records o cells' global' log' records' steps') same R' in
+      by_refusal none (passed by_numbers _ n ∙ passed by_table _ t ∙ passed by_state _ s ∙ ends) (answer.Ran o) cells' global' log' records' steps'
+      (ap answer.Ran R.outcome_is) R.cells_are R.global_are R.log_is R.records_are R.steps_are

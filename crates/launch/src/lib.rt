@@ -1,8 +1,8 @@
 // The bare launch: a table, its launch's numbers, and lent cells, log, records and step counts.
 ghost use Rattle.std.specs.Prelude.{◌≡◌};
-ghost use Rattle.spec.specs.Answers.{told, toldBy};
+ghost use Rattle.spec.specs.Answers.{told, told_by};
 ghost use Rattle.spec.specs.Shape.{sizes};
-ghost use Rattle.spec.specs.Entries.{bareRefusal, bareAnswer, bareCells, bareGlobal, bareLog, bareRecords, bareSteps};
+ghost use Rattle.spec.specs.Entries.{bare_refusal, bare_answer, bare_cells, bare_global, bare_log, bare_records, bare_steps};
 ghost use Rattle.spec.specs.Demands.{BareDemand3};
 
 use admission::Admission;
@@ -25,19 +25,19 @@ pub fn bare_launch(
     records: &mut [u32],
     steps: &mut [u32; 256],
 ) -> Answer
-    ensures answer { result ≡ bareAnswer table.now (sizes threads count groups shared) limit
+    ensures answer { result ≡ bare_answer table.now (sizes threads count groups shared) limit
         cells.old global.old log.old records.old }
-    ensures refusal { toldBy result ≡ told (bareRefusal table.now (sizes threads count groups shared) limit
+    ensures refusal { told_by result ≡ told (bare_refusal table.now (sizes threads count groups shared) limit
         cells.old global.old log.old records.old) }
-    ensures cells { cells.new ≡ bareCells table.now (sizes threads count groups shared) limit
+    ensures cells { cells.new ≡ bare_cells table.now (sizes threads count groups shared) limit
         cells.old global.old log.old records.old }
-    ensures global { global.new ≡ bareGlobal table.now (sizes threads count groups shared) limit
+    ensures global { global.new ≡ bare_global table.now (sizes threads count groups shared) limit
         cells.old global.old log.old records.old }
-    ensures log { log.new ≡ bareLog table.now (sizes threads count groups shared) limit
+    ensures log { log.new ≡ bare_log table.now (sizes threads count groups shared) limit
         cells.old global.old log.old records.old }
-    ensures records { records.new ≡ bareRecords table.now (sizes threads count groups shared) limit
+    ensures records { records.new ≡ bare_records table.now (sizes threads count groups shared) limit
         cells.old global.old log.old records.old }
-    ensures steps { steps.new ≡ bareSteps table.now (sizes threads count groups shared) limit
+    ensures steps { steps.new ≡ bare_steps table.now (sizes threads count groups shared) limit
         cells.old global.old log.old records.old steps.old }
     ensures runs { BareDemand3 table.now (sizes threads count groups shared) limit cells.old global.old result
         cells.new global.new steps.new }

@@ -2,40 +2,40 @@
 use Rattle.std.specs.Prelude.{◌≡◌, Bool, true, false, List, ◌⊎◌, ℕ, ◌+◌, ◌*◌, ◌<◌, ◌≤◌, length}
 use Rattle.spec.specs.declared.Outcome.{Outcome}
 use Rattle.spec.specs.declared.Verdict.{Verdict}
-use Rattle.spec.specs.Answers.{isPassed}
-use Rattle.spec.specs.Limits.{logPerCell, groupsPerCell}
-use Rattle.intervals.specs.Records.{inUse, ended, costsUpTo, EndAsks}
-use Rattle.placing.specs.Kinds.{kindsPlaced}
+use Rattle.spec.specs.Answers.{is_passed}
+use Rattle.spec.specs.Limits.{log_per_cell, groups_per_cell}
+use Rattle.intervals.specs.Records.{in_use, ended, costs_up_to, EndAsks}
+use Rattle.placing.specs.Kinds.{kinds_placed}
 use Rattle.grouprun.specs.declared.Ended.{Ended}
 
 -- Whether another group runs behind group g with this verdict.
 pub record GoesOn (v : Verdict) (g groups : ℕ) (on : Bool) : Type 0 where
-  pub more : on ≡ true → (isPassed v ≡ true) × (g + 1 < groups)
-  pub over : on ≡ false → (isPassed v ≡ false) ⊎ (groups ≤ g + 1)
+  pub more : on ≡ true → (is_passed v ≡ true) × (g + 1 < groups)
+  pub over : on ≡ false → (is_passed v ≡ false) ⊎ (groups ≤ g + 1)
 
 -- The end of a launch, after the last group's turn: the log of the global cells, from place `at` on, and their group masks are put into the launch's.
 pub record CloseAsks (group k total at : ℕ) (log shared masks records : List ℕ) (r : Ended) : Type 0 where
-  pub few-groups : group < 8
-  pub row-few : r.row ≤ 256
-  pub barriers-few : r.barriers ≤ 1000000
-  pub log-sized : (logPerCell + groupsPerCell) * total ≤ length log
+  pub few_groups_lem : group < 8
+  pub row_few : r.row ≤ 256
+  pub barriers_few : r.barriers ≤ 1000000
+  pub log_sized_lem : (log_per_cell + groups_per_cell) * total ≤ length log
   pub within : at + k ≤ total
-  pub total-few : total ≤ 1024
-  pub shared-sized : length shared ≡ logPerCell * k
-  pub masks-sized : length masks ≡ groupsPerCell * k
+  pub total_few : total ≤ 1024
+  pub shared_sized : length shared ≡ log_per_cell * k
+  pub masks_sized : length masks ≡ groups_per_cell * k
   pub ends : EndAsks (r.barriers + group) r.rows records
 
-abbrev pub placedLog : (total at k : ℕ) → (log shared masks : List ℕ) → List ℕ
-placedLog total at k log shared masks = kindsPlaced logPerCell total at k groupsPerCell masks (kindsPlaced 0 total at k logPerCell shared log)
+abbrev pub placed_log : (total at k : ℕ) → (log shared masks : List ℕ) → List ℕ
+placed_log total at k log shared masks = kinds_placed log_per_cell total at k groups_per_cell masks (kinds_placed 0 total at k log_per_cell shared log)
 
 pub record Closed (group k total at : ℕ) (log shared masks records : List ℕ) (r : Ended) (q : Outcome) (log' records' : List ℕ) : Type 0 where
-  pub log_is : log' ≡ placedLog total at k log shared masks
-  pub records-are : records' ≡ ended (inUse (r.barriers + group)) r.rows records
-  pub outcome-is : q ≡ record {
+  pub log_is : log' ≡ placed_log total at k log shared masks
+  pub records_are : records' ≡ ended (in_use (r.barriers + group)) r.rows records
+  pub outcome_is : q ≡ record {
     verdict = r.verdict;
     row = r.row;
     group = group;
     rows = r.rows;
     barriers = r.barriers;
-    conflicts = costsUpTo (inUse (r.barriers + group) + 1) records';
+    conflicts = costs_up_to (in_use (r.barriers + group) + 1) records';
   }

@@ -1,8 +1,8 @@
 // The reader of a launch file: one pass over its lines. What is left of the file after a line is a part of the file's slice.
 ghost use Rattle.std.specs.Prelude.{◌≡◌, ◌+◌, ◌≤◌, length};
-ghost use Rattle.spec.specs.LaunchFile.{sizesIn, limitIn, rowsIn, contentLines};
-ghost use Rattle.numberlines.specs.Answered.{lineCount};
-ghost use Rattle.launchfile.specs.Parsed.{refusedWith, Within, ReadAs, BytesFrom, ContentsRead, ParsedIs};
+ghost use Rattle.spec.specs.LaunchFile.{sizes_in, limit_in, rows_in, content_lines};
+ghost use Rattle.numberlines.specs.Answered.{line_count};
+ghost use Rattle.launchfile.specs.Parsed.{refused_with, Within, ReadAs, BytesFrom, ContentsRead, ParsedIs};
 ghost use Rattle.admission.specs.declared.Admission.TheVariants.{Accepted};
 
 use admission::Admission;
@@ -31,7 +31,7 @@ pub struct Parsed {
 }
 
 fn refused(why: Refusal) -> Parsed
-    ensures { result ≡ refusedWith why }
+    ensures { result ≡ refused_with why }
 {
     let table = [0u8; 1024];
     let cells = [0u32; 1024];
@@ -99,8 +99,8 @@ fn read_contents(
     sizes: &[u32; numberlines::SIZES],
     lengths: &[u32; numberlines::LENGTHS],
 ) -> Parsed
-    requires { Within (sizesIn sizes.now) (limitIn lengths.now) (rowsIn lengths.now) }
-    ensures { ReadAs (contentLines (sizesIn sizes.now) (limitIn lengths.now) (rowsIn lengths.now) (2 + lineCount) rest.now) result
+    requires { Within (sizes_in sizes.now) (limit_in lengths.now) (rows_in lengths.now) }
+    ensures { ReadAs (content_lines (sizes_in sizes.now) (limit_in lengths.now) (rows_in lengths.now) (2 + line_count) rest.now) result
         × (result.answer ≡ Accepted → BytesFrom rest.now result.launch) }
 {
     let groups = sizes[numberlines::GROUPS];

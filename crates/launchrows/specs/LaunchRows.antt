@@ -5,13 +5,13 @@ use Rattle.layout.specs.declared.Access.{Access}
 use Rattle.layout.specs.declared.Access.TheVariants.{Done}
 use Rattle.layout.specs.declared.State.{State}
 use Rattle.layout.specs.declared.Next.{Next}
-use Rattle.layout.specs.Memory.{KeptBut, Puts, computedLane}
+use Rattle.layout.specs.Memory.{KeptBut, Puts, computed_lane}
 use Rattle.layout.specs.Shared.{GlobalAll}
 use Rattle.layout.specs.Represents.{accessed}
 
 -- The launch numbers in the lanes of register d that a computing row stores to; all else is as it was.
 abbrev pub Numbered : (n group mask d : ℕ) → (regs regs' : List ℕ) → Type 0
-Numbered n group mask d regs regs' = Puts d (computedLane LAUNCHTID group n mask d 0 0 regs) regs regs' 32
+Numbered n group mask d regs regs' = Puts d (computed_lane LAUNCHTID group n mask d 0 0 regs) regs regs' 32
 
 -- A row of the launch number in state s: the state after it, and the registers.
 abbrev pub LaunchDone : (n group d : ℕ) → State → (regs : List ℕ) → Next → (regs' : List ℕ) → Type 0

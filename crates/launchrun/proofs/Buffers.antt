@@ -19,8 +19,8 @@ pub record Buffers : Type 0 where
   pub memo : List ℕ
 
 -- With other records.
-abbrev pub withRecords : Buffers → List ℕ → Buffers
-withRecords W records =
+abbrev pub with_records : Buffers → List ℕ → Buffers
+with_records W records =
     record {
       cells = W.cells;
       global = W.global;
@@ -37,10 +37,10 @@ withRecords W records =
 
 -- The lent ones keep their lengths.
 pub record Kept (W₀ W : Buffers) : Type 0 where
-  pub cells-long : length W.cells ≡ length W₀.cells
-  pub global-long : length W.global ≡ length W₀.global
-  pub log-long : length W.log ≡ length W₀.log
-  pub own-long : length W.own ≡ length W₀.own
+  pub cells_long_lem : length W.cells ≡ length W₀.cells
+  pub global_long_lem : length W.global ≡ length W₀.global
+  pub log_long : length W.log ≡ length W₀.log
+  pub own_long : length W.own ≡ length W₀.own
   pub shared_long : length W.shared ≡ length W₀.shared
-  pub masks-long : length W.masks ≡ length W₀.masks
-  pub records-long : length W.records ≡ length W₀.records
+  pub masks_long : length W.masks ≡ length W₀.masks
+  pub records_long : length W.records ≡ length W₀.records

@@ -1,7 +1,7 @@
 // The lock-step run of a launch: group 0 to its end, then group 1 and so on, under one limit.
 ghost use Rattle.std.specs.Prelude.{◌≡◌, ◌++◌, ◌+◌, ◌*◌, ◌<◌, ◌≤◌, length};
-ghost use Rattle.spec.specs.Entries.{bareLaunch};
-ghost use Rattle.launchrun.specs.Launches.{LaunchAsks, LaunchIs, RunIs, Fresh, sizesBy};
+ghost use Rattle.spec.specs.Entries.{bare_launch};
+ghost use Rattle.launchrun.specs.Launches.{LaunchAsks, LaunchIs, RunIs, Fresh, sizes_by};
 
 // Group after group, up to one that has not passed or is the last.
 fn run_groups(
@@ -26,7 +26,7 @@ fn run_groups(
 ) -> spec::Outcome
     requires { LaunchAsks table.now ends.now n groups k limit common.now cells.old global.old log.old records.old
         × Fresh k global.old log.old own.old shared.old masks.old records.old steps.old stamps.old memo.old }
-    ensures { LaunchIs table.now (sizesBy n groups k common.now global.old) limit (cells.old ++ global.old)
+    ensures { LaunchIs table.now (sizes_by n groups k common.now global.old) limit (cells.old ++ global.old)
         records.old result cells.new global.new log.new records.new steps.new }
 {
     let m = global.len();
@@ -67,7 +67,7 @@ pub fn run_launch(
     steps: &mut [u32; 256],
 ) -> spec::Outcome
     requires { LaunchAsks table.now ends.now n groups k limit common.now cells.old global.old log.old records.old }
-    ensures { RunIs (bareLaunch table.now (sizesBy n groups k common.now global.old) limit cells.old
+    ensures { RunIs (bare_launch table.now (sizes_by n groups k common.now global.old) limit cells.old
         global.old) records.old result cells.new global.new log.new records.new steps.new }
 {
     let m = global.len();

@@ -6,7 +6,7 @@ use native.Mathlib.Omega.{arith}
 use native.Mathlib.Decide.{ℕ_discrete}
 use lib.ListN.{length, get_or, set, length-set, get_or-map}
 use lib.Seq.{get_or-set_same, get_or-set_other}
-use Rattle.spec.specs.Mask.{Mask, maskWord}
+use Rattle.spec.specs.Mask.{Mask, mask_word}
 use Rattle.layout.specs.Memory.{Regs, Masks}
 
 -- register d of thread t is set to v
@@ -37,8 +37,8 @@ module _ (n : ℕ) (regs : List (List ℕ)) (flat : List ℕ) (R : Regs n regs f
       ∙ sym (ap (λ z. get_or z d 0) same_row)
       ∙ sym (ap₂ (λ y z. get_or (get_or (set regs t (set (get_or regs t []) d v)) z []) y 0) f e)
 
-  pub regs-set : Regs n (set regs t (set (get_or regs t []) d v)) (set flat (d * 32 + t) v)
-  regs-set =
+  pub regs_set : Regs n (set regs t (set (get_or regs t []) d v)) (set flat (d * 32 + t) v)
+  regs_set =
       record {
         size = length-set flat (d * 32 + t) v ∙ R.size;
         threads = length-set regs t (set (get_or regs t []) d v) ∙ R.threads;
@@ -46,14 +46,14 @@ module _ (n : ℕ) (regs : List (List ℕ)) (flat : List ℕ) (R : Regs n regs f
         at = λ u r k q. places u r k q (ℕ_discrete u t) (ℕ_discrete r d);
       }
 
-pub masks-set : (n k : ℕ) (ms : List Mask) (c : ℕ) (m : Mask) → Masks n k ms → c < k → length m ≡ n → Masks n k (set ms c m)
-masks-set n k ms c m M h l = record { count = length-set ms c m ∙ M.count; each = λ i q. by i q (ℕ_discrete i c) }
+pub masks_set : (n k : ℕ) (ms : List Mask) (c : ℕ) (m : Mask) → Masks n k ms → c < k → length m ≡ n → Masks n k (set ms c m)
+masks_set n k ms c m M h l = record { count = length-set ms c m ∙ M.count; each = λ i q. by i q (ℕ_discrete i c) }
   where
     by : (i : ℕ) → i < k → Dec (i ≡ c) → length (get_or (set ms c m) i []) ≡ n
     by i q (yes e) = ap (λ z. length (get_or (set ms c m) z [])) e ∙ ap length (get_or-set_same ms c m [] (omega (arith, M.count))) ∙ l
     by i q (no ne) = ap length (get_or-set_other ms c i m [] ne) ∙ M.each i q
 
 -- The word of a mask in a list of masks.
-pub mask_at : (R : List Mask) (c : ℕ) → get_or (map maskWord R) c 0 ≡ maskWord (get_or R c [])
-unfolding maskWord
-mask_at R c = get_or-map maskWord R c []
+pub mask_at : (R : List Mask) (c : ℕ) → get_or (map mask_word R) c 0 ≡ mask_word (get_or R c [])
+unfolding mask_word
+mask_at R c = get_or-map mask_word R c []

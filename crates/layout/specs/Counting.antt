@@ -6,7 +6,7 @@ use Rattle.spec.specs.LockStep.{LockState}
 use Rattle.layout.specs.declared.State.{State}
 use Rattle.layout.specs.declared.Next.{Next}
 use Rattle.layout.specs.declared.Next.TheVariants as next
-use Rattle.layout.specs.Represents.{withSince}
+use Rattle.layout.specs.Represents.{with_since}
 
 abbrev pub bit_of : (mask t : ℕ) → ℕ
 bit_of mask t = mask / 2 ^ t % 2
@@ -25,14 +25,14 @@ pub record Added (mask k : ℕ) (counts counts' : List ℕ) : Type 0 where
   pub each : (t : ℕ) → t < 32 → get_or counts' t 0 ≡ steps_of mask k counts t
 
 -- The state s after the row of a construct, come to under `mask`: ENDIF is a step of the threads that go on, the others of those that came.
-unfoldable pub ownStep : (op : ℕ) → ℕ
-ownStep op = cond (eqb op 34) 1 0
+unfoldable pub own_step : (op : ℕ) → ℕ
+own_step op = cond (eqb op 34) 1 0
 
 pub record Settled (op mask : ℕ) (s r : State) (counts counts' : List ℕ) : Type 0 where
-  pub state-is : r ≡ withSince s r.since
-  pub since-few : r.since ≤ s.since
+  pub state_is : r ≡ with_since s r.since
+  pub since_few : r.since ≤ s.since
   pub size : length counts' ≡ 32
-  pub each : (t : ℕ) → t < 32 → steps_of r.mask r.since counts' t ≡ steps_of mask (s.since - ownStep op) counts t + bit_of s.mask t * ownStep op
+  pub each : (t : ℕ) → t < 32 → steps_of r.mask r.since counts' t ≡ steps_of mask (s.since - own_step op) counts t + bit_of s.mask t * own_step op
 
 -- The threads that step in a row: nobody at a BARRIER, those that go on at an ENDIF, else those that come to it.
 unfoldable pub stepping : (op : ℕ) → (before after : State) → ℕ
@@ -53,14 +53,14 @@ NextCounted op s (next.Go r) counts counts' = RowCounted op s r counts counts'
 NextCounted op s (next.Stop r v) counts counts' = (r.mask ≡ s.mask) × (r.since ≡ s.since) × (counts' ≡ counts)
 
 -- Those that have stepped in a row that stopped: the enabled threads below the one that stopped it; nobody at a BARRIER.
-unfoldable pub actedBefore : Verdict → (mask : ℕ) → ℕ
-actedBefore Passed mask = 0
-actedBefore (Race thread other kind at) mask = mask % 2 ^ thread
-actedBefore (GroupRace thread group kind at) mask = mask % 2 ^ thread
-actedBefore (Outside thread at) mask = mask % 2 ^ thread
-actedBefore (Common thread at) mask = mask % 2 ^ thread
-actedBefore (Diverged thread other) mask = 0
-actedBefore Spent mask = 0
+unfoldable pub acted_before : Verdict → (mask : ℕ) → ℕ
+acted_before Passed mask = 0
+acted_before (Race thread other kind at) mask = mask % 2 ^ thread
+acted_before (GroupRace thread group kind at) mask = mask % 2 ^ thread
+acted_before (Outside thread at) mask = mask % 2 ^ thread
+acted_before (Common thread at) mask = mask % 2 ^ thread
+acted_before (Diverged thread other) mask = 0
+acted_before Spent mask = 0
 
 -- The thread of a race or of an access outside is one of 32.
 abbrev pub ThreadFits : Verdict → Type 0

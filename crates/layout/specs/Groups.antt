@@ -7,12 +7,12 @@ use Rattle.layout.specs.declared.State.{State}
 use Rattle.layout.specs.declared.Next.{Next}
 use Rattle.layout.specs.declared.Next.TheVariants as next
 use Rattle.layout.specs.Represents.{Represents}
-use Rattle.layout.specs.Views.{view_of, ownFrom}
+use Rattle.layout.specs.Views.{view_of, own_from}
 use Rattle.layout.specs.Shared.{GlobalMemory}
 
 -- `cells` and `log` are the group's own, `global`, `shared` and `masks` the cells, the log and the group masks of the global ones.
 pub record GroupStands (L : Shape) (z : LockState) (s : State) (regs cells log saved openers global shared masks : List ℕ) : Type 0 where
-  pub own : Represents L.threads (view_of (ownFrom L) L.cells z) s regs cells log saved openers
+  pub own : Represents L.threads (view_of (own_from L) L.cells z) s regs cells log saved openers
   pub globals : GlobalMemory L z regs global shared masks
 
 -- What a row comes to in the code is what it comes to by the definition.

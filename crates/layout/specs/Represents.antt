@@ -1,7 +1,7 @@
 -- How the code's state stands for a state of the lock-step run, and what a row comes to in it. Assumes nothing.
 use Rattle.std.specs.Prelude.{◌≡◌, ◌⊎◌, List, [], ◌∷◌, ℕ, ◌+◌, ◌-◌, ◌*◌, ◌<◌, ◌≤◌, length, get_or}
 use Rattle.std.specs.Int.Bits.{bit_or}
-use Rattle.spec.specs.Mask.{maskWord}
+use Rattle.spec.specs.Mask.{mask_word}
 use Rattle.spec.specs.LockStep.{Saved, LockState, Step, continues, stops}
 use Rattle.layout.specs.declared.Access.{Access}
 use Rattle.layout.specs.declared.Access.TheVariants.{Done, Stop}
@@ -15,20 +15,20 @@ use Rattle.layout.specs.Memory.{Memory}
 abbrev pub Saves : ℕ → List Saved → (saved openers : List ℕ) → Type 0
 Saves n [] saved openers = Unit {0}
 Saves n (f ∷ v) saved openers =
-    (get_or saved (length v) 0 ≡ maskWord f.mask) × (length f.mask ≡ n) × (get_or openers (length v) 0 ≡ f.opener) × Saves n v saved openers
+    (get_or saved (length v) 0 ≡ mask_word f.mask) × (length f.mask ≡ n) × (get_or openers (length v) 0 ≡ f.opener) × Saves n v saved openers
 
 pub record Represents (n : ℕ) (z : LockState) (s : State) (regs cells log saved openers : List ℕ) : Type 0 where
   pub memory : Memory n z regs cells log
-  pub row_is : s.row ≡ z.row
-  pub enabled-is : s.mask ≡ maskWord z.enabled
-  pub enabled-size : length z.enabled ≡ n
+  pub row_is_lem : s.row ≡ z.row
+  pub enabled_is_lem : s.mask ≡ mask_word z.enabled
+  pub enabled_size : length z.enabled ≡ n
   pub depth_is : s.depth ≡ length z.saved
   pub saves : Saves n z.saved saved openers
-  pub saved-size : length saved ≡ 8
-  pub openers-size : length openers ≡ 8
+  pub saved_size : length saved ≡ 8
+  pub openers_size : length openers ≡ 8
   pub rows_is : s.rows ≡ z.rows
-  pub barriers-is : s.barriers ≡ z.barriers
-  pub reach-is : EmptyAbove s.reach (length cells) log
+  pub barriers_is : s.barriers ≡ z.barriers
+  pub reach_is : EmptyAbove s.reach (length cells) log
 
 -- Some state of the lock-step run stands in the code's.
 pub record Standing (n : ℕ) (s : State) (regs cells log saved openers : List ℕ) : Type 0 where
@@ -37,32 +37,32 @@ pub record Standing (n : ℕ) (s : State) (regs cells log saved openers : List �
 
 -- There is room for one more row; and what a row adds at most. A row that stops stays where it is.
 pub record Room (s : State) : Type 0 where
-  pub row-few : s.row < 256
+  pub row_few : s.row < 256
   pub rows_few : s.rows < 1000000
-  pub since-few : s.since ≤ s.rows
-  pub barriers-few : s.barriers ≤ s.rows
+  pub since_few : s.since ≤ s.rows
+  pub barriers_few : s.barriers ≤ s.rows
 
 pub record Counted (s r : State) : Type 0 where
-  pub rows-one : r.rows ≡ s.rows + 1
-  pub since-one : r.since ≤ s.since + 1
-  pub barriers-one : r.barriers ≤ s.barriers + 1
+  pub rows_one : r.rows ≡ s.rows + 1
+  pub since_one : r.since ≤ s.since + 1
+  pub barriers_one : r.barriers ≤ s.barriers + 1
 
 abbrev pub Counts : State → Next → Type 0
 Counts s (next.Go r) = Counted s r
 Counts s (next.Stop r v) = r.row ≡ s.row
 
 -- On at another row, with another mask and depth, after one more step.
-abbrev pub goneOn : State → (row mask depth : ℕ) → State
-goneOn s row mask depth =
+abbrev pub gone_on : State → (row mask depth : ℕ) → State
+gone_on s row mask depth =
     record { reach = s.reach; row = row; mask = mask; depth = depth; rows = s.rows + 1; since = s.since + 1; barriers = s.barriers }
 
 -- On at the next row.
-abbrev pub movedOn : State → State
-movedOn s = goneOn s (s.row + 1) s.mask s.depth
+abbrev pub moved_on : State → State
+moved_on s = gone_on s (s.row + 1) s.mask s.depth
 
 -- With another number of steps that are not counted yet.
-abbrev pub withSince : State → ℕ → State
-withSince s k =
+abbrev pub with_since : State → ℕ → State
+with_since s k =
     record { reach = s.reach; row = s.row; mask = s.mask; depth = s.depth; rows = s.rows; since = k; barriers = s.barriers }
 
 -- After accesses of cells that are not above h. Neither of two numbers is above what they are put together to bit by bit.
@@ -79,7 +79,7 @@ reached s h =
     }
 
 abbrev pub accessed : State → Access → Next
-accessed s Done = next.Go (movedOn s)
+accessed s Done = next.Go (moved_on s)
 accessed s (Stop v) = next.Stop s v
 
 -- What a row comes to in the code is what it comes to by the definition.
@@ -93,6 +93,6 @@ RoomForWhile s openers = (s.depth < 8) ⊎ ((0 < s.depth) × (s.depth ≤ 8) × 
 
 -- What the rows of constructs ask of the depth.
 pub record DepthAsks (op : ℕ) (s : State) (openers : List ℕ) : Type 0 where
-  pub opens-if : op ≡ 32 → s.depth < 8
+  pub opens_if : op ≡ 32 → s.depth < 8
   pub inside : 33 ≤ op → op ≤ 36 → (op ≡ 35 → ⊥) → (0 < s.depth) × (s.depth ≤ 8)
-  pub opens-while : op ≡ 35 → RoomForWhile s openers
+  pub opens_while : op ≡ 35 → RoomForWhile s openers

@@ -3,14 +3,14 @@ use Rattle.std.specs.Prelude.{◌≡◌, List, ℕ, ◌+◌, ◌*◌, ◌<◌, �
 use Rattle.std.proofs.Math.Option.{none}
 use Rattle.spec.specs.Op.{WHILE, op_of}
 use Rattle.spec.specs.Table.{Table, Row, rows_of, row_at, end_of}
-use Rattle.spec.specs.TableCheck.{tableRefusal}
-use Rattle.spec.specs.Limits.{logPerCell}
+use Rattle.spec.specs.TableCheck.{table_refusal}
+use Rattle.spec.specs.Limits.{log_per_cell}
 use Rattle.spec.specs.LockStep.{LockState, run_row}
 use Rattle.layout.specs.declared.State.{State}
 use Rattle.layout.specs.declared.Next.{Next}
 use Rattle.layout.specs.Memory.{ComputeAsks, Computed, KeptBut, shape_by}
 use Rattle.layout.specs.Represents.{Represents, Standing, After, Counts, Room, DepthAsks}
-use Rattle.layout.specs.Constructs.{savedAfter, openersAfter}
+use Rattle.layout.specs.Constructs.{saved_after, openers_after}
 
 -- What the bytes of a row ask.
 pub record RowAsks (op d a b : ℕ) : Type 0 where
@@ -27,16 +27,16 @@ pub record Ready (table ends : List ℕ) (n : ℕ) (s : State) (regs cells log s
   pub room : Room s
   pub asks : RowAsks (get_or table (s.row * 4) 0) (get_or table (s.row * 4 + 1) 0) (get_or table (s.row * 4 + 2) 0) (get_or table (s.row * 4 + 3) 0)
   pub depths : DepthAsks (get_or table (s.row * 4) 0) s openers
-  pub ends-right : (row_at (rows_of table) s.row).op ≡ WHILE → get_or ends s.row 0 ≡ end_of (rows_of table) s.row
+  pub ends_right : (row_at (rows_of table) s.row).op ≡ WHILE → get_or ends s.row 0 ≡ end_of (rows_of table) s.row
   pub stands : Standing n s regs cells log saved openers
-  pub sized : length log ≡ logPerCell * length cells
-  pub cells-few : length cells ≤ 1024
+  pub sized : length log ≡ log_per_cell * length cells
+  pub cells_few : length cells ≤ 1024
 
 -- A table that is not refused, with the rows of its loops' ends.
 pub record Runnable (table ends : List ℕ) : Type 0 where
   pub few : length (rows_of table) ≤ 256
-  pub accepted : tableRefusal (rows_of table) ≡ none
-  pub ends-are : (r : ℕ) → r < length (rows_of table) → (row_at (rows_of table) r).op ≡ WHILE → get_or ends r 0 ≡ end_of (rows_of table) r
+  pub accepted : table_refusal (rows_of table) ≡ none
+  pub ends_are : (r : ℕ) → r < length (rows_of table) → (row_at (rows_of table) r).op ≡ WHILE → get_or ends r 0 ≡ end_of (rows_of table) r
 
 -- What an access row comes to.
 abbrev pub AccessDone : (op n d a : ℕ) (s : State) → (common regs cells log : List ℕ) → (r : Next) → (regs' cells' log' : List ℕ) → Type 0
@@ -60,9 +60,9 @@ pub record Steps (table : List ℕ) (n : ℕ) (s : State) (common regs cells log
       saved' openers'
   pub regs_are : RegsAfter (get_or table (s.row * 4) 0) n s.mask (get_or table (s.row * 4 + 1) 0) (get_or table (s.row * 4 + 2) 0)
       (get_or table (s.row * 4 + 3) 0) regs regs'
-  pub saved-are : saved' ≡ savedAfter (get_or table (s.row * 4) 0) s saved openers
-  pub openers-are : openers' ≡ openersAfter (get_or table (s.row * 4) 0) s openers
+  pub saved_are : saved' ≡ saved_after (get_or table (s.row * 4) 0) s saved openers
+  pub openers_are : openers' ≡ openers_after (get_or table (s.row * 4) 0) s openers
 
 -- The state at a group's start, with the mask of all threads, after so many rows and barriers.
-abbrev pub startState : (all rows barriers : ℕ) → State
-startState all rows barriers = record { reach = 0; row = 0; mask = all; depth = 0; rows = rows; since = 0; barriers = barriers }
+abbrev pub start_state : (all rows barriers : ℕ) → State
+start_state all rows barriers = record { reach = 0; row = 0; mask = all; depth = 0; rows = rows; since = 0; barriers = barriers }

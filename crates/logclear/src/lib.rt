@@ -1,12 +1,12 @@
 // The walk that clears the access log.
 ghost use Rattle.std.specs.Prelude.{◌≡◌, ◌*◌, ◌<◌, length, replicate};
-ghost use Rattle.spec.specs.Limits.{logPerCell};
-ghost use Rattle.spec.specs.Log.{cellCleared, cellsCleared};
+ghost use Rattle.spec.specs.Limits.{log_per_cell};
+ghost use Rattle.spec.specs.Log.{cell_cleared, cells_cleared};
 
 // One turn of the walk: the words of cell i, put to 0 together.
 fn clear_cell(log: &mut [u32], cells: usize, i: usize)
-    requires { (length log.old ≡ logPerCell * cells) × (i < cells) }
-    ensures { log.new ≡ cellCleared cells i log.old }
+    requires { (length log.old ≡ log_per_cell * cells) × (i < cells) }
+    ensures { log.new ≡ cell_cleared cells i log.old }
 {
     log[i] = 0;
     log[cells + i] = 0;
@@ -17,8 +17,8 @@ fn clear_cell(log: &mut [u32], cells: usize, i: usize)
 
 // n turns, from cell 0 on; more than there are cells clear them all, and nothing else.
 pub fn clear_cells(log: &mut [u32], cells: usize, n: usize)
-    requires { length log.old ≡ logPerCell * cells }
-    ensures { log.new ≡ cellsCleared cells n log.old }
+    requires { length log.old ≡ log_per_cell * cells }
+    ensures { log.new ≡ cells_cleared cells n log.old }
 {
     let turns = if n < cells { n } else { cells };
     let mut i = 0;
@@ -30,7 +30,7 @@ pub fn clear_cells(log: &mut [u32], cells: usize, n: usize)
 
 // The whole log.
 pub fn clear(log: &mut [u32], cells: usize)
-    requires { length log.old ≡ logPerCell * cells }
+    requires { length log.old ≡ log_per_cell * cells }
     ensures { log.new ≡ replicate (length log.old) 0 }
 {
     clear_cells(log, cells, cells);

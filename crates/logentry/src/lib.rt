@@ -1,6 +1,6 @@
 // An access's entry in the access log: the thread's bit, and of a store its value or the mark of an unequal one.
 ghost use Rattle.std.specs.Prelude.{◌≡◌, ◌+◌, ◌<◌, ◌≤◌, get_or};
-ghost use Rattle.layout.specs.Logging.{LogAsks, OneBit, mode_of, rank, place_of, markEntered, enteredWords};
+ghost use Rattle.layout.specs.Logging.{LogAsks, OneBit, mode_of, rank, place_of, mark_entered, entered_words};
 
 // Where the mask of cell i stands that an access by op enters.
 pub fn place(cells: usize, i: usize, op: u8) -> usize
@@ -13,7 +13,7 @@ pub fn place(cells: usize, i: usize, op: u8) -> usize
 // A store of v to a cell that has a first value: another one marks the cell.
 fn enter_mark(log: &mut [u32], cells: usize, i: usize, v: u32)
     requires { LogAsks 17 cells i log.old }
-    ensures { log.new ≡ markEntered v cells i log.old }
+    ensures { log.new ≡ mark_entered v cells i log.old }
 {
     if v == log[3 * cells + i] {
         return;
@@ -24,7 +24,7 @@ fn enter_mark(log: &mut [u32], cells: usize, i: usize, v: u32)
 // A store of v by the thread of this bit to a cell that has been stored to. A thread that is among the writers already is not put there again.
 fn enter_later_store(log: &mut [u32], cells: usize, i: usize, bit: u32, w: u32, v: u32)
     requires { LogAsks 17 cells i log.old × OneBit bit × (w ≡ get_or log.old (cells + i) 0) × (0 < w) }
-    ensures { log.new ≡ enteredWords 17 v cells i bit log.old }
+    ensures { log.new ≡ entered_words 17 v cells i bit log.old }
 {
     enter_mark(log, cells, i, v);
     if w & bit == 0 {
@@ -35,7 +35,7 @@ fn enter_later_store(log: &mut [u32], cells: usize, i: usize, bit: u32, w: u32, 
 // A store of v by the thread of this bit: the first to a cell leaves its value. Where the thread alone has stored there, the writers stay as they are.
 fn enter_store(log: &mut [u32], cells: usize, i: usize, bit: u32, v: u32)
     requires { LogAsks 17 cells i log.old × OneBit bit }
-    ensures { log.new ≡ enteredWords 17 v cells i bit log.old }
+    ensures { log.new ≡ entered_words 17 v cells i bit log.old }
 {
     let w = log[cells + i];
     if w == bit {
@@ -53,7 +53,7 @@ fn enter_store(log: &mut [u32], cells: usize, i: usize, bit: u32, v: u32)
 // The thread of this bit enters the mask of cell i, and of a STORE the value v.
 pub fn enter(log: &mut [u32], cells: usize, i: usize, bit: u32, v: u32, op: u8)
     requires { LogAsks op cells i log.old × OneBit bit }
-    ensures { log.new ≡ enteredWords op v cells i bit log.old }
+    ensures { log.new ≡ entered_words op v cells i bit log.old }
 {
     if op == 17 {
         enter_store(log, cells, i, bit, v);

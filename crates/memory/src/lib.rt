@@ -1,6 +1,6 @@
 // A row's accesses, thread by thread. The cells' numbers are put together bit by bit on the way: none is above what comes out.
 ghost use Rattle.std.specs.Prelude.{◌≡◌, ◌-◌, ◌%◌, ◌^◌, ◌<◌};
-ghost use Rattle.spec.specs.Limits.{commonFrom};
+ghost use Rattle.spec.specs.Limits.{common_from};
 ghost use Rattle.layout.specs.Memory.{AccessRowAsks, AccessLoop, AccessRow};
 
 // The accesses of all n threads, lowest first, up to one that does not go on.
@@ -160,7 +160,7 @@ fn enabled_row(
 
 // What the numbers of own cells are put together to. Common cells, from 65,536 on, are not logged, so that nothing is to be cleared for them.
 fn own_reach(reach: u32) -> u32
-    ensures { result ≡ reach % commonFrom }
+    ensures { result ≡ reach % common_from }
 {
     reach % 65536
 }

@@ -7,9 +7,9 @@ use native.Mathlib.Omega.{arith}
 use borrow.Author.Tests.{leb-true}
 use lib.Dec.{leb}
 use lib.ListN.{get_or}
-use Rattle.spec.specs.LaunchFile.{NumberLine, Read, stop, read, Reader, continue, ◌>>=◌, ◌>>◌, gives, inOrder, require, due, number, dueNumber, numbers}
+use Rattle.spec.specs.LaunchFile.{NumberLine, Read, stop, read, Reader, continue, ◌>>=◌, ◌>>◌, gives, in_order, require, due, number, due_number, numbers}
 use Rattle.spec.specs.declared.Refusal.{Refusal}
-use Rattle.numberlines.proofs.Tables.{noLine}
+use Rattle.numberlines.proofs.Tables.{no_line}
 
 pub record Limited (l : NumberLine) (n : ℕ) : Type 0 where
   pub low : l.least ≤ n
@@ -38,8 +38,8 @@ required true why line rest u next left e = refl
 required false why line rest u next left e = never e
 
 module _ (l : NumberLine) (line : ℕ) (file : List ℕ) (n next : ℕ) (left : List ℕ) where
-  limited : dueNumber l line file ≡ read n next left → Limited l n
-  unfolding dueNumber ◌>>=◌ ◌>>◌ gives
+  limited : due_number l line file ≡ read n next left → Limited l n
+  unfolding due_number ◌>>=◌ ◌>>◌ gives
   limited e =
       let found = parts (due l.key number line file) _ n next left e in
       let v = found.value in
@@ -48,19 +48,19 @@ module _ (l : NumberLine) (line : ℕ) (file : List ℕ) (n next : ℕ) (left : 
       let tests = (and-eq-true_iff _ _).0 (required _ _ _ _ _ _ _ passed.before) in
       subst (λ (m : ℕ). Limited l m) same (record { low = leb-true _ _ tests.0; high = leb-true _ _ tests.1 })
 
-pub all-limited : (ls : List NumberLine) (line : ℕ) (file ns : List ℕ) (next : ℕ) (left : List ℕ) → numbers ls line file ≡ read ns next left
-    → (i : ℕ) → Limited (get_or ls i noLine) (get_or ns i 0)
-unfolding numbers inOrder ◌>>=◌ gives
-all-limited [] line file ns next left e i =
+pub all_limited : (ls : List NumberLine) (line : ℕ) (file ns : List ℕ) (next : ℕ) (left : List ℕ) → numbers ls line file ≡ read ns next left
+    → (i : ℕ) → Limited (get_or ls i no_line) (get_or ns i 0)
+unfolding numbers in_order ◌>>=◌ gives
+all_limited [] line file ns next left e i =
     let none : [] ≡ ns = cc in
     rw (← none) (record { low = omega arith; high = omega arith })
-all-limited (l ∷ ls) line file ns next left e zero =
-    let first = parts (dueNumber l line file) _ ns next left e in
-    let others = parts (inOrder (map dueNumber ls) first.line first.rest) _ ns next left first.behind in
+all_limited (l ∷ ls) line file ns next left e zero =
+    let first = parts (due_number l line file) _ ns next left e in
+    let others = parts (in_order (map due_number ls) first.line first.rest) _ ns next left first.behind in
     let same : first.value ∷ others.value ≡ ns = cc in
     rw (← same) (limited l line file first.value first.line first.rest first.before)
-all-limited (l ∷ ls) line file ns next left e (suc i) =
-    let first = parts (dueNumber l line file) _ ns next left e in
-    let others = parts (inOrder (map dueNumber ls) first.line first.rest) _ ns next left first.behind in
+all_limited (l ∷ ls) line file ns next left e (suc i) =
+    let first = parts (due_number l line file) _ ns next left e in
+    let others = parts (in_order (map due_number ls) first.line first.rest) _ ns next left first.behind in
     let same : first.value ∷ others.value ≡ ns = cc in
-    rw (← same) (all-limited ls first.line first.rest others.value others.line others.rest others.before i)
+    rw (← same) (all_limited ls first.line first.rest others.value others.line others.rest others.before i)

@@ -9,67 +9,67 @@ use lib.Dec.{leb}
 use lib.ListN.{length, get_or, take, drop, set, length-set, length-map, get_or-map}
 use lib.Seq.{take-suc-set, take-length, length-take-le, get_or-take, drop-set-lt, drop-drop}
 use Rattle.spec.specs.Text.{text}
-use Rattle.spec.specs.LaunchFile.{NumberLine, Read, stop, read, continue, ◌>>=◌, ◌>>◌, gives, require, number, dueNumber, numbers}
+use Rattle.spec.specs.LaunchFile.{NumberLine, Read, stop, read, continue, ◌>>=◌, ◌>>◌, gives, require, number, due_number, numbers}
 use Rattle.spec.specs.declared.Refusal.{Refusal}
 use Rattle.spec.specs.declared.Refusal.TheVariants.{LineNotDue}
 use Rattle.text.specs.declared.Number.{Number}
 use Rattle.text.specs.declared.Number.TheVariants.{Value, Bad}
 use Rattle.text.specs.Numbers.{number_of}
 use Rattle.stringtable.proofs.Strings.{part_of}
-use Rattle.filelines.specs.Lines.{keyedValue, nextIn, lineRead}
-use Rattle.filelines.proofs.DueLines.{due-line}
+use Rattle.filelines.specs.Lines.{keyed_value, next_in, line_read}
+use Rattle.filelines.proofs.DueLines.{due_line}
 use Rattle.filelines.proofs.InOrder.{Going, start, more, stops, ends}
-use Rattle.numberlines.specs.Answered.{lines_from, lineCount, linesBehind, answered, NumbersRead}
+use Rattle.numberlines.specs.Answered.{lines_from, line_count, lines_behind, answered, NumbersRead}
 use Rattle.admission.specs.declared.Admission.{Admission}
 use Rattle.admission.specs.declared.Admission.TheVariants.{Accepted, Refused}
-use Rattle.numberlines.proofs.Tables.{noLine, line_at, keyBytes, starts, leasts, greatests, refusals, least_at, greatest-at, refusal-at, key-part, from-count, line-from}
+use Rattle.numberlines.proofs.Tables.{no_line, line_at, key_bytes, starts, leasts, greatests, refusals, least_at, greatest_at, refusal_at, key_part, from_count, line_from}
 
 -- One line, by what was found there.
-module _ (l : NumberLine) (line : ℕ) (rest : List ℕ) (n : Number) (found : keyedValue (text l.key) number rest ≡ number_of n) where
-  not-due : n ≡ Bad → dueNumber l line rest ≡ stop (LineNotDue line)
-  unfolding dueNumber ◌>>=◌ continue lineRead
-  not-due e = rw (due-line line l.key number rest, found, e)
+module _ (l : NumberLine) (line : ℕ) (rest : List ℕ) (n : Number) (found : keyed_value (text l.key) number rest ≡ number_of n) where
+  not_due : n ≡ Bad → due_number l line rest ≡ stop (LineNotDue line)
+  unfolding due_number ◌>>=◌ continue line_read
+  not_due e = rw (due_line line l.key number rest, found, e)
 
   module _ (v : ℕ) (e : n ≡ Value v) where
-    out : (leb l.least v && leb v l.greatest) ≡ false → dueNumber l line rest ≡ stop l.refusal
-    unfolding dueNumber ◌>>=◌ ◌>>◌ continue lineRead require
-    out t = rw (due-line line l.key number rest, found, e, t)
+    out : (leb l.least v && leb v l.greatest) ≡ false → due_number l line rest ≡ stop l.refusal
+    unfolding due_number ◌>>=◌ ◌>>◌ continue line_read require
+    out t = rw (due_line line l.key number rest, found, e, t)
 
-    within : (leb l.least v && leb v l.greatest) ≡ true → dueNumber l line rest ≡ read v (suc line) (nextIn rest)
-    unfolding dueNumber ◌>>=◌ ◌>>◌ continue lineRead require gives
-    within t = rw (due-line line l.key number rest, found, e, t)
+    within : (leb l.least v && leb v l.greatest) ≡ true → due_number l line rest ≡ read v (suc line) (next_in rest)
+    unfolding due_number ◌>>=◌ ◌>>◌ continue line_read require gives
+    within t = rw (due_line line l.key number rest, found, e, t)
 
-pub next-behind : (i : ℕ) (file : List ℕ) → nextIn (linesBehind i file) ≡ linesBehind (i + 1) file
-unfolding linesBehind
-next-behind i file = rw (add-one i)
+pub next_behind : (i : ℕ) (file : List ℕ) → next_in (lines_behind i file) ≡ lines_behind (i + 1) file
+unfolding lines_behind
+next_behind i file = rw (add-one i)
 
 -- The first i of n lines were read, and would be of fewer; their numbers stand at the front of ns, and all behind is as it was.
 pub record NumbersGoing (ls : List NumberLine) (line n : ℕ) (file old ns rest : List ℕ) (i : ℕ) : Type 0 where
   pub size : length ls ≡ n
   pub under : i ≤ n
   pub long : length ns ≡ n
-  pub left : rest ≡ linesBehind i file
-  pub going : (m : ℕ) → i ≤ m → m ≤ length ls → Going (map dueNumber (take m ls)) line file i rest (take i ns)
+  pub left : rest ≡ lines_behind i file
+  pub going : (m : ℕ) → i ≤ m → m ≤ length ls → Going (map due_number (take m ls)) line file i rest (take i ns)
   pub kept : drop i ns ≡ drop i old
 
 pub begins : (ls : List NumberLine) (line n : ℕ) (file ns : List ℕ) → length ls ≡ n → length ns ≡ n → NumbersGoing ls line n file ns ns file 0
-unfolding linesBehind
+unfolding lines_behind
 begins ls line n file ns s e =
-    record { size = s; under = omega arith; long = e; left = refl; going = λ m h l. start (map dueNumber (take m ls)) line file; kept = refl }
+    record { size = s; under = omega arith; long = e; left = refl; going = λ m h l. start (map due_number (take m ls)) line file; kept = refl }
 
 module _ (ls : List NumberLine) where
-  count : (m : ℕ) → m ≤ length ls → length (map dueNumber (take m ls)) ≡ m
-  count m h = length-map (take m ls) dueNumber ∙ length-take-le m ls h
+  count : (m : ℕ) → m ≤ length ls → length (map due_number (take m ls)) ≡ m
+  count m h = length-map (take m ls) due_number ∙ length-take-le m ls h
 
-  line_of : (m i : ℕ) → i < m → get_or (map dueNumber (take m ls)) i (dueNumber noLine) ≡ dueNumber (get_or ls i noLine)
-  line_of m i h = get_or-map dueNumber (take m ls) i noLine ∙ ap dueNumber (get_or-take m ls i noLine h)
+  line_of : (m i : ℕ) → i < m → get_or (map due_number (take m ls)) i (due_number no_line) ≡ due_number (get_or ls i no_line)
+  line_of m i h = get_or-map due_number (take m ls) i no_line ∙ ap due_number (get_or-take m ls i no_line h)
 
 module _ {ls : List NumberLine} {line n : ℕ} {file old ns rest : List ℕ} {i : ℕ} (g : NumbersGoing ls line n file old ns rest i) where
-  fronts : numbers (take i ls) line file ≡ read (take i ns) (line + i) (linesBehind i file)
+  fronts : numbers (take i ls) line file ≡ read (take i ns) (line + i) (lines_behind i file)
   unfolding numbers
   fronts =
       let inside : i ≤ length ls = omega (arith, g.size, g.under) in
-      ends (map dueNumber (take i ls)) line file (dueNumber noLine) i rest (take i ns) (g.going i (omega arith) inside) (sym (count ls i inside))
+      ends (map due_number (take i ls)) line file (due_number no_line) i rest (take i ns) (g.going i (omega arith) inside) (sym (count ls i inside))
       ∙ ap (read (take i ns) (line + i)) g.left
 
   all_read : n ≤ i → NumbersRead ls line file old ns Accepted
@@ -86,7 +86,7 @@ module _ {ls : List NumberLine} {line n : ℕ} {file old ns rest : List ℕ} {i 
       }
 
   module _ (h : i < n) where
-    refuses : (why : Refusal) → dueNumber (get_or ls i noLine) (line + i) rest ≡ stop why → NumbersRead ls line file old ns (Refused why)
+    refuses : (why : Refusal) → due_number (get_or ls i no_line) (line + i) rest ≡ stop why → NumbersRead ls line file old ns (Refused why)
     unfolding answered
     refuses why e =
         record {
@@ -99,27 +99,27 @@ module _ {ls : List NumberLine} {line n : ℕ} {file old ns rest : List ℕ} {i 
       where
         at : (m : ℕ) → i < m → m ≤ length ls → numbers (take m ls) line file ≡ stop why
         at m k l = unfold numbers in
-            (stops (map dueNumber (take m ls)) line file (dueNumber noLine) i rest (take i ns) (g.going m (omega arith) l) (omega (arith, count ls m l)) why
+            (stops (map due_number (take m ls)) line file (due_number no_line) i rest (take i ns) (g.going m (omega arith) l) (omega (arith, count ls m l)) why
             (ap (λ p. p (line + i) rest) (line_of ls m i k) ∙ e))
 
-    reads : (v : ℕ) → dueNumber (get_or ls i noLine) (line + i) rest ≡ read v (suc (line + i)) (nextIn rest) → {left : List ℕ} → left ≡ nextIn rest
+    reads : (v : ℕ) → due_number (get_or ls i no_line) (line + i) rest ≡ read v (suc (line + i)) (next_in rest) → {left : List ℕ} → left ≡ next_in rest
         → NumbersGoing ls line n file old (set ns i v) left (i + 1)
     reads v e q =
         record {
           size = g.size;
           under = omega arith;
           long = length-set ns i v ∙ g.long;
-          left = q ∙ ap nextIn g.left ∙ next-behind i file;
+          left = q ∙ ap next_in g.left ∙ next_behind i file;
           going = λ m k l.
               rw (q, add-one i, take-suc-set ns i v (omega (arith, g.long)), ← add-one i)
-              (more (map dueNumber (take m ls)) line file (dueNumber noLine) i rest (take i ns) (g.going m (omega arith) l) (omega (arith, count ls m l))
-              v (nextIn rest) (ap (λ p. p (line + i) rest) (line_of ls m i (omega arith)) ∙ e));
+              (more (map due_number (take m ls)) line file (due_number no_line) i rest (take i ns) (g.going m (omega arith) l) (omega (arith, count ls m l))
+              v (next_in rest) (ap (λ p. p (line + i) rest) (line_of ls m i (omega arith)) ∙ e));
           kept = drop-set-lt (i + 1) ns i v (omega arith) ∙ sym (drop-drop 1 i ns) ∙ ap (drop 1) g.kept ∙ drop-drop 1 i old;
         }
 
 -- The key that the code looks for at a place among all lines.
 abbrev key_of : ℕ → List ℕ
-key_of at = part_of keyBytes (get_or starts at 0) (get_or starts (at + 1) 0)
+key_of at = part_of key_bytes (get_or starts at 0) (get_or starts (at + 1) 0)
 
 -- The lines from some place on, by the tables of the code.
 abbrev pub FromGoing : (from n : ℕ) → (file old ns rest : List ℕ) → (i : ℕ) → Type 0
@@ -128,34 +128,34 @@ FromGoing from n file old ns rest i = NumbersGoing (lines_from from n) (2 + from
 abbrev FromRead : (from n : ℕ) → (file old ns : List ℕ) → Admission → Type 0
 FromRead from n file old ns r = NumbersRead (lines_from from n) (2 + from) file old ns r
 
-module _ (from n : ℕ) (fits : from + n ≤ lineCount) where
-  pub from-begins : (file ns : List ℕ) → length ns ≡ n → FromGoing from n file ns ns file 0
-  from-begins file ns e = begins (lines_from from n) (2 + from) n file ns (from-count from n fits) e
+module _ (from n : ℕ) (fits : from + n ≤ line_count) where
+  pub from_begins : (file ns : List ℕ) → length ns ≡ n → FromGoing from n file ns ns file 0
+  from_begins file ns e = begins (lines_from from n) (2 + from) n file ns (from_count from n fits) e
 
   module _ {file old ns rest : List ℕ} {i : ℕ} (g : FromGoing from n file old ns rest i) where
     pub all_from : n ≤ i → FromRead from n file old ns Accepted
     all_from h = all_read g h
 
-    module _ (h : i < n) (v : Number) (found : keyedValue (key_of (from + i)) number rest ≡ number_of v) where
+    module _ (h : i < n) (v : Number) (found : keyed_value (key_of (from + i)) number rest ≡ number_of v) where
       abbrev at : NumberLine
       at = line_at (from + i)
 
-      asked : keyedValue (text at.key) number rest ≡ number_of v
-      asked = ap (λ key. keyedValue key number rest) (sym (key-part (from + i) (omega arith)).part) ∙ found
+      asked : keyed_value (text at.key) number rest ≡ number_of v
+      asked = ap (λ key. keyed_value key number rest) (sym (key_part (from + i) (omega arith)).part) ∙ found
 
-      comes : {r : Read ℕ} → dueNumber at (2 + from + i) rest ≡ r → dueNumber (get_or (lines_from from n) i noLine) (2 + from + i) rest ≡ r
-      comes e = ap (λ l. dueNumber l (2 + from + i) rest) (line-from from n i h) ∙ e
+      comes : {r : Read ℕ} → due_number at (2 + from + i) rest ≡ r → due_number (get_or (lines_from from n) i no_line) (2 + from + i) rest ≡ r
+      comes e = ap (λ l. due_number l (2 + from + i) rest) (line_from from n i h) ∙ e
 
-      pub line-missing : v ≡ Bad → FromRead from n file old ns (Refused (LineNotDue (2 + from + i)))
-      line-missing e = refuses g h (LineNotDue (2 + from + i)) (comes (not-due at (2 + from + i) rest v asked e))
+      pub line_missing : v ≡ Bad → FromRead from n file old ns (Refused (LineNotDue (2 + from + i)))
+      line_missing e = refuses g h (LineNotDue (2 + from + i)) (comes (not_due at (2 + from + i) rest v asked e))
 
       module _ {w : ℕ} (e : v ≡ Value w) {t : Bool} (tested : t ≡ (leb (get_or leasts (from + i) 0) w && leb w (get_or greatests (from + i) 0))) where
         test : (leb at.least w && leb w at.greatest) ≡ t
-        test = rw (← least_at (from + i), ← greatest-at (from + i)) (sym tested)
+        test = rw (← least_at (from + i), ← greatest_at (from + i)) (sym tested)
 
-        pub out-of-limits : t ≡ false → (d : Refusal) → FromRead from n file old ns (Refused (get_or refusals (from + i) d))
-        out-of-limits f d =
-            rw (refusal-at (from + i) (omega arith) d) (refuses g h at.refusal (comes (out at (2 + from + i) rest v asked w e (test ∙ f))))
+        pub out_of_limits : t ≡ false → (d : Refusal) → FromRead from n file old ns (Refused (get_or refusals (from + i) d))
+        out_of_limits f d =
+            rw (refusal_at (from + i) (omega arith) d) (refuses g h at.refusal (comes (out at (2 + from + i) rest v asked w e (test ∙ f))))
 
-        pub one_more : t ≡ true → {left : List ℕ} → left ≡ nextIn rest → FromGoing from n file old (set ns i w) left (i + 1)
+        pub one_more : t ≡ true → {left : List ℕ} → left ≡ next_in rest → FromGoing from n file old (set ns i w) left (i + 1)
         one_more f q = reads g h w (comes (within at (2 + from + i) rest v asked w e (test ∙ f))) q

@@ -1,6 +1,6 @@
 // The number lines of a launch file: one loop over a table of keys, limits and refusals.
 ghost use Rattle.std.specs.Prelude.{◌≡◌, ◌+◌, ◌≤◌, length};
-ghost use Rattle.numberlines.specs.Answered.{lineCount, lines_from, linesBehind, NumbersRead};
+ghost use Rattle.numberlines.specs.Answered.{line_count, lines_from, lines_behind, NumbersRead};
 
 use admission::Admission;
 use spec::Refusal;
@@ -45,7 +45,7 @@ const REFUSALS: [Refusal; COUNT] = [
 
 // Reads as many number lines as there is room for, from place `from` among all of them on, up to the first that is refused.
 pub fn read_numbers(file: &[u8], from: usize, numbers: &mut [u32]) -> Admission
-    requires { from + length numbers.old ≤ lineCount }
+    requires { from + length numbers.old ≤ line_count }
     ensures { NumbersRead (lines_from from (length numbers.old)) (2 + from) file.now numbers.old numbers.new result }
 {
     let n = numbers.len();
@@ -72,7 +72,7 @@ pub fn read_numbers(file: &[u8], from: usize, numbers: &mut [u32]) -> Admission
 
 // What is left of a file behind n lines.
 pub fn behind_lines<'a>(file: &'a [u8], n: usize) -> &'a [u8]
-    ensures { result.now ≡ linesBehind n file.now }
+    ensures { result.now ≡ lines_behind n file.now }
 {
     let mut rest = file;
     let mut i = 0;

@@ -1,6 +1,6 @@
 // The operand form of each op, looked up in one table of 256 entries.
 ghost use Rattle.std.specs.Prelude.{◌≡◌};
-ghost use Rattle.spec.specs.Op.{formOf, operandsFit};
+ghost use Rattle.spec.specs.Op.{form_of, operands_fit};
 ghost use Rattle.optable.specs.Forms.{meaning};
 
 // Which of the bytes d, a, b an op uses. An unknown op has a form of its own.
@@ -58,7 +58,7 @@ const FORMS: [u8; 256] = [
 ];
 
 pub fn form_of(op: u8) -> Form
-    ensures { meaning result ≡ formOf op }
+    ensures { meaning result ≡ form_of op }
 {
     let code = FORMS[op as usize];
     match code {
@@ -74,7 +74,7 @@ pub fn form_of(op: u8) -> Form
 
 // Registers are below 16, and bytes that the op does not use are 0.
 pub fn operands_fit(form: Form, d: u8, a: u8, b: u8) -> bool
-    ensures { result ≡ operandsFit (meaning form) d a b }
+    ensures { result ≡ operands_fit (meaning form) d a b }
 {
     match form {
         Form::SetForm => d < 16,

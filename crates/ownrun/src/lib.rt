@@ -1,6 +1,6 @@
 // An accepted launch, run on buffers of its own, and reported.
 ghost use Rattle.std.specs.Prelude.{◌≤◌, length};
-ghost use Rattle.spec.specs.Limits.{fileOutput};
+ghost use Rattle.spec.specs.Limits.{file_output};
 ghost use Rattle.filerun.specs.Launches.{CanRun};
 ghost use Rattle.ownrun.specs.OwnRuns.{OwnReport};
 
@@ -19,7 +19,7 @@ pub fn report_own(
     shared: &[u32],
     output: &mut [u8],
 ) -> usize
-    requires { CanRun table.now ends.now threads groups each limit common.now words.now shared.now × (fileOutput ≤ length output.old) }
+    requires { CanRun table.now ends.now threads groups each limit common.now words.now shared.now × (file_output ≤ length output.old) }
     ensures { OwnReport table.now threads groups each limit common.now words.now shared.now
         output.old result output.new }
 {

@@ -1,10 +1,10 @@
 // Two kernels over one table of common cells: the reports of both, from the bytes of the three files.
 ghost use Rattle.std.specs.Prelude.{◌≡◌, List, ◌++◌, ℕ, ◌≤◌, length, take};
-ghost use Rattle.spec.specs.Limits.{pairOutput};
-ghost use Rattle.spec.specs.Answers.{told, toldIn};
+ghost use Rattle.spec.specs.Limits.{pair_output};
+ghost use Rattle.spec.specs.Answers.{told, told_in};
 ghost use Rattle.spec.specs.Entries.{over};
 ghost use Rattle.spec.specs.Demands.{OfWritten};
-ghost use Rattle.spec.specs.PairFiles.{pairPrints, pairRefusal, pairAnswer, pairOutputAfter};
+ghost use Rattle.spec.specs.PairFiles.{pair_prints, pair_refusal, pair_answer, pair_output_after};
 ghost use Rattle.spec.specs.PairDemands.{PairDemand3};
 ghost use Rattle.pairfiles.specs.BothReports.{BothReported, CutShort};
 
@@ -12,7 +12,7 @@ use spec::{Refusal, Written};
 
 // The filter's report, and the trigger's from where it ends. Each kernel runs in memory of its own.
 fn report_both(filter: &[u8], trigger: &[u8], common: &[u8], output: &mut [u8]) -> usize
-    requires { pairOutput ≤ length output.old }
+    requires { pair_output ≤ length output.old }
     ensures { BothReported filter.now trigger.now common.now output.old result output.new }
 {
     let read = commonfile::read_common(common);
@@ -27,9 +27,9 @@ fn report_both(filter: &[u8], trigger: &[u8], common: &[u8], output: &mut [u8]) 
 // The entry for whoever has the three files' bytes. The output is 49,152 bytes or more; a shorter one is refused and left as it was lent. Of a common
 // file of 4,119 bytes or more no byte behind these is looked at, or would change anything.
 pub fn pair_files(filter: &[u8], trigger: &[u8], common: &[u8], output: &mut [u8]) -> Written
-    ensures answer { result ≡ pairAnswer filter.now trigger.now common.now output.old }
-    ensures refusal { toldIn result ≡ told (pairRefusal output.old) }
-    ensures output { output.new ≡ pairOutputAfter filter.now trigger.now common.now output.old }
+    ensures answer { result ≡ pair_answer filter.now trigger.now common.now output.old }
+    ensures refusal { told_in result ≡ told (pair_refusal output.old) }
+    ensures output { output.new ≡ pair_output_after filter.now trigger.now common.now output.old }
     ensures runs { OfWritten (PairDemand3 filter.now trigger.now common.now) result output.new }
     ensures enough { CutShort filter.now trigger.now common.now }
 {
@@ -41,8 +41,8 @@ pub fn pair_files(filter: &[u8], trigger: &[u8], common: &[u8], output: &mut [u8
 
 // What the program pair prints.
 pub fn report_pair(filter: &[u8], trigger: &[u8], common: &[u8], output: &mut [u8; 49152]) -> usize
-    ensures long { result ≡ length (pairPrints filter.now trigger.now common.now) }
-    ensures written { output.new ≡ over (pairPrints filter.now trigger.now common.now) output.old }
+    ensures long { result ≡ length (pair_prints filter.now trigger.now common.now) }
+    ensures written { output.new ≡ over (pair_prints filter.now trigger.now common.now) output.old }
     ensures fits { result ≤ length output.new }
     ensures runs { PairDemand3 filter.now trigger.now common.now (take result output.new) }
     ensures enough { CutShort filter.now trigger.now common.now }

@@ -1,12 +1,12 @@
 // Words put into the middle of a buffer: a part's log into the launch's.
 ghost use Rattle.std.specs.Prelude.{◌≡◌, ◌+◌, ◌*◌, ◌<◌, ◌≤◌, length, take, replicate};
-ghost use Rattle.layout.specs.Views.{putPart};
-ghost use Rattle.placing.specs.Kinds.{kindPlaced, kindsPlaced, KindsAsk};
+ghost use Rattle.layout.specs.Views.{put_part};
+ghost use Rattle.placing.specs.Kinds.{kind_placed, kinds_placed, KindsAsk};
 
 // The first n words, from place `at` on.
 pub fn place_first(words: &[u32], n: usize, at: usize, to: &mut [u32])
     requires { (n ≤ length words.now) × (at + n ≤ length to.old) }
-    ensures { to.new ≡ putPart at (take n words.now) to.old }
+    ensures { to.new ≡ put_part at (take n words.now) to.old }
 {
     let mut i = 0;
     while i < n {
@@ -18,7 +18,7 @@ pub fn place_first(words: &[u32], n: usize, at: usize, to: &mut [u32])
 // All of them.
 pub fn place(words: &[u32], at: usize, to: &mut [u32])
     requires { at + length words.now ≤ length to.old }
-    ensures { to.new ≡ putPart at words.now to.old }
+    ensures { to.new ≡ put_part at words.now to.old }
 {
     place_first(words, words.len(), at, to);
 }
@@ -35,7 +35,7 @@ fn place_kind(
 )
     requires { (j * k + k ≤ length words.now) × (at + k ≤ total) × ((first + j) * total + total ≤ length to.old)
         × (j < 8) × (first ≤ 8) × (total ≤ 1024) }
-    ensures { to.new ≡ kindPlaced first total at k j words.now to.old }
+    ensures { to.new ≡ kind_placed first total at k j words.now to.old }
 {
     let start = j * k;
     let end = start + k;
@@ -53,7 +53,7 @@ pub fn place_kinds(
     to: &mut [u32],
 )
     requires { KindsAsk kinds first k total at words.now to.old }
-    ensures { to.new ≡ kindsPlaced first total at k kinds words.now to.old }
+    ensures { to.new ≡ kinds_placed first total at k kinds words.now to.old }
 {
     let mut j = 0;
     while j < kinds {
@@ -76,7 +76,7 @@ pub fn zero(to: &mut [u32])
 // A group's counts of steps, behind those of the groups before it.
 pub fn copy_counts(counts: &[u32; 32], n: usize, at: usize, steps: &mut [u32; 256])
     requires { (n ≤ 32) × (at + n ≤ 256) }
-    ensures { steps.new ≡ putPart at (take n counts.now) steps.old }
+    ensures { steps.new ≡ put_part at (take n counts.now) steps.old }
 {
     place_first(counts, n, at, steps);
 }

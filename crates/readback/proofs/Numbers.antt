@@ -9,9 +9,9 @@ use native.Mathlib.Omega.{arith}
 use borrow.Author.Tests.{lt-ltb, le-leb, ne_eqb}
 use lib.Dec.{eqb}
 use Rattle.spec.specs.Lists.{every}
-use Rattle.spec.specs.Text.{digitsWithin, decimal, digitsValue, isDigit, is_number}
+use Rattle.spec.specs.Text.{digits_within, decimal, digits_value, is_digit, is_number}
 use Rattle.spec.specs.Reading.{number_in}
-use Rattle.reportlines.proofs.Decimal.{digits-one, digits_more}
+use Rattle.reportlines.proofs.Decimal.{digits_one, digits_more}
 
 pub every_append : {A : Type 0} (p : A → Bool) (xs ys : List A) → every p xs ≡ true → every p ys ≡ true → every p (xs ++ ys) ≡ true
 unfolding every
@@ -24,80 +24,80 @@ every_append p (x ∷ xs) ys e f = by (p x) e (every_append p xs ys)
 
 -- What holds of the ten digits holds of every byte of a number.
 module _ (p : ℕ → Bool) (digit : (d : ℕ) → d < 10 → p (48 + d) ≡ true) where
-  one-digit : (d : ℕ) → d < 10 → every p ((48 + d) ∷ []) ≡ true
+  one_digit : (d : ℕ) → d < 10 → every p ((48 + d) ∷ []) ≡ true
   unfolding every
-  one-digit d h = rw (digit d h)
+  one_digit d h = rw (digit d h)
 
-  digits_are : (k n : ℕ) → n ≤ k → every p (digitsWithin k n) ≡ true
-  digits_are zero n l = ap (every p) (digits-one zero n (omega arith)) ∙ one-digit n (omega arith)
+  digits_are : (k n : ℕ) → n ≤ k → every p (digits_within k n) ≡ true
+  digits_are zero n l = ap (every p) (digits_one zero n (omega arith)) ∙ one_digit n (omega arith)
   digits_are (suc k) n l = by (dec_lt n 10) (λ h. digits_are k (n / 10) (omega arith))
     where
-      by : Dec (n < 10) → (10 ≤ n → every p (digitsWithin k (n / 10)) ≡ true) → every p (digitsWithin (suc k) n) ≡ true
-      by (yes h) e = ap (every p) (digits-one (suc k) n h) ∙ one-digit n h
+      by : Dec (n < 10) → (10 ≤ n → every p (digits_within k (n / 10)) ≡ true) → every p (digits_within (suc k) n) ≡ true
+      by (yes h) e = ap (every p) (digits_one (suc k) n h) ∙ one_digit n h
       by (no h) e =
           ap (every p) (digits_more k n (omega arith))
-          ∙ every_append p (digitsWithin k (n / 10)) ((48 + n % 10) ∷ []) (e (omega arith)) (one-digit (n % 10) (omega arith))
+          ∙ every_append p (digits_within k (n / 10)) ((48 + n % 10) ∷ []) (e (omega arith)) (one_digit (n % 10) (omega arith))
 
   pub all_digits : (n : ℕ) → every p (decimal n) ≡ true
   unfolding decimal
   all_digits n = digits_are n n (omega arith)
 
 -- Its value.
-behind : (s d : ℕ) (xs : List ℕ) → digitsValue s (xs ++ (d ∷ [])) ≡ 10 * digitsValue s xs + (d - 48)
-unfolding digitsValue
+behind : (s d : ℕ) (xs : List ℕ) → digits_value s (xs ++ (d ∷ [])) ≡ 10 * digits_value s xs + (d - 48)
+unfolding digits_value
 behind s d [] = refl
 behind s d (x ∷ xs) = behind (10 * s + (x - 48)) d xs
 
-one_value : (n : ℕ) → digitsValue 0 ((48 + n) ∷ []) ≡ n
-unfolding digitsValue
+one_value : (n : ℕ) → digits_value 0 ((48 + n) ∷ []) ≡ n
+unfolding digits_value
 one_value n = omega arith
 
-value-within : (k n : ℕ) → digitsValue 0 (digitsWithin k n) ≡ n
-unfolding digitsWithin
-value-within zero n = one_value n
-value-within (suc k) n = by (dec_lt n 10) (value-within k (n / 10))
+value_within : (k n : ℕ) → digits_value 0 (digits_within k n) ≡ n
+unfolding digits_within
+value_within zero n = one_value n
+value_within (suc k) n = by (dec_lt n 10) (value_within k (n / 10))
   where
-    by : Dec (n < 10) → digitsValue 0 (digitsWithin k (n / 10)) ≡ n / 10 → digitsValue 0 (digitsWithin (suc k) n) ≡ n
-    by (yes h) e = ap (digitsValue 0) (digits-one (suc k) n h) ∙ one_value n
-    by (no h) e = ap (digitsValue 0) (digits_more k n (omega arith)) ∙ behind 0 (48 + n % 10) (digitsWithin k (n / 10)) ∙ omega (arith, e)
+    by : Dec (n < 10) → digits_value 0 (digits_within k (n / 10)) ≡ n / 10 → digits_value 0 (digits_within (suc k) n) ≡ n
+    by (yes h) e = ap (digits_value 0) (digits_one (suc k) n h) ∙ one_value n
+    by (no h) e = ap (digits_value 0) (digits_more k n (omega arith)) ∙ behind 0 (48 + n % 10) (digits_within k (n / 10)) ∙ omega (arith, e)
 
 -- Its first digit is 0 for 0 only.
 leads : List ℕ → Bool
 leads [] = false
 leads (b ∷ bs) = not (eqb b 48)
 
-leads-append : (xs ys : List ℕ) → leads xs ≡ true → leads (xs ++ ys) ≡ true
+leads_append : (xs ys : List ℕ) → leads xs ≡ true → leads (xs ++ ys) ≡ true
 unfolding leads
-leads-append [] ys e = absurd (false≢true e)
-leads-append (x ∷ xs) ys e = e
+leads_append [] ys e = absurd (false≢true e)
+leads_append (x ∷ xs) ys e = e
 
-one-leads : (n : ℕ) → 1 ≤ n → leads ((48 + n) ∷ []) ≡ true
+one_leads : (n : ℕ) → 1 ≤ n → leads ((48 + n) ∷ []) ≡ true
 unfolding leads
-one-leads n h = rw (ne_eqb (48 + n) 48 (λ e. omega arith))
+one_leads n h = rw (ne_eqb (48 + n) 48 (λ e. omega arith))
 
-digits-lead : (k n : ℕ) → n ≤ k → 1 ≤ n → leads (digitsWithin k n) ≡ true
-unfolding digitsWithin
-digits-lead zero n l h = one-leads n h
-digits-lead (suc k) n l h = by (dec_lt n 10) (λ m. digits-lead k (n / 10) (omega arith) (omega arith))
+digits_lead : (k n : ℕ) → n ≤ k → 1 ≤ n → leads (digits_within k n) ≡ true
+unfolding digits_within
+digits_lead zero n l h = one_leads n h
+digits_lead (suc k) n l h = by (dec_lt n 10) (λ m. digits_lead k (n / 10) (omega arith) (omega arith))
   where
-    by : Dec (n < 10) → (10 ≤ n → leads (digitsWithin k (n / 10)) ≡ true) → leads (digitsWithin (suc k) n) ≡ true
-    by (yes m) e = ap leads (digits-one (suc k) n m) ∙ one-leads n h
-    by (no m) e = ap leads (digits_more k n (omega arith)) ∙ leads-append (digitsWithin k (n / 10)) ((48 + n % 10) ∷ []) (e (omega arith))
+    by : Dec (n < 10) → (10 ≤ n → leads (digits_within k (n / 10)) ≡ true) → leads (digits_within (suc k) n) ≡ true
+    by (yes m) e = ap leads (digits_one (suc k) n m) ∙ one_leads n h
+    by (no m) e = ap leads (digits_more k n (omega arith)) ∙ leads_append (digits_within k (n / 10)) ((48 + n % 10) ∷ []) (e (omega arith))
 
-leading : (l : List ℕ) → every isDigit l ≡ true → leads l ≡ true → is_number l ≡ true
+leading : (l : List ℕ) → every is_digit l ≡ true → leads l ≡ true → is_number l ≡ true
 unfolding leads is_number
 leading [] e f = absurd (false≢true f)
 leading (b ∷ bs) e f = rw (e, f)
 
-digit-is : (d : ℕ) → d < 10 → isDigit (48 + d) ≡ true
-unfolding isDigit
-digit-is d h = rw (le-leb 48 (48 + d) (omega arith), lt-ltb (48 + d) 58 (omega arith))
+digit_is : (d : ℕ) → d < 10 → is_digit (48 + d) ≡ true
+unfolding is_digit
+digit_is d h = rw (le-leb 48 (48 + d) (omega arith), lt-ltb (48 + d) 58 (omega arith))
 
-is-number : (n : ℕ) → is_number (decimal n) ≡ true
-unfolding decimal is_number digitsWithin isDigit every
-is-number zero = refl
-is-number (suc n) = leading (digitsWithin (suc n) (suc n)) (all_digits isDigit digit-is (suc n)) (digits-lead (suc n) (suc n) (omega arith) (omega arith))
+is_number_lem : (n : ℕ) → is_number (decimal n) ≡ true
+unfolding decimal is_number digits_within is_digit every
+is_number_lem zero = refl
+is_number_lem (suc n) = leading (digits_within (suc n) (suc n)) (all_digits is_digit digit_is (suc n)) (digits_lead (suc n) (suc n) (omega arith) (omega arith))
 
-pub number-back : (n : ℕ) → number_in (decimal n) ≡ some n
+pub number_back : (n : ℕ) → number_in (decimal n) ≡ some n
 unfolding number_in decimal
-number-back n = rw (is-number n, value-within n n)
+number_back n = rw (is_number_lem n, value_within n n)

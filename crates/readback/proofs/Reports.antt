@@ -13,62 +13,62 @@ use Rattle.spec.specs.declared.Subject.TheVariants as subject
 use Rattle.spec.specs.declared.Value.TheVariants as value
 use Rattle.spec.specs.declared.Verdict.{Verdict}
 use Rattle.spec.specs.declared.Verdict.TheVariants.{Passed, Race, GroupRace, Outside, Common, Diverged, Spent}
-use Rattle.spec.specs.Lists.{any_of, every, equalList}
+use Rattle.spec.specs.Lists.{any_of, every, equal_list}
 use Rattle.spec.specs.Text.{text, decimal, equals}
-use Rattle.spec.specs.Report.{Line, ◌is◌, verdictText, valueText, bytes_of, headWith, headLines, intervalLines, eachLine, endLine, runLines, runReport}
-use Rattle.spec.specs.Report.{refusalLines, refusalReport, reportOf}
-use Rattle.spec.specs.Reading.{linesIn, is_line, hasLine, isFirst, beginsWith, number_in, numbersAt, EndsOnce, hasPassed, installs, Readable}
-use Rattle.spec.specs.Answers.{isPassed}
-use Rattle.readback.proofs.Numbers.{every_append, number-back}
-use Rattle.readback.proofs.Clean.{noNewline}
-use Rattle.readback.proofs.Back.{inKey, keyed, lineText, lines-back, saidBy, numbers-back}
-use Rattle.readback.proofs.Ends.{cut_off}
+use Rattle.spec.specs.Report.{Line, ◌is◌, verdict_text, value_text, bytes_of, head_with, head_lines, interval_lines, each_line, end_line, run_lines, run_report}
+use Rattle.spec.specs.Report.{refusal_lines, refusal_report, report_of}
+use Rattle.spec.specs.Reading.{lines_in, is_line, has_line, is_first, begins_with, number_in, numbers_at, EndsOnce, has_passed, installs, Readable}
+use Rattle.spec.specs.Answers.{is_passed}
+use Rattle.readback.proofs.Numbers.{every_append, number_back}
+use Rattle.readback.proofs.Clean.{no_newline}
+use Rattle.readback.proofs.Back.{in_key, keyed, line_text, lines_back, said_by, numbers_back}
+use Rattle.readback.proofs.Ends.{cut_off_lem}
 
 -- The lines of a run's report behind its head, up to the last: each key with its numbers, of which the keys about intervals have one each.
-abbrev keyNumbers : Outcome → (steps cells global : List ℕ) → List (String × List ℕ)
-keyNumbers o steps cells global = ("steps", steps) ∷ ("barriers", o.barriers ∷ []) ∷ ("conflicts", o.conflicts ∷ []) ∷ ("cell", cells) ∷ ("gcell", global) ∷ []
+abbrev key_numbers : Outcome → (steps cells global : List ℕ) → List (String × List ℕ)
+key_numbers o steps cells global = ("steps", steps) ∷ ("barriers", o.barriers ∷ []) ∷ ("conflicts", o.conflicts ∷ []) ∷ ("cell", cells) ∷ ("gcell", global) ∷ []
 
 -- Such lines, and then these.
 unfoldable lines_of : List (String × List ℕ) → List Line → List Line
 lines_of [] rest = rest
-lines_of (k ∷ ks) rest = eachLine (text k.0) k.1 ++ lines_of ks rest
+lines_of (k ∷ ks) rest = each_line (text k.0) k.1 ++ lines_of ks rest
 
-run-lines : (o : Outcome) (steps cells global : List ℕ) → runLines o steps cells global ≡ headLines o ++ lines_of (keyNumbers o steps cells global) (endLine ∷ [])
-unfolding runLines intervalLines eachLine ◌is◌ lines_of
-run-lines o steps cells global = refl
+run_lines_lem : (o : Outcome) (steps cells global : List ℕ) → run_lines o steps cells global ≡ head_lines o ++ lines_of (key_numbers o steps cells global) (end_line ∷ [])
+unfolding run_lines interval_lines each_line ◌is◌ lines_of
+run_lines_lem o steps cells global = refl
 
 -- The keys of reports are such that each line is read as it was written.
-head-keyed : (o : Outcome) → every keyed (headLines o) ≡ true
-unfolding every keyed inKey noNewline headLines headWith ◌is◌ text
-head-keyed o = refl
+head_keyed : (o : Outcome) → every keyed (head_lines o) ≡ true
+unfolding every keyed in_key no_newline head_lines head_with ◌is◌ text
+head_keyed o = refl
 
-end-keyed : every keyed (endLine ∷ []) ≡ true
-unfolding every keyed inKey noNewline endLine ◌is◌ text
-end-keyed = refl
+end_keyed : every keyed (end_line ∷ []) ≡ true
+unfolding every keyed in_key no_newline end_line ◌is◌ text
+end_keyed = refl
 
-each-keyed : (key : String) → every inKey (text key) ≡ true → (ns : List ℕ) (rest : List Line) → every keyed rest ≡ true
-    → every keyed (eachLine (text key) ns ++ rest) ≡ true
-unfolding every keyed eachLine
-each-keyed key k [] rest e = e
-each-keyed key k (n ∷ ns) rest e = rw k (each-keyed key k ns rest e)
+each_keyed : (key : String) → every in_key (text key) ≡ true → (ns : List ℕ) (rest : List Line) → every keyed rest ≡ true
+    → every keyed (each_line (text key) ns ++ rest) ≡ true
+unfolding every keyed each_line
+each_keyed key k [] rest e = e
+each_keyed key k (n ∷ ns) rest e = rw k (each_keyed key k ns rest e)
 
-all-keyed : (ks : List (String × List ℕ)) → every (λ k. every inKey (text k.0)) ks ≡ true → (rest : List Line) → every keyed rest ≡ true
+all_keyed : (ks : List (String × List ℕ)) → every (λ k. every in_key (text k.0)) ks ≡ true → (rest : List Line) → every keyed rest ≡ true
     → every keyed (lines_of ks rest) ≡ true
 unfolding every lines_of
-all-keyed [] h rest e = e
-all-keyed (k ∷ ks) h rest e =
-    let t = (and-eq-true_iff (every inKey (text k.0)) _).0 h in
-    each-keyed k.0 t.0 k.1 _ (all-keyed ks t.1 rest e)
+all_keyed [] h rest e = e
+all_keyed (k ∷ ks) h rest e =
+    let t = (and-eq-true_iff (every in_key (text k.0)) _).0 h in
+    each_keyed k.0 t.0 k.1 _ (all_keyed ks t.1 rest e)
 
-run-keyed : (o : Outcome) (steps cells global : List ℕ) → every keyed (runLines o steps cells global) ≡ true
-unfolding every inKey noNewline text
-run-keyed o steps cells global =
-    ap (every keyed) (run-lines o steps cells global)
-    ∙ every_append keyed (headLines o) _ (head-keyed o) (all-keyed (keyNumbers o steps cells global) refl _ end-keyed)
+run_keyed : (o : Outcome) (steps cells global : List ℕ) → every keyed (run_lines o steps cells global) ≡ true
+unfolding every in_key no_newline text
+run_keyed o steps cells global =
+    ap (every keyed) (run_lines_lem o steps cells global)
+    ∙ every_append keyed (head_lines o) _ (head_keyed o) (all_keyed (key_numbers o steps cells global) refl _ end_keyed)
 
-refusal-keyed : (number place : ℕ) → every keyed (refusalLines number place) ≡ true
-unfolding every keyed inKey noNewline refusalLines endLine ◌is◌ text
-refusal-keyed number place = refl
+refusal_keyed : (number place : ℕ) → every keyed (refusal_lines number place) ≡ true
+unfolding every keyed in_key no_newline refusal_lines end_line ◌is◌ text
+refusal_keyed number place = refl
 
 pub any_append : {A : Type 0} (p : A → Bool) (xs ys : List A) → any_of p (xs ++ ys) ≡ (any_of p xs || any_of p ys)
 unfolding any_of
@@ -81,221 +81,221 @@ any_append p (x ∷ xs) ys = by (p x) (any_append p xs ys)
 
 -- A test that no line with one of these keys and a number passes. Where the keys of a run's report are such, only the head and the last line can pass it.
 abbrev failing : (p : List ℕ → Bool) → (n : ℕ) → (key : String) → Bool
-failing p n key = not (p (lineText (key is value.Number n)))
+failing p n key = not (p (line_text (key is value.Number n)))
 
 abbrev NoNumber : (p : List ℕ → Bool) → List (String × List ℕ) → Type 0
 NoNumber p ks = (n : ℕ) → every (λ k. failing p n k.0) ks ≡ true
 
 module _ (p : List ℕ → Bool) where
-  each-fails : (key : String) → ((n : ℕ) → failing p n key ≡ true) → (ns : List ℕ) (rest : List Line)
-      → any_of p (map lineText (eachLine (text key) ns ++ rest)) ≡ any_of p (map lineText rest)
-  unfolding any_of eachLine ◌is◌
-  each-fails key fails [] rest = refl
-  each-fails key fails (n ∷ ns) rest = rw (not-true (p (lineText (key is value.Number n))) (fails n)) (each-fails key fails ns rest)
+  each_fails : (key : String) → ((n : ℕ) → failing p n key ≡ true) → (ns : List ℕ) (rest : List Line)
+      → any_of p (map line_text (each_line (text key) ns ++ rest)) ≡ any_of p (map line_text rest)
+  unfolding any_of each_line ◌is◌
+  each_fails key fails [] rest = refl
+  each_fails key fails (n ∷ ns) rest = rw (not-true (p (line_text (key is value.Number n))) (fails n)) (each_fails key fails ns rest)
 
-  all-fail : (ks : List (String × List ℕ)) → NoNumber p ks → (rest : List Line) → any_of p (map lineText (lines_of ks rest)) ≡ any_of p (map lineText rest)
+  all_fail : (ks : List (String × List ℕ)) → NoNumber p ks → (rest : List Line) → any_of p (map line_text (lines_of ks rest)) ≡ any_of p (map line_text rest)
   unfolding lines_of every
-  all-fail [] fails rest = refl
-  all-fail (k ∷ ks) fails rest =
-      each-fails k.0 (λ n. ((and-eq-true_iff (failing p n k.0) _).0 (fails n)).0) k.1 _
-      ∙ all-fail ks (λ n. ((and-eq-true_iff (failing p n k.0) _).0 (fails n)).1) rest
+  all_fail [] fails rest = refl
+  all_fail (k ∷ ks) fails rest =
+      each_fails k.0 (λ n. ((and-eq-true_iff (failing p n k.0) _).0 (fails n)).0) k.1 _
+      ∙ all_fail ks (λ n. ((and-eq-true_iff (failing p n k.0) _).0 (fails n)).1) rest
 
-  any-line : (o : Outcome) (ks : List (String × List ℕ)) → NoNumber p ks → (rest : List Line)
-      → any_of p (map lineText (headLines o ++ lines_of ks rest)) ≡ (any_of p (map lineText (headLines o)) || any_of p (map lineText rest))
-  any-line o ks fails rest =
-      ap (any_of p) (map-append lineText (headLines o) (lines_of ks rest)) ∙ any_append p (map lineText (headLines o)) _
-      ∙ ap (λ x. any_of p (map lineText (headLines o)) || x) (all-fail ks fails rest)
+  any_line : (o : Outcome) (ks : List (String × List ℕ)) → NoNumber p ks → (rest : List Line)
+      → any_of p (map line_text (head_lines o ++ lines_of ks rest)) ≡ (any_of p (map line_text (head_lines o)) || any_of p (map line_text rest))
+  any_line o ks fails rest =
+      ap (any_of p) (map-append line_text (head_lines o) (lines_of ks rest)) ∙ any_append p (map line_text (head_lines o)) _
+      ∙ ap (λ x. any_of p (map line_text (head_lines o)) || x) (all_fail ks fails rest)
 
 -- Lines that end in `end=report`, which is none of those before.
-ends-once : (ls : List Line) → every keyed (ls ++ (endLine ∷ [])) ≡ true → any_of (is_line "end=report") (map lineText ls) ≡ false
-    → EndsOnce (bytes_of (ls ++ (endLine ∷ [])))
-unfolding hasLine lineText endLine ◌is◌ valueText text
-ends-once ls e f =
+ends_once : (ls : List Line) → every keyed (ls ++ (end_line ∷ [])) ≡ true → any_of (is_line "end=report") (map line_text ls) ≡ false
+    → EndsOnce (bytes_of (ls ++ (end_line ∷ [])))
+unfolding has_line line_text end_line ◌is◌ value_text text
+ends_once ls e f =
     record {
-      before = map lineText ls;
-      last = lines-back (ls ++ (endLine ∷ [])) e ∙ map-append lineText ls (endLine ∷ []);
+      before = map line_text ls;
+      last = lines_back (ls ++ (end_line ∷ [])) e ∙ map-append line_text ls (end_line ∷ []);
       once = f;
-      whole = λ k h. cut_off (is_line "end=report") ls endLine e f k h;
+      whole = λ k h. cut_off_lem (is_line "end=report") ls end_line e f k h;
     }
 
-run_ends : (o : Outcome) (steps cells global : List ℕ) → EndsOnce (runReport o steps cells global)
-unfolding runReport any_of is_line equalList lineText headLines headWith ◌is◌ text lines_of every
-run_ends o steps cells global = rw (sym same) (ends-once front (ap (every keyed) same ∙ run-keyed o steps cells global) no_end)
+run_ends : (o : Outcome) (steps cells global : List ℕ) → EndsOnce (run_report o steps cells global)
+unfolding run_report any_of is_line equal_list line_text head_lines head_with ◌is◌ text lines_of every
+run_ends o steps cells global = rw (sym same) (ends_once front (ap (every keyed) same ∙ run_keyed o steps cells global) no_end)
   where
     front : List Line
-    front = headLines o ++ lines_of (keyNumbers o steps cells global) []
+    front = head_lines o ++ lines_of (key_numbers o steps cells global) []
 
-    same : front ++ (endLine ∷ []) ≡ runLines o steps cells global
-    same = simp append_assoc (sym (run-lines o steps cells global))
+    same : front ++ (end_line ∷ []) ≡ run_lines o steps cells global
+    same = simp append_assoc (sym (run_lines_lem o steps cells global))
 
-    no_end : any_of (is_line "end=report") (map lineText front) ≡ false
-    no_end = any-line (is_line "end=report") o (keyNumbers o steps cells global) (λ n. refl) []
+    no_end : any_of (is_line "end=report") (map line_text front) ≡ false
+    no_end = any_line (is_line "end=report") o (key_numbers o steps cells global) (λ n. refl) []
 
-refusal-ends : (number place : ℕ) → EndsOnce (refusalReport number place)
-unfolding refusalReport refusalLines any_of is_line equalList lineText ◌is◌ text
-refusal-ends number place = ends-once ("refused" is _ ∷ "place" is _ ∷ []) (refusal-keyed number place) refl
+refusal_ends : (number place : ℕ) → EndsOnce (refusal_report number place)
+unfolding refusal_report refusal_lines any_of is_line equal_list line_text ◌is◌ text
+refusal_ends number place = ends_once ("refused" is _ ∷ "place" is _ ∷ []) (refusal_keyed number place) refl
 
 -- The first line of a run's report says its verdict.
-run-read : (o : Outcome) (steps cells global : List ℕ) → linesIn (runReport o steps cells global) ≡ map lineText (runLines o steps cells global)
-unfolding runReport
-run-read o steps cells global = lines-back (runLines o steps cells global) (run-keyed o steps cells global)
+run_read : (o : Outcome) (steps cells global : List ℕ) → lines_in (run_report o steps cells global) ≡ map line_text (run_lines o steps cells global)
+unfolding run_report
+run_read o steps cells global = lines_back (run_lines o steps cells global) (run_keyed o steps cells global)
 
-refusal-read : (number place : ℕ) → linesIn (refusalReport number place) ≡ map lineText (refusalLines number place)
-unfolding refusalReport
-refusal-read number place = lines-back (refusalLines number place) (refusal-keyed number place)
+refusal_read : (number place : ℕ) → lines_in (refusal_report number place) ≡ map line_text (refusal_lines number place)
+unfolding refusal_report
+refusal_read number place = lines_back (refusal_lines number place) (refusal_keyed number place)
 
-unfoldable pub verdictLine : Verdict → List ℕ
-verdictLine v = text "verdict" ++ (equals ∷ verdictText v)
+unfoldable pub verdict_line : Verdict → List ℕ
+verdict_line v = text "verdict" ++ (equals ∷ verdict_text v)
 
-passed-line : (v : Verdict) → is_line "verdict=passed" (verdictLine v) ≡ isPassed v
-unfolding is_line equalList verdictLine verdictText isPassed text
-passed-line Passed = refl
-passed-line (Race thread other kind at) = refl
-passed-line (GroupRace thread group kind at) = refl
-passed-line (Outside thread at) = refl
-passed-line (Common thread at) = refl
-passed-line (Diverged thread other) = refl
-passed-line Spent = refl
+passed_line : (v : Verdict) → is_line "verdict=passed" (verdict_line v) ≡ is_passed v
+unfolding is_line equal_list verdict_line verdict_text is_passed text
+passed_line Passed = refl
+passed_line (Race thread other kind at) = refl
+passed_line (GroupRace thread group kind at) = refl
+passed_line (Outside thread at) = refl
+passed_line (Common thread at) = refl
+passed_line (Diverged thread other) = refl
+passed_line Spent = refl
 
-begins : (s : String) (o : Outcome) (steps cells global : List ℕ) → beginsWith s (runReport o steps cells global) ≡ is_line s (verdictLine o.verdict)
-unfolding beginsWith isFirst runLines headLines headWith lineText ◌is◌ valueText verdictLine
-begins s o steps cells global = ap (isFirst s) (run-read o steps cells global)
+begins : (s : String) (o : Outcome) (steps cells global : List ℕ) → begins_with s (run_report o steps cells global) ≡ is_line s (verdict_line o.verdict)
+unfolding begins_with is_first run_lines head_lines head_with line_text ◌is◌ value_text verdict_line
+begins s o steps cells global = ap (is_first s) (run_read o steps cells global)
 
-pub begins-passed : (o : Outcome) (steps cells global : List ℕ) → beginsWith "verdict=passed" (runReport o steps cells global) ≡ isPassed o.verdict
-begins-passed o steps cells global = begins "verdict=passed" o steps cells global ∙ passed-line o.verdict
+pub begins_passed : (o : Outcome) (steps cells global : List ℕ) → begins_with "verdict=passed" (run_report o steps cells global) ≡ is_passed o.verdict
+begins_passed o steps cells global = begins "verdict=passed" o steps cells global ∙ passed_line o.verdict
 
-or-none : (b : Bool) → (b || false) ≡ b
-or-none true = refl
-or-none false = refl
+or_none : (b : Bool) → (b || false) ≡ b
+or_none true = refl
+or_none false = refl
 
 -- `verdict=passed` stands nowhere else.
-anywhere : (o : Outcome) (steps cells global : List ℕ) → hasLine "verdict=passed" (runReport o steps cells global) ≡ isPassed o.verdict
-unfolding hasLine headLines headWith endLine ◌is◌ any_of is_line equalList lineText valueText verdictLine text every
+anywhere : (o : Outcome) (steps cells global : List ℕ) → has_line "verdict=passed" (run_report o steps cells global) ≡ is_passed o.verdict
+unfolding has_line head_lines head_with end_line ◌is◌ any_of is_line equal_list line_text value_text verdict_line text every
 anywhere o steps cells global =
-    ap (any_of (is_line "verdict=passed")) (run-read o steps cells global ∙ ap (map lineText) (run-lines o steps cells global))
-    ∙ any-line (is_line "verdict=passed") o (keyNumbers o steps cells global) (λ n. refl) (endLine ∷ [])
-    ∙ or-none _ ∙ or-none _ ∙ passed-line o.verdict
+    ap (any_of (is_line "verdict=passed")) (run_read o steps cells global ∙ ap (map line_text) (run_lines_lem o steps cells global))
+    ∙ any_line (is_line "verdict=passed") o (key_numbers o steps cells global) (λ n. refl) (end_line ∷ [])
+    ∙ or_none _ ∙ or_none _ ∙ passed_line o.verdict
 
 -- A loader's decision, by where `end=report` stands.
-has_end : (report : List ℕ) → EndsOnce report → hasLine "end=report" report ≡ true
-unfolding hasLine any_of is_line equalList text
+has_end : (report : List ℕ) → EndsOnce report → has_line "end=report" report ≡ true
+unfolding has_line any_of is_line equal_list text
 has_end report e =
     ap (any_of (is_line "end=report")) e.last ∙ any_append (is_line "end=report") e.before (text "end=report" ∷ [])
     ∙ ap (λ b. b || true) e.once
 
-read_by : (what : Subject) (report : List ℕ) → EndsOnce report → beginsWith "verdict=passed" report ≡ hasPassed what
-    → hasLine "verdict=passed" report ≡ hasPassed what → Readable what report
+read_by : (what : Subject) (report : List ℕ) → EndsOnce report → begins_with "verdict=passed" report ≡ has_passed what
+    → has_line "verdict=passed" report ≡ has_passed what → Readable what report
 unfolding installs
 read_by what report e b a =
     record {
       ends = e;
       begins = b;
       anywhere = a;
-      decides = ap₂ ◌&&◌ b (has_end report e) ∙ and-true (hasPassed what);
-      cutOff = λ k h. ap (λ (x : Bool). beginsWith "verdict=passed" (take k report) && x) (e.whole k h) ∙ and-false (beginsWith "verdict=passed" (take k report));
+      decides = ap₂ ◌&&◌ b (has_end report e) ∙ and-true (has_passed what);
+      cut_off = λ k h. ap (λ (x : Bool). begins_with "verdict=passed" (take k report) && x) (e.whole k h) ∙ and-false (begins_with "verdict=passed" (take k report));
     }
 
-pub readable : (what : Subject) (steps cells global : List ℕ) → Readable what (reportOf what steps cells global)
-unfolding reportOf hasPassed hasLine beginsWith isFirst refusalLines endLine any_of is_line equalList lineText ◌is◌ text
+pub readable : (what : Subject) (steps cells global : List ℕ) → Readable what (report_of what steps cells global)
+unfolding report_of has_passed has_line begins_with is_first refusal_lines end_line any_of is_line equal_list line_text ◌is◌ text
 readable (subject.Ran o) steps cells global =
-    read_by (subject.Ran o) (runReport o steps cells global) (run_ends o steps cells global) (begins-passed o steps cells global) (anywhere o steps cells global)
+    read_by (subject.Ran o) (run_report o steps cells global) (run_ends o steps cells global) (begins_passed o steps cells global) (anywhere o steps cells global)
 readable (subject.Refused number place) steps cells global =
-    read_by (subject.Refused number place) (refusalReport number place) (refusal-ends number place)
-    (ap (isFirst "verdict=passed") (refusal-read number place)) (ap (any_of (is_line "verdict=passed")) (refusal-read number place))
+    read_by (subject.Refused number place) (refusal_report number place) (refusal_ends number place)
+    (ap (is_first "verdict=passed") (refusal_read number place)) (ap (any_of (is_line "verdict=passed")) (refusal_read number place))
 
 -- A verdict by the line that says it.
-pub only-passed : (v : Verdict) → isPassed v ≡ true → v ≡ Passed
-unfolding isPassed
-only-passed Passed e = refl
-only-passed (Race thread other kind at) e = absurd (false≢true e)
-only-passed (GroupRace thread group kind at) e = absurd (false≢true e)
-only-passed (Outside thread at) e = absurd (false≢true e)
-only-passed (Common thread at) e = absurd (false≢true e)
-only-passed (Diverged thread other) e = absurd (false≢true e)
-only-passed Spent e = absurd (false≢true e)
+pub only_passed : (v : Verdict) → is_passed v ≡ true → v ≡ Passed
+unfolding is_passed
+only_passed Passed e = refl
+only_passed (Race thread other kind at) e = absurd (false≢true e)
+only_passed (GroupRace thread group kind at) e = absurd (false≢true e)
+only_passed (Outside thread at) e = absurd (false≢true e)
+only_passed (Common thread at) e = absurd (false≢true e)
+only_passed (Diverged thread other) e = absurd (false≢true e)
+only_passed Spent e = absurd (false≢true e)
 
-pub is-passed : (v : Verdict) → v ≡ Passed → isPassed v ≡ true
-unfolding isPassed
-is-passed v e = ap isPassed e
+pub is_passed_lem : (v : Verdict) → v ≡ Passed → is_passed v ≡ true
+unfolding is_passed
+is_passed_lem v e = ap is_passed e
 
-spent-line : (v : Verdict) → is_line "verdict=spent" (verdictLine v) ≡ true → v ≡ Spent
-unfolding is_line equalList verdictLine verdictText text
-spent-line Passed e = absurd (false≢true e)
-spent-line (Race thread other kind at) e = absurd (false≢true e)
-spent-line (GroupRace thread group kind at) e = absurd (false≢true e)
-spent-line (Outside thread at) e = absurd (false≢true e)
-spent-line (Common thread at) e = absurd (false≢true e)
-spent-line (Diverged thread other) e = absurd (false≢true e)
-spent-line Spent e = refl
+spent_line : (v : Verdict) → is_line "verdict=spent" (verdict_line v) ≡ true → v ≡ Spent
+unfolding is_line equal_list verdict_line verdict_text text
+spent_line Passed e = absurd (false≢true e)
+spent_line (Race thread other kind at) e = absurd (false≢true e)
+spent_line (GroupRace thread group kind at) e = absurd (false≢true e)
+spent_line (Outside thread at) e = absurd (false≢true e)
+spent_line (Common thread at) e = absurd (false≢true e)
+spent_line (Diverged thread other) e = absurd (false≢true e)
+spent_line Spent e = refl
 
-pub begins-spent : (o : Outcome) (steps cells global : List ℕ) → beginsWith "verdict=spent" (runReport o steps cells global) ≡ true → o.verdict ≡ Spent
-begins-spent o steps cells global e = spent-line o.verdict (sym (begins "verdict=spent" o steps cells global) ∙ e)
+pub begins_spent : (o : Outcome) (steps cells global : List ℕ) → begins_with "verdict=spent" (run_report o steps cells global) ≡ true → o.verdict ≡ Spent
+begins_spent o steps cells global e = spent_line o.verdict (sym (begins "verdict=spent" o steps cells global) ∙ e)
 
-pub spent-begins : (o : Outcome) (steps cells global : List ℕ) → o.verdict ≡ Spent → beginsWith "verdict=spent" (runReport o steps cells global) ≡ true
-unfolding is_line equalList verdictLine verdictText text
-spent-begins o steps cells global e = begins "verdict=spent" o steps cells global ∙ ap (λ v. is_line "verdict=spent" (verdictLine v)) e
+pub spent_begins : (o : Outcome) (steps cells global : List ℕ) → o.verdict ≡ Spent → begins_with "verdict=spent" (run_report o steps cells global) ≡ true
+unfolding is_line equal_list verdict_line verdict_text text
+spent_begins o steps cells global e = begins "verdict=spent" o steps cells global ∙ ap (λ v. is_line "verdict=spent" (verdict_line v)) e
 
 -- The numbers on the lines of a run's report.
-each-said : (key own : String) (ns : List ℕ) (rest : List Line)
-    → saidBy key (eachLine (text own) ns ++ rest) ≡ cond (equalList (text own) (text key)) (map some ns) [] ++ saidBy key rest
-unfolding saidBy eachLine valueText
-each-said key own [] rest = by (equalList (text own) (text key))
+each_said : (key own : String) (ns : List ℕ) (rest : List Line)
+    → said_by key (each_line (text own) ns ++ rest) ≡ cond (equal_list (text own) (text key)) (map some ns) [] ++ said_by key rest
+unfolding said_by each_line value_text
+each_said key own [] rest = by (equal_list (text own) (text key))
   where
-    by : (b : Bool) → saidBy key rest ≡ cond b [] [] ++ saidBy key rest
+    by : (b : Bool) → said_by key rest ≡ cond b [] [] ++ said_by key rest
     by true = refl
     by false = refl
-each-said key own (n ∷ ns) rest = by (equalList (text own) (text key)) (each-said key own ns rest)
+each_said key own (n ∷ ns) rest = by (equal_list (text own) (text key)) (each_said key own ns rest)
   where
     more : List (Option ℕ)
-    more = saidBy key (eachLine (text own) ns ++ rest)
+    more = said_by key (each_line (text own) ns ++ rest)
 
-    by : (b : Bool) → more ≡ cond b (map some ns) [] ++ saidBy key rest
-        → cond b (number_in (decimal n) ∷ []) [] ++ more ≡ cond b (some n ∷ map some ns) [] ++ saidBy key rest
-    by true e = ap₂ (λ (x : Option ℕ) (xs : List (Option ℕ)). x ∷ xs) (number-back n) e
+    by : (b : Bool) → more ≡ cond b (map some ns) [] ++ said_by key rest
+        → cond b (number_in (decimal n) ∷ []) [] ++ more ≡ cond b (some n ∷ map some ns) [] ++ said_by key rest
+    by true e = ap₂ (λ (x : Option ℕ) (xs : List (Option ℕ)). x ∷ xs) (number_back n) e
     by false e = e
 
 -- All that such lines say under a key, and then these.
-unfoldable saidUnder : String → List (String × List ℕ) → List (Option ℕ) → List (Option ℕ)
-saidUnder key [] rest = rest
-saidUnder key (k ∷ ks) rest = cond (equalList (text k.0) (text key)) (map some k.1) [] ++ saidUnder key ks rest
+unfoldable said_under : String → List (String × List ℕ) → List (Option ℕ) → List (Option ℕ)
+said_under key [] rest = rest
+said_under key (k ∷ ks) rest = cond (equal_list (text k.0) (text key)) (map some k.1) [] ++ said_under key ks rest
 
-all_said : (key : String) (ks : List (String × List ℕ)) (rest : List Line) → saidBy key (lines_of ks rest) ≡ saidUnder key ks (saidBy key rest)
-unfolding lines_of saidUnder
+all_said : (key : String) (ks : List (String × List ℕ)) (rest : List Line) → said_by key (lines_of ks rest) ≡ said_under key ks (said_by key rest)
+unfolding lines_of said_under
 all_said key [] rest = refl
 all_said key (k ∷ ks) rest =
-    each-said key k.0 k.1 _ ∙ ap (λ xs. cond (equalList (text k.0) (text key)) (map some k.1) [] ++ xs) (all_said key ks rest)
+    each_said key k.0 k.1 _ ∙ ap (λ xs. cond (equal_list (text k.0) (text key)) (map some k.1) [] ++ xs) (all_said key ks rest)
 
 module _ (key : String) (o : Outcome) (steps cells global : List ℕ) where
-  behind-said : saidBy key (lines_of (keyNumbers o steps cells global) (endLine ∷ [])) ≡ saidUnder key (keyNumbers o steps cells global) (saidBy key (endLine ∷ []))
-  behind-said = all_said key (keyNumbers o steps cells global) (endLine ∷ [])
+  behind_said : said_by key (lines_of (key_numbers o steps cells global) (end_line ∷ [])) ≡ said_under key (key_numbers o steps cells global) (said_by key (end_line ∷ []))
+  behind_said = all_said key (key_numbers o steps cells global) (end_line ∷ [])
 
-  said_in : numbersAt key (runReport o steps cells global) ≡ saidBy key (headLines o ++ lines_of (keyNumbers o steps cells global) (endLine ∷ []))
-  unfolding runReport
-  said_in = numbers-back key (runLines o steps cells global) (run-keyed o steps cells global) ∙ ap (saidBy key) (run-lines o steps cells global)
+  said_in : numbers_at key (run_report o steps cells global) ≡ said_by key (head_lines o ++ lines_of (key_numbers o steps cells global) (end_line ∷ []))
+  unfolding run_report
+  said_in = numbers_back key (run_lines o steps cells global) (run_keyed o steps cells global) ∙ ap (said_by key) (run_lines_lem o steps cells global)
 
 module _ (o : Outcome) (steps cells global : List ℕ) where
-  pub rows-read : numbersAt "rows" (runReport o steps cells global) ≡ some o.rows ∷ []
-  unfolding headLines headWith endLine saidBy saidUnder ◌is◌ equalList text valueText
-  rows-read =
+  pub rows_read : numbers_at "rows" (run_report o steps cells global) ≡ some o.rows ∷ []
+  unfolding head_lines head_with end_line said_by said_under ◌is◌ equal_list text value_text
+  rows_read =
       said_in "rows" o steps cells global
-      ∙ ap₂ (λ (x : Option ℕ) (xs : List (Option ℕ)). x ∷ xs) (number-back o.rows) (behind-said "rows" o steps cells global)
+      ∙ ap₂ (λ (x : Option ℕ) (xs : List (Option ℕ)). x ∷ xs) (number_back o.rows) (behind_said "rows" o steps cells global)
 
-  pub steps-read : numbersAt "steps" (runReport o steps cells global) ≡ map some steps
-  unfolding headLines headWith endLine saidBy saidUnder ◌is◌ equalList text valueText
-  steps-read = said_in "steps" o steps cells global ∙ behind-said "steps" o steps cells global ∙ append-nil (map some steps)
+  pub steps_read : numbers_at "steps" (run_report o steps cells global) ≡ map some steps
+  unfolding head_lines head_with end_line said_by said_under ◌is◌ equal_list text value_text
+  steps_read = said_in "steps" o steps cells global ∙ behind_said "steps" o steps cells global ∙ append-nil (map some steps)
 
-  pub barriers-read : numbersAt "barriers" (runReport o steps cells global) ≡ some o.barriers ∷ []
-  unfolding headLines headWith endLine saidBy saidUnder ◌is◌ equalList text valueText
-  barriers-read = said_in "barriers" o steps cells global ∙ behind-said "barriers" o steps cells global
+  pub barriers_read : numbers_at "barriers" (run_report o steps cells global) ≡ some o.barriers ∷ []
+  unfolding head_lines head_with end_line said_by said_under ◌is◌ equal_list text value_text
+  barriers_read = said_in "barriers" o steps cells global ∙ behind_said "barriers" o steps cells global
 
-  pub conflicts-read : numbersAt "conflicts" (runReport o steps cells global) ≡ some o.conflicts ∷ []
-  unfolding headLines headWith endLine saidBy saidUnder ◌is◌ equalList text valueText
-  conflicts-read = said_in "conflicts" o steps cells global ∙ behind-said "conflicts" o steps cells global
+  pub conflicts_read : numbers_at "conflicts" (run_report o steps cells global) ≡ some o.conflicts ∷ []
+  unfolding head_lines head_with end_line said_by said_under ◌is◌ equal_list text value_text
+  conflicts_read = said_in "conflicts" o steps cells global ∙ behind_said "conflicts" o steps cells global
 
-  pub cells-read : numbersAt "cell" (runReport o steps cells global) ≡ map some cells
-  unfolding headLines headWith endLine saidBy saidUnder ◌is◌ equalList text valueText
-  cells-read = said_in "cell" o steps cells global ∙ behind-said "cell" o steps cells global ∙ append-nil (map some cells)
+  pub cells_read : numbers_at "cell" (run_report o steps cells global) ≡ map some cells
+  unfolding head_lines head_with end_line said_by said_under ◌is◌ equal_list text value_text
+  cells_read = said_in "cell" o steps cells global ∙ behind_said "cell" o steps cells global ∙ append-nil (map some cells)
 
-  pub global-read : numbersAt "gcell" (runReport o steps cells global) ≡ map some global
-  unfolding headLines headWith endLine saidBy saidUnder ◌is◌ equalList text valueText
-  global-read = said_in "gcell" o steps cells global ∙ behind-said "gcell" o steps cells global ∙ append-nil (map some global)
+  pub global_read : numbers_at "gcell" (run_report o steps cells global) ≡ map some global
+  unfolding head_lines head_with end_line said_by said_under ◌is◌ equal_list text value_text
+  global_read = said_in "gcell" o steps cells global ∙ behind_said "gcell" o steps cells global ∙ append-nil (map some global)

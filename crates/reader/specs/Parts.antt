@@ -4,10 +4,10 @@ use Rattle.std.proofs.Math.Option.{Option, none, some}
 use Rattle.spec.specs.declared.Refusal.{Refusal}
 use Rattle.spec.specs.declared.Refusal.TheVariants.{UnknownOp, BadOperand, Misplaced, LeftOpen}
 use Rattle.spec.specs.Answers.{unless, or_else}
-use Rattle.spec.specs.Op.{form, operandsFit}
+use Rattle.spec.specs.Op.{form, operands_fit}
 use Rattle.spec.specs.Table.{Row, Table, rows_of, row_at, scan, end_of}
-use Rattle.spec.specs.TableCheck.{Open, isKnown, rowsRefusal}
-use Rattle.reader.specs.Answer.{ifLoop}
+use Rattle.spec.specs.TableCheck.{Open, is_known, rows_refusal}
+use Rattle.reader.specs.Answer.{if_loop}
 use Rattle.reader.specs.declared.Reach.{Reach}
 use Rattle.reader.specs.declared.Reach.TheVariants.{To, Refused}
 
@@ -16,8 +16,8 @@ abbrev pub IsTable : List ℕ → Type 0
 IsTable t = (length t % 4 ≡ 0) × (length t ≤ 4 * 256)
 
 -- 3 and 4, which a row has by itself.
-unfoldable pub ownRefusal : ℕ → Row → Option Refusal
-ownRefusal r x = or_else (unless (isKnown x.op) (UnknownOp r)) (unless (operandsFit (form x.op) x.d x.a x.b) (BadOperand r))
+unfoldable pub own_refusal : ℕ → Row → Option Refusal
+own_refusal r x = or_else (unless (is_known x.op) (UnknownOp r)) (unless (operands_fit (form x.op) x.d x.a x.b) (BadOperand r))
 
 -- The byte of an IF or a WHILE, and of a row that ends a body.
 abbrev pub Opens : ℕ → Type 0
@@ -27,25 +27,25 @@ abbrev pub Ends : ℕ → Type 0
 Ends b = ((b ≡ 33) ⊎ (b ≡ 36)) ⊎ (b ≡ 34)
 
 -- The first refusal of the rows from a on, and the row that closes the construct that is k levels out there.
-abbrev pub refusalFrom : Table → ℕ → List Open → Option Refusal
-refusalFrom T a os = rowsRefusal (drop a T) a os
+abbrev pub refusal_from : Table → ℕ → List Open → Option Refusal
+refusal_from T a os = rows_refusal (drop a T) a os
 
-abbrev pub endFrom : Table → ℕ → ℕ → ℕ
-endFrom T a k = scan false (drop a T) k a
+abbrev pub end_from : Table → ℕ → ℕ → ℕ
+end_from T a k = scan false (drop a T) k a
 
 -- Where d constructs are open, the rows from a up to b are not refused, and close what they open.
 pub record Passes (T : Table) (d a b : ℕ) : Type 0 where
-  pub refusals : (os : List Open) → length os ≡ d → refusalFrom T a os ≡ refusalFrom T b os
-  pub levels : (k : ℕ) → endFrom T a k ≡ endFrom T b k
+  pub refusals : (os : List Open) → length os ≡ d → refusal_from T a os ≡ refusal_from T b os
+  pub levels : (k : ℕ) → end_from T a k ≡ end_from T b k
 
 -- The rows from a on are refused.
 abbrev pub Fails : Table → ℕ → ℕ → Refusal → Type 0
-Fails T d a why = (os : List Open) → length os ≡ d → refusalFrom T a os ≡ some why
+Fails T d a why = (os : List Open) → length os ≡ d → refusal_from T a os ≡ some why
 
 -- The ends of the loops among the rows from a up to b are noted, and all other entries are kept.
 pub record Notes (T : Table) (a b : ℕ) (before after : List ℕ) : Type 0 where
   pub size : length after ≡ length before
-  pub inside : (i : ℕ) → a ≤ i → i < b → get_or after i 0 ≡ ifLoop (row_at T i).op (end_of T i) (get_or before i 0)
+  pub inside : (i : ℕ) → a ≤ i → i < b → get_or after i 0 ≡ if_loop (row_at T i).op (end_of T i) (get_or before i 0)
   pub above : (i : ℕ) → i < a → get_or after i 0 ≡ get_or before i 0
   pub below : (i : ℕ) → b ≤ i → get_or after i 0 ≡ get_or before i 0
 
@@ -59,7 +59,7 @@ pub record Span (t : List ℕ) (d a b : ℕ) (before after : List ℕ) : Type 0 
 -- Row b ends a body, and has no refusal of its own.
 pub record Stops (t : List ℕ) (b : ℕ) : Type 0 where
   pub byte : Ends (get_or t (b * 4) 0)
-  pub own : ownRefusal b (row_at (rows_of t) b) ≡ none
+  pub own : own_refusal b (row_at (rows_of t) b) ≡ none
 
 -- The rows from a up to b are a body, which ends at row b or at the table's end.
 pub record Body (t : List ℕ) (d a b : ℕ) (before after : List ℕ) : Type 0 where

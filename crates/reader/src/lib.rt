@@ -1,11 +1,11 @@
 // Reads a table by recursive descent: its first refusal, or where each of its loops ends.
 ghost use Rattle.std.specs.Prelude.{◌≡◌, ◌&&◌, ℕ, ◌*◌, ◌%◌, ◌<◌, ◌≤◌, eqb, ltb, length, get_or, replicate};
 ghost use Rattle.std.proofs.Math.Option.{none};
-ghost use Rattle.admission.specs.Refusing.{refusalOf};
+ghost use Rattle.admission.specs.Refusing.{refusal_of};
 ghost use Rattle.spec.specs.Table.{rows_of, row_at};
-ghost use Rattle.spec.specs.TableCheck.{tableRefusal};
+ghost use Rattle.spec.specs.TableCheck.{table_refusal};
 ghost use Rattle.reader.specs.Answer.{end_at};
-ghost use Rattle.reader.specs.Parts.{IsTable, ownRefusal, Opens, ClosesIs, BodyIs, ConstructIs};
+ghost use Rattle.reader.specs.Parts.{IsTable, own_refusal, Opens, ClosesIs, BodyIs, ConstructIs};
 
 use admission::Admission;
 use optable::Form;
@@ -38,7 +38,7 @@ enum Reach {
 // Refusals 3 and 4, for which a row is looked at by itself.
 fn row_fits(table: &[u8], row: usize) -> Admission
     requires { (IsTable table.now) × (row * 4 < length table.now) }
-    ensures { refusalOf result ≡ ownRefusal row (row_at (rows_of table.now) row) }
+    ensures { refusal_of result ≡ own_refusal row (row_at (rows_of table.now) row) }
 {
     let at = row * 4;
     let form = optable::form_of(table[at]);
@@ -107,7 +107,7 @@ fn body(table: &[u8], from: usize, depth: usize, ends: &mut [u8; 256]) -> Reach
 #[cycle(body_construct)]
 fn construct(table: &[u8], row: usize, depth: usize, ends: &mut [u8; 256]) -> Reach
     requires { (IsTable table.now) × (row * 4 < length table.now) × (depth ≤ 8) × (Opens (get_or table.now (row * 4) 0))
-        × (ownRefusal row (row_at (rows_of table.now) row) ≡ none) × (length ends.old ≡ 256) }
+        × (own_refusal row (row_at (rows_of table.now) row) ≡ none) × (length ends.old ≡ 256) }
     ensures { ConstructIs table.now depth row ends.old ends.new result }
 {
     if depth == 8 {
@@ -147,7 +147,7 @@ fn refused(why: Refusal) -> Read
 // The caller has tested the length.
 pub fn read_table(table: &[u8]) -> Read
     requires { (length table.now % 4 ≡ 0) × (length table.now ≤ 4 * 256) }
-    ensures answer { refusalOf result.answer ≡ tableRefusal (rows_of table.now) }
+    ensures answer { refusal_of result.answer ≡ table_refusal (rows_of table.now) }
     ensures ends { (i : ℕ) → i < 256 → get_or result.ends i 0 ≡ end_at (rows_of table.now) i }
 {
     let mut ends = [0u8; 256];

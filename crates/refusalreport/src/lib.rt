@@ -1,7 +1,7 @@
 // The report of a refusal.
 ghost use Rattle.std.specs.Prelude.{◌≡◌, ◌≤◌, length};
-ghost use Rattle.spec.specs.Answers.{refusalNumber, refusalPlace};
-ghost use Rattle.spec.specs.Report.{refusalReport};
+ghost use Rattle.spec.specs.Answers.{refusal_number, refusal_place};
+ghost use Rattle.spec.specs.Report.{refusal_report};
 ghost use Rattle.spec.specs.Entries.{over};
 
 use spec::{Refusal, Subject, Written};
@@ -9,8 +9,8 @@ use spec::{Refusal, Subject, Written};
 // Its number and its place, written at the start of an output that has room for any report.
 pub fn report_refusal(why: Refusal, output: &mut [u8]) -> usize
     requires { 24576 ≤ length output.old }
-    ensures long { result ≡ length (refusalReport (refusalNumber why) (refusalPlace why)) }
-    ensures written { output.new ≡ over (refusalReport (refusalNumber why) (refusalPlace why)) output.old }
+    ensures long { result ≡ length (refusal_report (refusal_number why) (refusal_place why)) }
+    ensures written { output.new ≡ over (refusal_report (refusal_number why) (refusal_place why)) output.old }
     ensures fits { result ≤ 24576 }
 {
     let told = refusals::words(why);

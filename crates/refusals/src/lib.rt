@@ -1,11 +1,11 @@
 // The number and the place by which document 01 names a refusal.
 ghost use Rattle.std.specs.Prelude.{◌≡◌};
-ghost use Rattle.refusals.specs.Words.{refusalWords};
+ghost use Rattle.refusals.specs.Words.{refusal_words};
 
 use spec::Refusal;
 
 pub fn words(why: Refusal) -> [u32; 2]
-    ensures { result ≡ refusalWords why }
+    ensures { result ≡ refusal_words why }
 {
     match why {
         Refusal::TableLength => [1, 0],

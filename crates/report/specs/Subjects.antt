@@ -4,9 +4,9 @@ use Rattle.std.proofs.Math.Option.{none}
 use Rattle.spec.specs.declared.Outcome.{Outcome}
 use Rattle.spec.specs.declared.Subject.{Subject}
 use Rattle.spec.specs.declared.Subject.TheVariants as subject
-use Rattle.spec.specs.Limits.{fileOutput}
-use Rattle.spec.specs.Report.{reportOf}
-use Rattle.spec.specs.Entries.{linesReported}
+use Rattle.spec.specs.Limits.{file_output}
+use Rattle.spec.specs.Report.{report_of}
+use Rattle.spec.specs.Entries.{lines_reported}
 
 abbrev pub ran : Outcome → Subject
 ran = subject.Ran
@@ -16,4 +16,4 @@ refused = subject.Refused
 
 -- A report that is not turned back by 23 fits into the output that the whole-file entry asks for.
 abbrev pub FitsOutput : Subject → (steps cells global : List ℕ) → Type 0
-FitsOutput what steps cells global = linesReported what steps cells global ≡ none → length (reportOf what steps cells global) ≤ fileOutput
+FitsOutput what steps cells global = lines_reported what steps cells global ≡ none → length (report_of what steps cells global) ≤ file_output

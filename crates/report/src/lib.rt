@@ -1,9 +1,9 @@
 // The report writer: the length that is needed first, then line after line, each behind the last one.
 ghost use Rattle.std.specs.Prelude.{◌≡◌, [], ◌+◌, ◌≤◌, length};
-ghost use Rattle.spec.specs.Report.{runReport};
-ghost use Rattle.spec.specs.Answers.{told, toldIn};
+ghost use Rattle.spec.specs.Report.{run_report};
+ghost use Rattle.spec.specs.Answers.{told, told_in};
 ghost use Rattle.spec.specs.Reading.{Readable};
-ghost use Rattle.spec.specs.Entries.{over, writerRefusal, writerAnswer, writerBuffer};
+ghost use Rattle.spec.specs.Entries.{over, writer_refusal, writer_answer, writer_buffer};
 ghost use Rattle.spec.specs.Demands.{OfWritten};
 ghost use Rattle.report.specs.Subjects.{ran, refused, FitsOutput};
 
@@ -12,7 +12,7 @@ use spec::{Outcome, Refusal, Subject, Written};
 // The length of a run's report, which a buffer of 24,576 bytes always holds.
 fn run_length(outcome: Outcome, steps: &[u32], cells: &[u32], global: &[u32]) -> usize
     requires { (length steps.now ≤ 256) × (length cells.now + length global.now ≤ 1024) }
-    ensures { (result ≡ length (runReport outcome steps.now cells.now global.now)) × (result ≤ 24576) }
+    ensures { (result ≡ length (run_report outcome steps.now cells.now global.now)) × (result ≤ 24576) }
 {
     let values = reportvalues::run_values(outcome);
     reporttable::lines_length(values, 0, reporttable::HEAD)
@@ -31,9 +31,9 @@ fn write_run(
     global: &[u32],
     out: &mut [u8],
 ) -> usize
-    requires { length (runReport outcome steps.now cells.now global.now) ≤ length out.old }
-    ensures long { result ≡ length (runReport outcome steps.now cells.now global.now) }
-    ensures written { out.new ≡ over (runReport outcome steps.now cells.now global.now) out.old }
+    requires { length (run_report outcome steps.now cells.now global.now) ≤ length out.old }
+    ensures long { result ≡ length (run_report outcome steps.now cells.now global.now) }
+    ensures written { out.new ≡ over (run_report outcome steps.now cells.now global.now) out.old }
 {
     let values = reportvalues::run_values(outcome);
     let headed = reporttable::lines_at(values, 0, reporttable::HEAD, out, 0);
@@ -51,8 +51,8 @@ fn report_run(
     global: &[u32],
     out: &mut [u8],
 ) -> Written
-    ensures answer { result ≡ writerAnswer (ran outcome) steps.now cells.now global.now out.old }
-    ensures buffer { out.new ≡ writerBuffer (ran outcome) steps.now cells.now global.now out.old }
+    ensures answer { result ≡ writer_answer (ran outcome) steps.now cells.now global.now out.old }
+    ensures buffer { out.new ≡ writer_buffer (ran outcome) steps.now cells.now global.now out.old }
     ensures fits { FitsOutput (ran outcome) steps.now cells.now global.now }
 {
     if steps.len() < 1 {
@@ -78,8 +78,8 @@ fn report_run(
 
 // A refusal's report has no steps and no cells.
 fn report_refusal(number: u32, place: u32, out: &mut [u8]) -> Written
-    ensures answer { result ≡ writerAnswer (refused number place) [] [] [] out.old }
-    ensures buffer { out.new ≡ writerBuffer (refused number place) [] [] [] out.old }
+    ensures answer { result ≡ writer_answer (refused number place) [] [] [] out.old }
+    ensures buffer { out.new ≡ writer_buffer (refused number place) [] [] [] out.old }
     ensures fits { FitsOutput (refused number place) [] [] [] }
 {
     let values = reportvalues::refusal_values(number, place);
@@ -99,10 +99,10 @@ pub fn write_report(
     global: &[u32],
     out: &mut [u8],
 ) -> Written
-    ensures answer { result ≡ writerAnswer what steps.now cells.now global.now out.old }
-    ensures buffer { out.new ≡ writerBuffer what steps.now cells.now global.now out.old }
+    ensures answer { result ≡ writer_answer what steps.now cells.now global.now out.old }
+    ensures buffer { out.new ≡ writer_buffer what steps.now cells.now global.now out.old }
     ensures fits { FitsOutput what steps.now cells.now global.now }
-    ensures refusal { toldIn result ≡ told (writerRefusal what steps.now cells.now global.now out.old) }
+    ensures refusal { told_in result ≡ told (writer_refusal what steps.now cells.now global.now out.old) }
     ensures reads { OfWritten (Readable what) result out.new }
 {
     match what {

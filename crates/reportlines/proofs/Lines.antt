@@ -4,12 +4,12 @@ use mathlib.Core.List.{List, [], ◌∷◌, ◌++◌, append_assoc}
 use Prim.Native.Nat.{ℕ, ◌+◌}
 use native.Mathlib.Omega.{arith}
 use lib.ListN.{length, length-append}
-use Rattle.spec.specs.Report.{keyLine}
+use Rattle.spec.specs.Report.{key_line}
 
-pub parts : (key value : List ℕ) → ((key ++ (61 ∷ [])) ++ value) ++ (10 ∷ []) ≡ keyLine key value
-unfolding keyLine
+pub parts : (key value : List ℕ) → ((key ++ (61 ∷ [])) ++ value) ++ (10 ∷ []) ≡ key_line key value
+unfolding key_line
 parts key value = simp append_assoc
 
-pub line-size : (key value : List ℕ) → length (keyLine key value) ≡ length key + length value + 2
-unfolding keyLine
-line-size key value = simp length-append (omega (arith, length-append value (10 ∷ [])))
+pub line_size : (key value : List ℕ) → length (key_line key value) ≡ length key + length value + 2
+unfolding key_line
+line_size key value = simp length-append (omega (arith, length-append value (10 ∷ [])))

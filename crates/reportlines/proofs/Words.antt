@@ -7,7 +7,7 @@ use lib.ListN.{length, get_or}
 use Rattle.spec.specs.Lists.{every}
 use Rattle.spec.specs.Text.{text, decimal}
 use Rattle.spec.specs.Entries.{over}
-use Rattle.stringtable.proofs.Strings.{joined, startsFrom, IsPart, string-at, isWithin, at_most}
+use Rattle.stringtable.proofs.Strings.{joined, starts_from, IsPart, string_at, is_within, at_most}
 use Rattle.reportlines.specs.Words.{words, IsWord, Spells}
 use Rattle.reportlines.specs.declared.Spelling.{Spelling}
 use Rattle.reportlines.specs.declared.Spelling.TheVariants.{Word, Digits}
@@ -18,14 +18,14 @@ unfolding words joined text
 word_bytes = joined words
 
 unfoldable pub starts : List ℕ
-unfolding words startsFrom text
-starts = startsFrom 0 words
+unfolding words starts_from text
+starts = starts_from 0 words
 
-pub as-word : {r : Spelling} {i : ℕ} {w : List ℕ} → r ≡ Word i → Spells r w → IsWord i w
-as-word {w = w} e s = subst (λ r. Spells r w) e s
+pub as_word : {r : Spelling} {i : ℕ} {w : List ℕ} → r ≡ Word i → Spells r w → IsWord i w
+as_word {w = w} e s = subst (λ r. Spells r w) e s
 
-pub as-digits : {r : Spelling} {n : ℕ} {w : List ℕ} → r ≡ Digits n → Spells r w → decimal n ≡ w
-as-digits {w = w} e s = subst (λ r. Spells r w) e s
+pub as_digits : {r : Spelling} {n : ℕ} {w : List ℕ} → r ≡ Digits n → Spells r w → decimal n ≡ w
+as_digits {w = w} e s = subst (λ r. Spells r w) e s
 
 pub few_words : {i : ℕ} {w : List ℕ} → IsWord i w → i < 15
 unfolding words
@@ -33,14 +33,14 @@ few_words d = d.listed
 
 pub word_at : {i : ℕ} {w : List ℕ} → IsWord i w → IsPart word_bytes (get_or starts i 0) (get_or starts (i + 1) 0) w
 unfolding word_bytes starts
-word_at {i} d = rw (← d.word) (string-at words i d.listed)
+word_at {i} d = rw (← d.word) (string_at words i d.listed)
 
-all_short : every (isWithin 10) words ≡ true
-unfolding every isWithin words text
+all_short : every (is_within 10) words ≡ true
+unfolding every is_within words text
 all_short = refl
 
-pub word-short : {i : ℕ} {w : List ℕ} → IsWord i w → length w ≤ 10
-word-short {i} d = subst (λ v. length v ≤ 10) d.word (at_most 10 words i all_short)
+pub word_short : {i : ℕ} {w : List ℕ} → IsWord i w → length w ≤ 10
+word_short {i} d = subst (λ v. length v ≤ 10) d.word (at_most 10 words i all_short)
 
 -- What holds of a text that was written holds of a text that is equal to it.
 pub room_for : {v w : List ℕ} {n : ℕ} → v ≡ w → length w ≤ n → length v ≤ n

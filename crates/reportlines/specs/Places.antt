@@ -2,5 +2,5 @@
 use Rattle.std.specs.Prelude.{List, ◌++◌, ℕ, take}
 use Rattle.spec.specs.Entries.{over}
 
-unfoldable pub overFrom : ℕ → List ℕ → List ℕ → List ℕ
-overFrom at w buffer = over (take at buffer ++ w) buffer
+unfoldable pub over_from : ℕ → List ℕ → List ℕ → List ℕ
+over_from at w buffer = over (take at buffer ++ w) buffer

@@ -8,20 +8,20 @@ use native.Mathlib.Omega.{arith}
 use lib.ListN.{length, get_or, take, length-append}
 use lib.Seq.{length-take-le}
 use Rattle.spec.specs.Text.{decimal}
-use Rattle.spec.specs.Report.{Line, valueText, keyLine, lineBytes, bytes_of, eachLine}
-use Rattle.reportlines.specs.Places.{overFrom}
-use Rattle.reportlines.proofs.Lines.{line-size}
+use Rattle.spec.specs.Report.{Line, value_text, key_line, line_bytes, bytes_of, each_line}
+use Rattle.reportlines.specs.Places.{over_from}
+use Rattle.reportlines.proofs.Lines.{line_size}
 use Rattle.reportlines.proofs.Writing.{Stands, itself, next, same_size}
-use Rattle.reporttable.specs.Numbered.{lines_from, numberLine}
+use Rattle.reporttable.specs.Numbered.{lines_from, number_line}
 
-pub bytes-append : (xs ys : List Line) → bytes_of (xs ++ ys) ≡ bytes_of xs ++ bytes_of ys
+pub bytes_append : (xs ys : List Line) → bytes_of (xs ++ ys) ≡ bytes_of xs ++ bytes_of ys
 unfolding bytes_of
-bytes-append [] ys = refl
-bytes-append (x ∷ xs) ys = ap (λ (l : List ℕ). lineBytes x ++ l) (bytes-append xs ys) ∙ sym (append_assoc (lineBytes x) (bytes_of xs) (bytes_of ys))
+bytes_append [] ys = refl
+bytes_append (x ∷ xs) ys = ap (λ (l : List ℕ). line_bytes x ++ l) (bytes_append xs ys) ∙ sym (append_assoc (line_bytes x) (bytes_of xs) (bytes_of ys))
 
-bytes_one : (l : Line) → bytes_of (l ∷ []) ≡ lineBytes l
+bytes_one : (l : Line) → bytes_of (l ∷ []) ≡ line_bytes l
 unfolding bytes_of
-bytes_one l = append-nil (lineBytes l)
+bytes_one l = append-nil (line_bytes l)
 
 module _ (f : ℕ → Line) where
   joined : (from n k : ℕ) → lines_from f from (n + k) ≡ lines_from f from n ++ lines_from f (from + n) k
@@ -34,22 +34,22 @@ module _ (f : ℕ → Line) where
   sizes : (from n k : ℕ) → length (bytes_of (lines_from f from (n + k))) ≡ length (bytes_of (lines_from f from n)) + length (bytes_of (lines_from f (from + n) k))
   sizes from n k =
       ap (λ (ls : List Line). length (bytes_of ls)) (joined from n k)
-      ∙ ap length (bytes-append (lines_from f from n) (lines_from f (from + n) k))
+      ∙ ap length (bytes_append (lines_from f from n) (lines_from f (from + n) k))
       ∙ length-append (bytes_of (lines_from f from n)) (bytes_of (lines_from f (from + n) k))
 
-  bytes-more : (from n : ℕ) → bytes_of (lines_from f from (n + 1)) ≡ bytes_of (lines_from f from n) ++ lineBytes (f (from + n))
+  bytes_more : (from n : ℕ) → bytes_of (lines_from f from (n + 1)) ≡ bytes_of (lines_from f from n) ++ line_bytes (f (from + n))
   unfolding lines_from
-  bytes-more from n =
-      ap bytes_of (joined from n 1) ∙ bytes-append (lines_from f from n) (f (from + n) ∷ [])
+  bytes_more from n =
+      ap bytes_of (joined from n 1) ∙ bytes_append (lines_from f from n) (f (from + n) ∷ [])
       ∙ ap (λ (l : List ℕ). bytes_of (lines_from f from n) ++ l) (bytes_one (f (from + n)))
 
-  pub size-more : (from n : ℕ) → length (bytes_of (lines_from f from (n + 1))) ≡ length (bytes_of (lines_from f from n)) + length (lineBytes (f (from + n)))
-  size-more from n = ap length (bytes-more from n) ∙ length-append (bytes_of (lines_from f from n)) (lineBytes (f (from + n)))
+  pub size_more : (from n : ℕ) → length (bytes_of (lines_from f from (n + 1))) ≡ length (bytes_of (lines_from f from n)) + length (line_bytes (f (from + n)))
+  size_more from n = ap length (bytes_more from n) ∙ length-append (bytes_of (lines_from f from n)) (line_bytes (f (from + n)))
 
-  fits : (from j n : ℕ) → j < n → length (bytes_of (lines_from f from j)) + length (lineBytes (f (from + j))) ≤ length (bytes_of (lines_from f from n))
+  fits : (from j n : ℕ) → j < n → length (bytes_of (lines_from f from j)) + length (line_bytes (f (from + j))) ≤ length (bytes_of (lines_from f from n))
   fits from j n h =
       let all : j + 1 + (n - (j + 1)) ≡ n = omega arith in
-      omega (arith, size-more from j, sizes from (j + 1) (n - (j + 1)), ap (λ (m : ℕ). length (bytes_of (lines_from f from m))) all)
+      omega (arith, size_more from j, sizes from (j + 1) (n - (j + 1)), ap (λ (m : ℕ). length (bytes_of (lines_from f from m))) all)
 
   -- The first j lines have been written from place `at` on to a buffer that held xs, and end before `end`.
   abbrev pub Written : (at from j : ℕ) (xs l : List ℕ) (end : ℕ) → Type 0
@@ -59,30 +59,30 @@ module _ (f : ℕ → Line) where
   unfolding lines_from bytes_of
   none_written at from xs h = rw (append-nil (take at xs)) (itself xs at h)
 
-  written-size : (at from j : ℕ) (xs : List ℕ) {l : List ℕ} {end : ℕ} → at ≤ length xs → Written at from j xs l end
+  written_size : (at from j : ℕ) (xs : List ℕ) {l : List ℕ} {end : ℕ} → at ≤ length xs → Written at from j xs l end
       → end ≡ at + length (bytes_of (lines_from f from j))
-  written-size at from j xs h s =
+  written_size at from j xs h s =
       s.ended ∙ length-append (take at xs) (bytes_of (lines_from f from j)) ∙ ap (λ (k : ℕ). k + length (bytes_of (lines_from f from j))) (length-take-le at xs h)
 
-  pub all-written : (at from j n : ℕ) (xs : List ℕ) {l : List ℕ} {end : ℕ} → at ≤ length xs → j ≡ n → Written at from j xs l end
-      → (end ≡ at + length (bytes_of (lines_from f from n))) × (l ≡ overFrom at (bytes_of (lines_from f from n)) xs)
-  unfolding overFrom
-  all-written at from j n xs h e s = rw (← e) (written-size at from j xs h s, s.bytes)
+  pub all_written : (at from j n : ℕ) (xs : List ℕ) {l : List ℕ} {end : ℕ} → at ≤ length xs → j ≡ n → Written at from j xs l end
+      → (end ≡ at + length (bytes_of (lines_from f from n))) × (l ≡ over_from at (bytes_of (lines_from f from n)) xs)
+  unfolding over_from
+  all_written at from j n xs h e s = rw (← e) (written_size at from j xs h s, s.bytes)
 
   module _ (at from j n : ℕ) (xs : List ℕ) (room : at + length (bytes_of (lines_from f from n)) ≤ length xs) (h : j < n) {l : List ℕ} {end : ℕ}
       (s : Written at from j xs l end) where
     ended : end ≡ at + length (bytes_of (lines_from f from j))
-    ended = written-size at from j xs (omega arith) s
+    ended = written_size at from j xs (omega arith) s
 
     -- There is room for line j, whose bytes are w.
-    pub line-room : (w : List ℕ) → w ≡ lineBytes (f (from + j)) → end + length w ≤ length l
-    line-room w e = omega (arith, ended, fits from j n h, same_size s, ap length e)
+    pub line_room : (w : List ℕ) → w ≡ line_bytes (f (from + j)) → end + length w ≤ length l
+    line_room w e = omega (arith, ended, fits from j n h, same_size s, ap length e)
 
-    pub line-more : (w l' : List ℕ) {r : ℕ} → w ≡ lineBytes (f (from + j)) → r ≡ end + length w → l' ≡ overFrom end w l → Written at from (j + 1) xs l' r
-    line-more w l' {r} e er el =
+    pub line_more : (w l' : List ℕ) {r : ℕ} → w ≡ line_bytes (f (from + j)) → r ≡ end + length w → l' ≡ over_from end w l → Written at from (j + 1) xs l' r
+    line_more w l' {r} e er el =
         let more : (take at xs ++ bytes_of (lines_from f from j)) ++ w ≡ take at xs ++ bytes_of (lines_from f from (j + 1)) =
         append_assoc (take at xs) (bytes_of (lines_from f from j)) w
-        ∙ ap (λ (b : List ℕ). take at xs ++ b) (ap (λ (v : List ℕ). bytes_of (lines_from f from j) ++ v) e ∙ sym (bytes-more from j)) in
+        ∙ ap (λ (b : List ℕ). take at xs ++ b) (ap (λ (v : List ℕ). bytes_of (lines_from f from j) ++ v) e ∙ sym (bytes_more from j)) in
         rw (← more) (next w l' s (omega (arith, ended, fits from j n h, ap length e)) er el)
 
 -- One line for each number, by the numbers' places.
@@ -91,18 +91,18 @@ unfolding lines_from
 shifted f from zero = refl
 shifted f from (suc n) = ap (λ (ls : List Line). f (suc from) ∷ ls) (shifted f (suc from) n)
 
-pub each-numbered : (key ns : List ℕ) → eachLine key ns ≡ lines_from (numberLine key ns) 0 (length ns)
-unfolding eachLine lines_from numberLine
-each-numbered key [] = refl
-each-numbered key (n ∷ ns) =
-    ap (λ (ls : List Line). numberLine key (n ∷ ns) 0 ∷ ls) (each-numbered key ns ∙ sym (shifted (numberLine key (n ∷ ns)) 0 (length ns)))
+pub each_numbered : (key ns : List ℕ) → each_line key ns ≡ lines_from (number_line key ns) 0 (length ns)
+unfolding each_line lines_from number_line
+each_numbered key [] = refl
+each_numbered key (n ∷ ns) =
+    ap (λ (ls : List Line). number_line key (n ∷ ns) 0 ∷ ls) (each_numbered key ns ∙ sym (shifted (number_line key (n ∷ ns)) 0 (length ns)))
 
-pub line-by-number : (key ns : List ℕ) (i : ℕ) → keyLine key (decimal (get_or ns i 0)) ≡ lineBytes (numberLine key ns (0 + i))
-unfolding lineBytes numberLine valueText
-line-by-number key ns i = rw (let e : 0 + i ≡ i = omega arith in e)
+pub line_by_number : (key ns : List ℕ) (i : ℕ) → key_line key (decimal (get_or ns i 0)) ≡ line_bytes (number_line key ns (0 + i))
+unfolding line_bytes number_line value_text
+line_by_number key ns i = rw (let e : 0 + i ≡ i = omega arith in e)
 
-pub size-by-number : (key ns : List ℕ) (i : ℕ) → length key + length (decimal (get_or ns i 0)) + 2 ≡ length (lineBytes (numberLine key ns (0 + i)))
-size-by-number key ns i = sym (line-size key (decimal (get_or ns i 0))) ∙ ap length (line-by-number key ns i)
+pub size_by_number : (key ns : List ℕ) (i : ℕ) → length key + length (decimal (get_or ns i 0)) + 2 ≡ length (line_bytes (number_line key ns (0 + i)))
+size_by_number key ns i = sym (line_size key (decimal (get_or ns i 0))) ∙ ap length (line_by_number key ns i)
 
 -- The bound with one number more, and at most 32 bytes a number.
 pub one_more : (k i : ℕ) {total n : ℕ} → total ≤ (k + 12) * i → n ≤ k + 12 → total + n ≤ (k + 12) * (i + 1)

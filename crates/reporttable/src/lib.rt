@@ -1,8 +1,8 @@
 // Lines of a report in one loop each: those of the table of keys, by their number; and one line for each number of a slice.
 ghost use Rattle.std.specs.Prelude.{◌≡◌, ◌+◌, ◌*◌, ◌≤◌, length};
-ghost use Rattle.spec.specs.Report.{bytes_of, eachLine};
-ghost use Rattle.reportlines.specs.Places.{overFrom};
-ghost use Rattle.reporttable.specs.Numbered.{keyCount, tableLines};
+ghost use Rattle.spec.specs.Report.{bytes_of, each_line};
+ghost use Rattle.reportlines.specs.Places.{over_from};
+ghost use Rattle.reporttable.specs.Numbered.{key_count, table_lines};
 
 use spec::Value;
 
@@ -28,8 +28,8 @@ const STARTS: [usize; 15] = [0, 7, 10, 15, 25, 31, 36, 40, 42, 46, 54, 63, 70, 7
 
 // The length of n lines of the table.
 pub fn lines_length(values: [Value; COUNT], from: usize, n: usize) -> usize
-    requires { from + n ≤ keyCount }
-    ensures { (result ≡ length (bytes_of (tableLines values from n))) × (result ≤ 32 * n) }
+    requires { from + n ≤ key_count }
+    ensures { (result ≡ length (bytes_of (table_lines values from n))) × (result ≤ 32 * n) }
 {
     let mut total = 0;
     let mut j = 0;
@@ -44,9 +44,9 @@ pub fn lines_length(values: [Value; COUNT], from: usize, n: usize) -> usize
 
 // Writes n lines of the table from place `at` on, and answers the place behind them.
 pub fn lines_at(values: [Value; COUNT], from: usize, n: usize, out: &mut [u8], at: usize) -> usize
-    requires { (from + n ≤ keyCount) × (at + length (bytes_of (tableLines values from n)) ≤ length out.old) }
-    ensures next { result ≡ at + length (bytes_of (tableLines values from n)) }
-    ensures written { out.new ≡ overFrom at (bytes_of (tableLines values from n)) out.old }
+    requires { (from + n ≤ key_count) × (at + length (bytes_of (table_lines values from n)) ≤ length out.old) }
+    ensures next { result ≡ at + length (bytes_of (table_lines values from n)) }
+    ensures written { out.new ≡ over_from at (bytes_of (table_lines values from n)) out.old }
 {
     let mut end = at;
     let mut j = 0;
@@ -63,7 +63,7 @@ pub fn lines_at(values: [Value; COUNT], from: usize, n: usize, out: &mut [u8], a
 // The length of one line for each number.
 pub fn each_length(key: &[u8], numbers: &[u32]) -> usize
     requires { (length key.now ≤ 20) × (length numbers.now ≤ 1024) }
-    ensures { (result ≡ length (bytes_of (eachLine key.now numbers.now))) × (result ≤ (length key.now + 12) * length numbers.now) }
+    ensures { (result ≡ length (bytes_of (each_line key.now numbers.now))) × (result ≤ (length key.now + 12) * length numbers.now) }
 {
     let mut total = 0;
     let mut i = 0;
@@ -76,9 +76,9 @@ pub fn each_length(key: &[u8], numbers: &[u32]) -> usize
 
 // Writes one line for each number from place `at` on, and answers the place behind them.
 pub fn each_at(key: &[u8], numbers: &[u32], out: &mut [u8], at: usize) -> usize
-    requires { at + length (bytes_of (eachLine key.now numbers.now)) ≤ length out.old }
-    ensures next { result ≡ at + length (bytes_of (eachLine key.now numbers.now)) }
-    ensures written { out.new ≡ overFrom at (bytes_of (eachLine key.now numbers.now)) out.old }
+    requires { at + length (bytes_of (each_line key.now numbers.now)) ≤ length out.old }
+    ensures next { result ≡ at + length (bytes_of (each_line key.now numbers.now)) }
+    ensures written { out.new ≡ over_from at (bytes_of (each_line key.now numbers.now)) out.old }
 {
     let mut end = at;
     let mut i = 0;

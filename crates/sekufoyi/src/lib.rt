@@ -2,14 +2,14 @@
 ghost use Rattle.std.specs.Prelude.{◌≡◌, []};
 ghost use Rattle.spec.specs.declared.Subject.TheVariants.{Ran, Refused};
 ghost use Rattle.spec.specs.Shape.{sizes};
-ghost use Rattle.spec.specs.Entries.{bareAnswer, bareCells, bareGlobal, bareLog, bareRecords, bareSteps, writerAnswer, writerBuffer};
-ghost use Rattle.spec.specs.Entries.{fileAnswer, fileCellsAfter, fileGlobalAfter, fileLogAfter, fileRecordsAfter, fileOutputAfter};
+ghost use Rattle.spec.specs.Entries.{bare_answer, bare_cells, bare_global, bare_log, bare_records, bare_steps, writer_answer, writer_buffer};
+ghost use Rattle.spec.specs.Entries.{file_answer, file_cells_after, file_global_after, file_log_after, file_records_after, file_output_after};
 ghost use Rattle.spec.specs.Reading.{Readable};
 ghost use Rattle.spec.specs.Demands.{ReportDemand3, FileReadable, OfLength};
-ghost use Rattle.spec.specs.PairFiles.{pairAnswer, pairOutputAfter};
+ghost use Rattle.spec.specs.PairFiles.{pair_answer, pair_output_after};
 ghost use Rattle.spec.specs.PairDemands.{PairDemand3};
 ghost use Rattle.pairfiles.specs.BothReports.{CutShort};
-ghost use Rattle.answerwords.specs.Codes.{lengthIn, refusalIn, ranIn, outcomeIn, whyIn, outcomeFrom, RanDemand3};
+ghost use Rattle.answerwords.specs.Codes.{length_in, refusal_in, ran_in, outcome_in, why_in, outcome_from, RanDemand3};
 
 use spec::{Answer, Subject};
 
@@ -23,19 +23,19 @@ pub extern "C" fn sekufoyi_check_file(
     output: &mut [u8],
     refusal: &mut [u32; 2],
 ) -> usize
-    ensures answer { result ≡ lengthIn (fileAnswer file.now
+    ensures answer { result ≡ length_in (file_answer file.now
         cells.old global.old log.old records.old output.old) }
-    ensures refusal { refusal.new ≡ refusalIn (fileAnswer file.now
+    ensures refusal { refusal.new ≡ refusal_in (file_answer file.now
         cells.old global.old log.old records.old output.old) }
-    ensures cells { cells.new ≡ fileCellsAfter file.now
+    ensures cells { cells.new ≡ file_cells_after file.now
         cells.old global.old log.old records.old output.old }
-    ensures global { global.new ≡ fileGlobalAfter file.now
+    ensures global { global.new ≡ file_global_after file.now
         cells.old global.old log.old records.old output.old }
-    ensures log { log.new ≡ fileLogAfter file.now
+    ensures log { log.new ≡ file_log_after file.now
         cells.old global.old log.old records.old output.old }
-    ensures records { records.new ≡ fileRecordsAfter file.now
+    ensures records { records.new ≡ file_records_after file.now
         cells.old global.old log.old records.old output.old }
-    ensures output { output.new ≡ fileOutputAfter file.now
+    ensures output { output.new ≡ file_output_after file.now
         cells.old global.old log.old records.old output.old }
     ensures reads { OfLength (FileReadable file.now) result output.new }
     ensures runs { OfLength (ReportDemand3 file.now) result output.new }
@@ -52,9 +52,9 @@ pub extern "C" fn sekufoyi_pair_files(
     output: &mut [u8],
     refusal: &mut [u32; 2],
 ) -> usize
-    ensures answer { result ≡ lengthIn (pairAnswer filter.now trigger.now common.now output.old) }
-    ensures refusal { refusal.new ≡ refusalIn (pairAnswer filter.now trigger.now common.now output.old) }
-    ensures output { output.new ≡ pairOutputAfter filter.now trigger.now common.now output.old }
+    ensures answer { result ≡ length_in (pair_answer filter.now trigger.now common.now output.old) }
+    ensures refusal { refusal.new ≡ refusal_in (pair_answer filter.now trigger.now common.now output.old) }
+    ensures output { output.new ≡ pair_output_after filter.now trigger.now common.now output.old }
     ensures runs { OfLength (PairDemand3 filter.now trigger.now common.now) result output.new }
     ensures enough { CutShort filter.now trigger.now common.now }
 {
@@ -78,21 +78,21 @@ pub extern "C" fn sekufoyi_bare_launch(
     outcome: &mut [u32; 11],
     refusal: &mut [u32; 2],
 ) -> bool
-    ensures ran { result ≡ ranIn (bareAnswer table.now (sizes threads count groups shared) limit
+    ensures ran { result ≡ ran_in (bare_answer table.now (sizes threads count groups shared) limit
         cells.old global.old log.old records.old) }
-    ensures outcome { outcome.new ≡ outcomeIn (bareAnswer table.now (sizes threads count groups shared) limit
+    ensures outcome { outcome.new ≡ outcome_in (bare_answer table.now (sizes threads count groups shared) limit
         cells.old global.old log.old records.old) }
-    ensures refusal { refusal.new ≡ whyIn (bareAnswer table.now (sizes threads count groups shared) limit
+    ensures refusal { refusal.new ≡ why_in (bare_answer table.now (sizes threads count groups shared) limit
         cells.old global.old log.old records.old) }
-    ensures cells { cells.new ≡ bareCells table.now (sizes threads count groups shared) limit
+    ensures cells { cells.new ≡ bare_cells table.now (sizes threads count groups shared) limit
         cells.old global.old log.old records.old }
-    ensures global { global.new ≡ bareGlobal table.now (sizes threads count groups shared) limit
+    ensures global { global.new ≡ bare_global table.now (sizes threads count groups shared) limit
         cells.old global.old log.old records.old }
-    ensures log { log.new ≡ bareLog table.now (sizes threads count groups shared) limit
+    ensures log { log.new ≡ bare_log table.now (sizes threads count groups shared) limit
         cells.old global.old log.old records.old }
-    ensures records { records.new ≡ bareRecords table.now (sizes threads count groups shared) limit
+    ensures records { records.new ≡ bare_records table.now (sizes threads count groups shared) limit
         cells.old global.old log.old records.old }
-    ensures steps { steps.new ≡ bareSteps table.now (sizes threads count groups shared) limit
+    ensures steps { steps.new ≡ bare_steps table.now (sizes threads count groups shared) limit
         cells.old global.old log.old records.old steps.old }
     ensures runs { RanDemand3 table.now (sizes threads count groups shared) limit cells.old global.old result
         outcome.new cells.new global.new steps.new }
@@ -122,13 +122,13 @@ pub extern "C" fn sekufoyi_write_report(
     output: &mut [u8],
     refusal: &mut [u32; 2],
 ) -> usize
-    ensures answer { result ≡ lengthIn (writerAnswer (Ran (outcomeFrom outcome.now)) steps.now cells.now
+    ensures answer { result ≡ length_in (writer_answer (Ran (outcome_from outcome.now)) steps.now cells.now
         global.now output.old) }
-    ensures refusal { refusal.new ≡ refusalIn (writerAnswer (Ran (outcomeFrom outcome.now)) steps.now cells.now
+    ensures refusal { refusal.new ≡ refusal_in (writer_answer (Ran (outcome_from outcome.now)) steps.now cells.now
         global.now output.old) }
-    ensures output { output.new ≡ writerBuffer (Ran (outcomeFrom outcome.now)) steps.now cells.now
+    ensures output { output.new ≡ writer_buffer (Ran (outcome_from outcome.now)) steps.now cells.now
         global.now output.old }
-    ensures reads { OfLength (Readable (Ran (outcomeFrom outcome.now))) result output.new }
+    ensures reads { OfLength (Readable (Ran (outcome_from outcome.now))) result output.new }
 {
     let answer = report::write_report(
         Subject::Ran(answerwords::outcome_from(outcome)),
@@ -147,9 +147,9 @@ pub extern "C" fn sekufoyi_write_refusal(
     output: &mut [u8],
     refusal: &mut [u32; 2],
 ) -> usize
-    ensures answer { result ≡ lengthIn (writerAnswer (Refused number place) [] [] [] output.old) }
-    ensures refusal { refusal.new ≡ refusalIn (writerAnswer (Refused number place) [] [] [] output.old) }
-    ensures output { output.new ≡ writerBuffer (Refused number place) [] [] [] output.old }
+    ensures answer { result ≡ length_in (writer_answer (Refused number place) [] [] [] output.old) }
+    ensures refusal { refusal.new ≡ refusal_in (writer_answer (Refused number place) [] [] [] output.old) }
+    ensures output { output.new ≡ writer_buffer (Refused number place) [] [] [] output.old }
     ensures reads { OfLength (Readable (Refused number place)) result output.new }
 {
     let none: [u32; 0] = [];

@@ -1,86 +1,86 @@
 -- Opens every definition of specs/ at once, so that an example is computed. Assumes nothing.
-use Rattle.spec.specs.Answers.{refusalNumber, refusalPlace, named, told, toldBy, toldIn, unless, or_else, first, isPassed}
-use Rattle.spec.specs.Lists.{any_of, every, passing, equalList, joined, mapWhere, last_of}
-use Rattle.spec.specs.Access.{cellAfter, registersAfter, mode, value_of, agree, conflict, groupConflict}
-use Rattle.spec.specs.Op.{opTable, op_of, form, formOf, is_register, isUnused, operandsFit, value}
-use Rattle.spec.specs.Table.{row_of, rows_of, no_row, row_at, cellByte, kind_of, role, openedBy, openBefore, scanRow, scan, end_of, pastElse, else_of}
+use Rattle.spec.specs.Answers.{refusal_number, refusal_place, named, told, told_by, told_in, unless, or_else, first, is_passed}
+use Rattle.spec.specs.Lists.{any_of, every, passing, equal_list, joined, map_where, last_of}
+use Rattle.spec.specs.Access.{cell_after, registers_after, mode, value_of, agree, conflict, group_conflict}
+use Rattle.spec.specs.Op.{op_table, op_of, form, form_of, is_register, is_unused, operands_fit, value}
+use Rattle.spec.specs.Table.{row_of, rows_of, no_row, row_at, cell_byte, kind_of, role, opened_by, open_before, scan_row, scan, end_of, past_else, else_of}
 use Rattle.spec.specs.Table.{start_of, innermost}
-use Rattle.spec.specs.Grammar.{bodyRows, constructRows, bodyDepth, constructDepth}
-use Rattle.spec.specs.TableCheck.{opener, isKnown, elseFits, endifFits, endwhileFits, fits, shallow, divided, openAfter, rowRefusal, leftOpen}
-use Rattle.spec.specs.TableCheck.{rowsRefusal, tableRefusal}
-use Rattle.spec.specs.Mask.{maskWord, has, membersFrom, members, any, full, minus, union, lowest, nonzero, holding}
-use Rattle.spec.specs.Shape.{launchNumber, total, bound, address, inCommon, isCommon, atCommon, past, isGlobal, isOwn, reaches}
-use Rattle.spec.specs.Log.{masksOf, markWord, logKinds, logWords, emptyLog, nobody, cleared, clearedWhere, cellCleared, cellsCleared}
-use Rattle.spec.specs.Log.{withThread, firstValue, unequal, logged, conflicting, testedMask, conflictMask, shownKind, raceKind}
-use Rattle.spec.specs.GroupLog.{groupMasksOf, emptyGroupLog, groupLogged, conflictingGroups, groupConflictMask, groupRaceKind, groupKinds, groupWords}
-use Rattle.spec.specs.Steps.{stepped, allStepped, sum}
-use Rattle.spec.specs.LockStep as lockStep
-use Rattle.spec.specs.LockStep.{initialState, and_then, in_turn, advance, update, setReg, computeTurn, madeAccess, enterGroup, rivals, tryAccess, pastTurn, accessTurn}
-use Rattle.spec.specs.LockStep.{forEnabled, countSteps, topMask, topOpener, pop, ifRow, elseRow, endifRow, savedAtWhile, leaveOrStay, whileRow}
-use Rattle.spec.specs.LockStep.{endwhileRow, passBarrier, barrierRow, run_row, result_of, run_from, outcomeOf, countedAt, countedAfter, countedFrom}
-use Rattle.spec.specs.LaunchRun.{rowsLeft, groupResult, nextStart, runsFrom, groupRuns, lastRun, lockstep, lastGroup, stepsByLaunch, ownCells, countedBarriers}
-use Rattle.spec.specs.Banks.{different, inBank, mostInBank, conflictCost}
-use Rattle.spec.specs.Intervals.{usedCells, rowCost, all_of, started, with_row, behind, intervalsAfter, intervalsFrom, together, recordsOf}
-use Rattle.spec.specs.Intervals.{intervalRecords, recordWords, conflictsOf}
-use Rattle.spec.specs.Threads.{reg, goto, put, beyond, reach, onIf, onWhile, effect_of, effect, emptyRecord, recorded, anyBelow, races, initialThreads}
-use Rattle.spec.specs.Threads.{noThread, threadCount, effectAt, accessesOf, isOutside, endsBadly, markBad, threadAfter, cellsAfter, performed}
-use Rattle.spec.specs.Threads.{pastBarrier, released, next, isBarrier, atOneBarrier, isWaiting, possible, atEnd, shown}
+use Rattle.spec.specs.Grammar.{body_rows, construct_rows, body_depth, construct_depth}
+use Rattle.spec.specs.TableCheck.{opener, is_known, else_fits, endif_fits, endwhile_fits, fits, shallow, divided, open_after, row_refusal, left_open}
+use Rattle.spec.specs.TableCheck.{rows_refusal, table_refusal}
+use Rattle.spec.specs.Mask.{mask_word, has, members_from, members, any, full, minus, union, lowest, nonzero, holding}
+use Rattle.spec.specs.Shape.{launch_number, total, bound, address, in_common, is_common, at_common, past, is_global, is_own, reaches}
+use Rattle.spec.specs.Log.{masks_of, mark_word, log_kinds, log_words, empty_log, nobody, cleared, cleared_where, cell_cleared, cells_cleared}
+use Rattle.spec.specs.Log.{with_thread, first_value, unequal, logged, conflicting, tested_mask, conflict_mask, shown_kind, race_kind}
+use Rattle.spec.specs.GroupLog.{group_masks_of, empty_group_log, group_logged, conflicting_groups, group_conflict_mask, group_race_kind, group_kinds, group_words}
+use Rattle.spec.specs.Steps.{stepped, all_stepped, sum}
+use Rattle.spec.specs.LockStep as lock_step
+use Rattle.spec.specs.LockStep.{initial_state, and_then, in_turn, advance, update, set_reg, compute_turn, made_access, enter_group, rivals, try_access, past_turn, access_turn}
+use Rattle.spec.specs.LockStep.{for_enabled, count_steps, top_mask, top_opener, pop, if_row, else_row, endif_row, saved_at_while, leave_or_stay, while_row}
+use Rattle.spec.specs.LockStep.{endwhile_row, pass_barrier, barrier_row, run_row, result_of, run_from, outcome_of, counted_at, counted_after, counted_from}
+use Rattle.spec.specs.LaunchRun.{rows_left, group_result, next_start, runs_from, group_runs, last_run, lockstep, last_group, steps_by_launch, own_cells, counted_barriers}
+use Rattle.spec.specs.Banks.{different, in_bank, most_in_bank, conflict_cost}
+use Rattle.spec.specs.Intervals.{used_cells, row_cost, all_of, started, with_row, behind, intervals_after, intervals_from, together, records_of}
+use Rattle.spec.specs.Intervals.{interval_records, record_words, conflicts_of}
+use Rattle.spec.specs.Threads.{reg, goto, put, beyond, reach, on_if, on_while, effect_of, effect, empty_record, recorded, any_below, races, initial_threads}
+use Rattle.spec.specs.Threads.{no_thread, thread_count, effect_at, accesses_of, is_outside, ends_badly, mark_bad, thread_after, cells_after, performed}
+use Rattle.spec.specs.Threads.{past_barrier, released, next, is_barrier, at_one_barrier, is_waiting, possible, at_end, shown}
 use Rattle.spec.specs.LaunchThreads as launch
-use Rattle.spec.specs.LaunchThreads.{no_part, hasMet, barredTo, partAtEnd, initialPart, initialGroups}
-use Rattle.spec.specs.AllRuns.{isMoveOf, isReleaseOf, isRelease, countedInAll}
-use Rattle.spec.specs.Text.{text, digitsWithin, decimal, isDigit, is_number, digitsValue, numberBelow, startingWith, splitAt}
-use Rattle.spec.specs.Launch.{launchRun, launchIntervals, launchOutcome, launchSteps, ownPart, globalPart, ownAfter, globalAfter, allLogWords, launchLog}
-use Rattle.spec.specs.LaunchFile.{continue, ◌>>=◌, ◌>>◌, gives, inOrder, times, given, lineValue, isDue, due, require, fileEnds, exactly}
-use Rattle.spec.specs.LaunchFile.{number, byte, rowValue, sizeLines, lengthLines, dueNumber, numbers, contentLines, launchLines, unlessRefused, checkedTable, fileLaunch}
-use Rattle.spec.specs.Report.{verdictText, kindText, valueText, keyLine, lineBytes, ◌is◌, bytes_of, details, detailsOf, headWith, headLines, intervalLines}
-use Rattle.spec.specs.Report.{eachLine, endLine, runLines, runReport, refusalLines, refusalReport, reportOf}
-use Rattle.spec.specs.Reading.{onFirst, linesIn, is_line, hasLine, isFirst, beginsWith, number_in, underKey, numbersOn, numbersAt, hasPassed, installs}
-use Rattle.spec.specs.Entries.{over, bareNumbers, bareLent, bareRefusal, bareLaunch, answer_of, keptIf, bareAnswer, bareCells, bareGlobal}
-use Rattle.spec.specs.Entries.{bareLog, bareRecords, bareSteps}
-use Rattle.spec.specs.Entries.{linesReported, writerRefusal, written_of, writerAnswer, writerBuffer, fileLent, andState, fileChecked}
-use Rattle.spec.specs.Entries.{launchReport, reportLength, fileAnswer, ifAccepted, fileCellsAfter, fileGlobalAfter, fileLogAfter, fileRecordsAfter, fileOutputAfter, printed}
-use Rattle.spec.specs.Entries.{checkedRefusal, checkPrints, subjectOf}
-use Rattle.spec.specs.PairFiles.{commonLines, commonChecked, commonCells, kernelChecked, kernelLaunch, kernelPrints, pairPrints, pairRefusal, pairAnswer}
-use Rattle.spec.specs.PairFiles.{pairOutputAfter}
-use Rattle.spec.proofs.Lines.{withNewlines, lines}
-use Rattle.spec.proofs.GlobalRows.{globalLoad, globalStore, globalAdd, launchTid, growing, numbering}
+use Rattle.spec.specs.LaunchThreads.{no_part, has_met, barred_to, part_at_end, initial_part, initial_groups}
+use Rattle.spec.specs.AllRuns.{is_move_of, is_release_of, is_release, counted_in_all}
+use Rattle.spec.specs.Text.{text, digits_within, decimal, is_digit, is_number, digits_value, number_below, starting_with, split_at}
+use Rattle.spec.specs.Launch.{launch_run, launch_intervals, launch_outcome, launch_steps, own_part, global_part, own_after, global_after, all_log_words, launch_log}
+use Rattle.spec.specs.LaunchFile.{continue, ◌>>=◌, ◌>>◌, gives, in_order, times, given, line_value, is_due, due, require, file_ends, exactly}
+use Rattle.spec.specs.LaunchFile.{number, byte, row_value, size_lines, length_lines, due_number, numbers, content_lines, launch_lines, unless_refused, checked_table, file_launch}
+use Rattle.spec.specs.Report.{verdict_text, kind_text, value_text, key_line, line_bytes, ◌is◌, bytes_of, details, details_of, head_with, head_lines, interval_lines}
+use Rattle.spec.specs.Report.{each_line, end_line, run_lines, run_report, refusal_lines, refusal_report, report_of}
+use Rattle.spec.specs.Reading.{on_first, lines_in, is_line, has_line, is_first, begins_with, number_in, under_key, numbers_on, numbers_at, has_passed, installs}
+use Rattle.spec.specs.Entries.{over, bare_numbers, bare_lent, bare_refusal, bare_launch, answer_of, kept_if, bare_answer, bare_cells, bare_global}
+use Rattle.spec.specs.Entries.{bare_log, bare_records, bare_steps}
+use Rattle.spec.specs.Entries.{lines_reported, writer_refusal, written_of, writer_answer, writer_buffer, file_lent, and_state, file_checked}
+use Rattle.spec.specs.Entries.{launch_report, report_length, file_answer, if_accepted, file_cells_after, file_global_after, file_log_after, file_records_after, file_output_after, printed}
+use Rattle.spec.specs.Entries.{checked_refusal, check_prints, subject_of}
+use Rattle.spec.specs.PairFiles.{common_lines, common_checked, common_cells, kernel_checked, kernel_launch, kernel_prints, pair_prints, pair_refusal, pair_answer}
+use Rattle.spec.specs.PairFiles.{pair_output_after}
+use Rattle.spec.proofs.Lines.{with_newlines, lines}
+use Rattle.spec.proofs.GlobalRows.{global_load, global_store, global_add, launch_tid, growing, numbering}
 
 -- Whoever unfolds this unfolds them all.
 unfoldable pub computing : Unit {0}
-unfolding refusalNumber refusalPlace named told toldBy toldIn unless or_else first isPassed
-    any_of every passing equalList joined mapWhere last_of
-    cellAfter registersAfter mode value_of agree conflict groupConflict
-    opTable op_of form formOf is_register isUnused operandsFit value
-    row_of rows_of no_row row_at cellByte kind_of role openedBy openBefore scanRow scan end_of pastElse else_of start_of innermost
-    bodyRows constructRows bodyDepth constructDepth
-    opener isKnown elseFits endifFits endwhileFits fits shallow divided openAfter rowRefusal leftOpen rowsRefusal tableRefusal
-    maskWord has membersFrom members any full minus union lowest nonzero holding
-    launchNumber total bound address inCommon isCommon atCommon past isGlobal isOwn reaches
-    masksOf markWord logKinds logWords emptyLog nobody cleared clearedWhere cellCleared cellsCleared withThread firstValue unequal logged
-    conflicting testedMask conflictMask shownKind raceKind
-    groupMasksOf emptyGroupLog groupLogged conflictingGroups groupConflictMask groupRaceKind groupKinds groupWords
-    stepped allStepped sum
-    lockStep.reg initialState and_then in_turn advance update setReg computeTurn madeAccess enterGroup rivals tryAccess pastTurn accessTurn forEnabled countSteps
-    topMask topOpener pop ifRow elseRow endifRow savedAtWhile leaveOrStay whileRow endwhileRow passBarrier barrierRow run_row result_of
-    run_from outcomeOf countedAt countedAfter countedFrom
-    rowsLeft groupResult nextStart runsFrom groupRuns lastRun lockstep lastGroup stepsByLaunch ownCells countedBarriers
-    different inBank mostInBank conflictCost
-    usedCells rowCost all_of started with_row behind intervalsAfter intervalsFrom together recordsOf intervalRecords recordWords conflictsOf
-    reg goto put beyond reach onIf onWhile effect_of effect emptyRecord recorded anyBelow races initialThreads noThread threadCount effectAt
-    accessesOf isOutside endsBadly markBad threadAfter cellsAfter performed pastBarrier released next isBarrier atOneBarrier isWaiting
-    possible atEnd shown
-    no_part hasMet barredTo launch.next launch.possible partAtEnd launch.atEnd launch.shown initialPart initialGroups
-    isMoveOf isReleaseOf isRelease countedInAll
-    text digitsWithin decimal isDigit is_number digitsValue numberBelow startingWith splitAt
-    launchRun launchIntervals launchOutcome launchSteps ownPart globalPart ownAfter globalAfter allLogWords launchLog
-    continue ◌>>=◌ ◌>>◌ gives inOrder times given lineValue isDue due require fileEnds exactly number byte rowValue sizeLines lengthLines dueNumber
-    numbers contentLines launchLines unlessRefused checkedTable fileLaunch
-    verdictText kindText valueText keyLine lineBytes ◌is◌ bytes_of details detailsOf headWith headLines intervalLines eachLine endLine runLines runReport
-    refusalLines refusalReport reportOf
-    onFirst linesIn is_line hasLine isFirst beginsWith number_in underKey numbersOn numbersAt hasPassed installs
-    over bareNumbers bareLent bareRefusal bareLaunch answer_of keptIf bareAnswer bareCells bareGlobal bareLog bareRecords bareSteps linesReported writerRefusal
-    written_of writerAnswer writerBuffer fileLent andState fileChecked launchReport reportLength fileAnswer ifAccepted fileCellsAfter fileGlobalAfter
-    fileLogAfter fileRecordsAfter fileOutputAfter printed checkPrints checkedRefusal subjectOf
-    commonLines commonChecked commonCells kernelChecked kernelLaunch kernelPrints pairPrints pairRefusal pairAnswer pairOutputAfter
-    withNewlines lines globalLoad globalStore globalAdd launchTid growing numbering
+unfolding refusal_number refusal_place named told told_by told_in unless or_else first is_passed
+    any_of every passing equal_list joined map_where last_of
+    cell_after registers_after mode value_of agree conflict group_conflict
+    op_table op_of form form_of is_register is_unused operands_fit value
+    row_of rows_of no_row row_at cell_byte kind_of role opened_by open_before scan_row scan end_of past_else else_of start_of innermost
+    body_rows construct_rows body_depth construct_depth
+    opener is_known else_fits endif_fits endwhile_fits fits shallow divided open_after row_refusal left_open rows_refusal table_refusal
+    mask_word has members_from members any full minus union lowest nonzero holding
+    launch_number total bound address in_common is_common at_common past is_global is_own reaches
+    masks_of mark_word log_kinds log_words empty_log nobody cleared cleared_where cell_cleared cells_cleared with_thread first_value unequal logged
+    conflicting tested_mask conflict_mask shown_kind race_kind
+    group_masks_of empty_group_log group_logged conflicting_groups group_conflict_mask group_race_kind group_kinds group_words
+    stepped all_stepped sum
+    lock_step.reg initial_state and_then in_turn advance update set_reg compute_turn made_access enter_group rivals try_access past_turn access_turn for_enabled count_steps
+    top_mask top_opener pop if_row else_row endif_row saved_at_while leave_or_stay while_row endwhile_row pass_barrier barrier_row run_row result_of
+    run_from outcome_of counted_at counted_after counted_from
+    rows_left group_result next_start runs_from group_runs last_run lockstep last_group steps_by_launch own_cells counted_barriers
+    different in_bank most_in_bank conflict_cost
+    used_cells row_cost all_of started with_row behind intervals_after intervals_from together records_of interval_records record_words conflicts_of
+    reg goto put beyond reach on_if on_while effect_of effect empty_record recorded any_below races initial_threads no_thread thread_count effect_at
+    accesses_of is_outside ends_badly mark_bad thread_after cells_after performed past_barrier released next is_barrier at_one_barrier is_waiting
+    possible at_end shown
+    no_part has_met barred_to launch.next launch.possible part_at_end launch.at_end launch.shown initial_part initial_groups
+    is_move_of is_release_of is_release counted_in_all
+    text digits_within decimal is_digit is_number digits_value number_below starting_with split_at
+    launch_run launch_intervals launch_outcome launch_steps own_part global_part own_after global_after all_log_words launch_log
+    continue ◌>>=◌ ◌>>◌ gives in_order times given line_value is_due due require file_ends exactly number byte row_value size_lines length_lines due_number
+    numbers content_lines launch_lines unless_refused checked_table file_launch
+    verdict_text kind_text value_text key_line line_bytes ◌is◌ bytes_of details details_of head_with head_lines interval_lines each_line end_line run_lines run_report
+    refusal_lines refusal_report report_of
+    on_first lines_in is_line has_line is_first begins_with number_in under_key numbers_on numbers_at has_passed installs
+    over bare_numbers bare_lent bare_refusal bare_launch answer_of kept_if bare_answer bare_cells bare_global bare_log bare_records bare_steps lines_reported writer_refusal
+    written_of writer_answer writer_buffer file_lent and_state file_checked launch_report report_length file_answer if_accepted file_cells_after file_global_after
+    file_log_after file_records_after file_output_after printed check_prints checked_refusal subject_of
+    common_lines common_checked common_cells kernel_checked kernel_launch kernel_prints pair_prints pair_refusal pair_answer pair_output_after
+    with_newlines lines global_load global_store global_add launch_tid growing numbering
 computing = tt

@@ -6,71 +6,71 @@ use Prim.Native.Nat.{ℕ, zero, suc, ◌+◌, ◌-◌, ◌≤◌, min}
 use native.Mathlib.Omega.{arith}
 use lib.Dec.{ltb}
 use lib.ListN.{length, length-map}
-use Rattle.spec.specs.Limits.{commonFrom}
+use Rattle.spec.specs.Limits.{common_from}
 use Rattle.spec.specs.Lists.{passing}
 use Rattle.spec.specs.Op.{Op, CALC, OWN, GLOBAL, MEM, IF, ELSE, ENDIF, WHILE, ENDWHILE, BARRIER, UNKNOWN}
-use Rattle.spec.specs.Table.{Row, cellByte}
-use Rattle.spec.specs.Mask.{Mask, members, membersFrom}
+use Rattle.spec.specs.Table.{Row, cell_byte}
+use Rattle.spec.specs.Mask.{Mask, members, members_from}
 use Rattle.spec.specs.Steps.{sum}
 use Rattle.spec.specs.LockStep.{LockState, reg}
-use Rattle.spec.specs.Intervals.{Interval, usedCells, rowCost, together, recordsOf, conflictsOf}
-use Rattle.spec.proofs.BankLaws.{cost-bound}
+use Rattle.spec.specs.Intervals.{Interval, used_cells, row_cost, together, records_of, conflicts_of}
+use Rattle.spec.proofs.BankLaws.{cost_bound}
 
 -- A number of an interval that grows as two of them are put together.
 module _ (f : Interval → ℕ) (grows : (i j : Interval) → f (together i (j ∷ [])) ≡ f i + f j) where
-  sum-together : (i : Interval) (is : List Interval) → f (together i is) ≡ sum (map f (i ∷ is))
+  sum_together : (i : Interval) (is : List Interval) → f (together i is) ≡ sum (map f (i ∷ is))
   unfolding together sum
-  sum-together i [] = omega arith
-  sum-together i (j ∷ is) = omega (arith, sum-together (together i (j ∷ [])) is, grows i j)
+  sum_together i [] = omega arith
+  sum_together i (j ∷ is) = omega (arith, sum_together (together i (j ∷ [])) is, grows i j)
 
-  sum-records : (k : ℕ) (is : List Interval) → sum (map f (recordsOf k is)) ≡ sum (map f is)
-  unfolding recordsOf sum
-  sum-records k [] = refl
-  sum-records zero (i ∷ is) = omega (arith, sum-together i is)
-  sum-records (suc k) (i ∷ is) = ap (λ (z : ℕ). f i + z) (sum-records k is)
+  sum_records : (k : ℕ) (is : List Interval) → sum (map f (records_of k is)) ≡ sum (map f is)
+  unfolding records_of sum
+  sum_records k [] = refl
+  sum_records zero (i ∷ is) = omega (arith, sum_together i is)
+  sum_records (suc k) (i ∷ is) = ap (λ (z : ℕ). f i + z) (sum_records k is)
 
-pub records-rows : (k : ℕ) (is : List Interval) → sum (map (λ i. i.rows) (recordsOf k is)) ≡ sum (map (λ i. i.rows) is)
+pub records_rows : (k : ℕ) (is : List Interval) → sum (map (λ i. i.rows) (records_of k is)) ≡ sum (map (λ i. i.rows) is)
 unfolding together
-records-rows k is = sum-records (λ i. i.rows) (λ i j. refl) k is
+records_rows k is = sum_records (λ i. i.rows) (λ i j. refl) k is
 
-pub records-conflicts : (k : ℕ) (is : List Interval) → conflictsOf (recordsOf k is) ≡ conflictsOf is
-unfolding together conflictsOf
-records-conflicts k is = sum-records (λ i. i.cost) (λ i j. refl) k is
+pub records_conflicts : (k : ℕ) (is : List Interval) → conflicts_of (records_of k is) ≡ conflicts_of is
+unfolding together conflicts_of
+records_conflicts k is = sum_records (λ i. i.cost) (λ i j. refl) k is
 
-pub records-count : (k : ℕ) (is : List Interval) → length (recordsOf k is) ≡ min (length is) (k + 1)
-unfolding recordsOf
-records-count k [] = omega arith
-records-count zero (i ∷ is) = omega arith
-records-count (suc k) (i ∷ is) = omega (arith, records-count k is)
+pub records_count : (k : ℕ) (is : List Interval) → length (records_of k is) ≡ min (length is) (k + 1)
+unfolding records_of
+records_count k [] = omega arith
+records_count zero (i ∷ is) = omega arith
+records_count (suc k) (i ∷ is) = omega (arith, records_count k is)
 
-members-size : (k : ℕ) (m : Mask) → length (membersFrom k m) ≤ length m
-unfolding membersFrom
-members-size k [] = omega arith
-members-size k (false ∷ m) = omega (arith, members-size (suc k) m)
-members-size k (true ∷ m) = omega (arith, members-size (suc k) m)
+members_size : (k : ℕ) (m : Mask) → length (members_from k m) ≤ length m
+unfolding members_from
+members_size k [] = omega arith
+members_size k (false ∷ m) = omega (arith, members_size (suc k) m)
+members_size k (true ∷ m) = omega (arith, members_size (suc k) m)
 
-passing-size : (p : ℕ → Bool) (xs : List ℕ) → length (passing p xs) ≤ length xs
+passing_size : (p : ℕ → Bool) (xs : List ℕ) → length (passing p xs) ≤ length xs
 unfolding passing
-passing-size p [] = omega arith
-passing-size p (x ∷ xs) = by (p x) (passing-size p xs)
+passing_size p [] = omega arith
+passing_size p (x ∷ xs) = by (p x) (passing_size p xs)
   where
     by : (b : Bool) → length (passing p xs) ≤ length xs → length (cond b (x ∷ passing p xs) (passing p xs)) ≤ suc (length xs)
     by true h = omega (arith, h)
     by false h = omega (arith, h)
 
 -- Where the mask has n threads, a row costs at most n - 1.
-pub row-cost : (x : Row) (s : LockState) (o : Op) → rowCost x s o ≤ length s.enabled - 1
-unfolding rowCost usedCells members
-row-cost x s (CALC c) = omega arith
-row-cost x s (MEM OWN m) =
-    let cs = map (λ t. reg s t (cellByte m x)) (members s.enabled) in
-    let h : length cs ≤ length s.enabled = simp length-map (members-size 0 s.enabled) in
-    omega (arith, h, passing-size (λ c. ltb c commonFrom) cs, cost-bound (usedCells m x s))
-row-cost x s (MEM GLOBAL m) = omega arith
-row-cost x s IF = omega arith
-row-cost x s ELSE = omega arith
-row-cost x s ENDIF = omega arith
-row-cost x s WHILE = omega arith
-row-cost x s ENDWHILE = omega arith
-row-cost x s BARRIER = omega arith
-row-cost x s UNKNOWN = omega arith
+pub row_cost_lem : (x : Row) (s : LockState) (o : Op) → row_cost x s o ≤ length s.enabled - 1
+unfolding row_cost used_cells members
+row_cost_lem x s (CALC c) = omega arith
+row_cost_lem x s (MEM OWN m) =
+    let cs = map (λ t. reg s t (cell_byte m x)) (members s.enabled) in
+    let h : length cs ≤ length s.enabled = simp length-map (members_size 0 s.enabled) in
+    omega (arith, h, passing_size (λ c. ltb c common_from) cs, cost_bound (used_cells m x s))
+row_cost_lem x s (MEM GLOBAL m) = omega arith
+row_cost_lem x s IF = omega arith
+row_cost_lem x s ELSE = omega arith
+row_cost_lem x s ENDIF = omega arith
+row_cost_lem x s WHILE = omega arith
+row_cost_lem x s ENDWHILE = omega arith
+row_cost_lem x s BARRIER = omega arith
+row_cost_lem x s UNKNOWN = omega arith

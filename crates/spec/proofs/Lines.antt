@@ -6,9 +6,9 @@ use Prim.Native.String.{String}
 use lib.Dec.{eqb}
 use Rattle.spec.specs.Text.{text, newline}
 
-unfoldable pub withNewlines : List ℕ → List ℕ
-withNewlines [] = newline ∷ []
-withNewlines (b ∷ bs) = cond (eqb b 47) newline b ∷ withNewlines bs
+unfoldable pub with_newlines : List ℕ → List ℕ
+with_newlines [] = newline ∷ []
+with_newlines (b ∷ bs) = cond (eqb b 47) newline b ∷ with_newlines bs
 
 unfoldable pub lines : String → List ℕ
-lines s = withNewlines (text s)
+lines s = with_newlines (text s)

@@ -5,30 +5,30 @@ use Prim.Native.Nat.{ℕ}
 use lib.ListN.{take}
 use Rattle.spec.specs.Answers.{Race, ReadWrite}
 use Rattle.spec.specs.Table.{Table, row_of}
-use Rattle.spec.specs.Mask.{maskWord}
-use Rattle.spec.specs.Steps.{stepped, allStepped, sum}
-use Rattle.spec.specs.Shape.{oneGroup}
+use Rattle.spec.specs.Mask.{mask_word}
+use Rattle.spec.specs.Steps.{stepped, all_stepped, sum}
+use Rattle.spec.specs.Shape.{one_group}
 use Rattle.spec.specs.LockStep.{Saved, LockState}
-use Rattle.spec.specs.LaunchRun.{lockstep, countedBarriers}
-use Rattle.spec.proofs.OpTable.{bytesFrom}
+use Rattle.spec.specs.LaunchRun.{lockstep, counted_barriers}
+use Rattle.spec.proofs.OpTable.{bytes_from}
 use Rattle.spec.proofs.Computing.{computing}
 
 -- A step of thread 0, 1 and 2, and of a thread that is not there, which counts for nobody.
-pub one-steps : map (stepped (40 ∷ 50 ∷ 60 ∷ [])) (0 ∷ 1 ∷ 2 ∷ 3 ∷ []) ≡
+pub one_steps : map (stepped (40 ∷ 50 ∷ 60 ∷ [])) (0 ∷ 1 ∷ 2 ∷ 3 ∷ []) ≡
     (41 ∷ 50 ∷ 60 ∷ []) ∷ (40 ∷ 51 ∷ 60 ∷ []) ∷ (40 ∷ 50 ∷ 61 ∷ []) ∷ (40 ∷ 50 ∷ 60 ∷ []) ∷ []
 unfolding computing
-one-steps = refl
+one_steps = refl
 
 -- Likewise with one count and with none.
-pub steps-of-few : stepped (9 ∷ []) 0 ∷ stepped (9 ∷ []) 1 ∷ stepped [] 0 ∷ [] ≡ (10 ∷ []) ∷ (9 ∷ []) ∷ [] ∷ []
+pub steps_of_few : stepped (9 ∷ []) 0 ∷ stepped (9 ∷ []) 1 ∷ stepped [] 0 ∷ [] ≡ (10 ∷ []) ∷ (9 ∷ []) ∷ [] ∷ []
 unfolding computing
-steps-of-few = refl
+steps_of_few = refl
 
 -- Steps of nobody, of two threads in both orders, of one thread twice, of one that is not there before one that is.
-pub several-step : map (allStepped (40 ∷ 50 ∷ 60 ∷ [])) ([] ∷ (0 ∷ 2 ∷ []) ∷ (2 ∷ 0 ∷ []) ∷ (1 ∷ 1 ∷ []) ∷ (7 ∷ 1 ∷ []) ∷ []) ≡
+pub several_step : map (all_stepped (40 ∷ 50 ∷ 60 ∷ [])) ([] ∷ (0 ∷ 2 ∷ []) ∷ (2 ∷ 0 ∷ []) ∷ (1 ∷ 1 ∷ []) ∷ (7 ∷ 1 ∷ []) ∷ []) ≡
     (40 ∷ 50 ∷ 60 ∷ []) ∷ (41 ∷ 50 ∷ 61 ∷ []) ∷ (41 ∷ 50 ∷ 61 ∷ []) ∷ (40 ∷ 52 ∷ 60 ∷ []) ∷ (40 ∷ 51 ∷ 60 ∷ []) ∷ []
 unfolding computing
-several-step = refl
+several_step = refl
 
 -- The sum of no counts, of one, and of several with a 0 and two that are equal.
 pub sums : map sum ([] ∷ (9 ∷ []) ∷ (7 ∷ 0 ∷ 5 ∷ 5 ∷ []) ∷ []) ≡ 0 ∷ 9 ∷ 17 ∷ []
@@ -61,15 +61,15 @@ winding =
     ∷ []
 
 -- What a state shows: row, enabled mask, rows, each thread's steps, barriers, and for each saved mask, innermost first, its construct's row and the mask.
-unfoldable pub savedNumbers : List Saved → List ℕ
-savedNumbers [] = []
-savedNumbers (x ∷ xs) = x.opener ∷ maskWord x.mask ∷ savedNumbers xs
+unfoldable pub saved_numbers : List Saved → List ℕ
+saved_numbers [] = []
+saved_numbers (x ∷ xs) = x.opener ∷ mask_word x.mask ∷ saved_numbers xs
 
-unfoldable pub numbersOf : LockState → List ℕ
-numbersOf s = s.row ∷ maskWord s.enabled ∷ s.rows ∷ (s.steps ++ (s.barriers ∷ savedNumbers s.saved))
+unfoldable pub numbers_of : LockState → List ℕ
+numbers_of s = s.row ∷ mask_word s.enabled ∷ s.rows ∷ (s.steps ++ (s.barriers ∷ saved_numbers s.saved))
 
 -- Three threads. The state after no row, one row, two rows and so on to the end.
-pub row-by-row : map (λ k. numbersOf (lockstep winding (oneGroup 3 (7 ∷ 7 ∷ 7 ∷ [])) (7 ∷ 7 ∷ 7 ∷ []) k).state) (bytesFrom 0 29) ≡
+pub row_by_row : map (λ k. numbers_of (lockstep winding (one_group 3 (7 ∷ 7 ∷ 7 ∷ [])) (7 ∷ 7 ∷ 7 ∷ []) k).state) (bytes_from 0 29) ≡
     (0 ∷ 7 ∷ 0 ∷ 0 ∷ 0 ∷ 0 ∷ 0 ∷ [])
     ∷ (1 ∷ 7 ∷ 1 ∷ 1 ∷ 1 ∷ 1 ∷ 0 ∷ [])
     ∷ (2 ∷ 7 ∷ 2 ∷ 2 ∷ 2 ∷ 2 ∷ 0 ∷ [])
@@ -100,14 +100,14 @@ pub row-by-row : map (λ k. numbersOf (lockstep winding (oneGroup 3 (7 ∷ 7 ∷
     ∷ (19 ∷ 7 ∷ 27 ∷ 17 ∷ 12 ∷ 15 ∷ 1 ∷ [])
     ∷ (19 ∷ 7 ∷ 27 ∷ 17 ∷ 12 ∷ 15 ∷ 1 ∷ [])
     ∷ []
-unfolding computing bytesFrom winding savedNumbers numbersOf
-row-by-row = refl
+unfolding computing bytes_from winding saved_numbers numbers_of
+row_by_row = refl
 
 -- Each thread's registers 0 to 3 at the end.
-pub registers-at-the-end : map (take 4) (lockstep winding (oneGroup 3 (7 ∷ 7 ∷ 7 ∷ [])) (7 ∷ 7 ∷ 7 ∷ []) 100).state.regs ≡
+pub registers_at_the_end : map (take 4) (lockstep winding (one_group 3 (7 ∷ 7 ∷ 7 ∷ [])) (7 ∷ 7 ∷ 7 ∷ []) 100).state.regs ≡
     (0 ∷ 1 ∷ 0 ∷ 0 ∷ []) ∷ (0 ∷ 1 ∷ 0 ∷ 1 ∷ []) ∷ (0 ∷ 1 ∷ 0 ∷ 2 ∷ []) ∷ []
 unfolding computing winding
-registers-at-the-end = refl
+registers_at_the_end = refl
 
 -- SET R2 = 2; while R2 is not 0, thread t stores t + R2 in its own cell, passes a BARRIER and takes 1 from R2; then another BARRIER.
 unfoldable pub circling : Table
@@ -125,26 +125,26 @@ circling =
     ∷ []
 
 -- The cells of the one group just before each counted barrier: of all three, of those within a limit, of none where the limit comes before the first.
-pub cells-at-barriers : map (countedBarriers circling (oneGroup 2 (9 ∷ 9 ∷ [])) (9 ∷ 9 ∷ [])) (100 ∷ 13 ∷ 7 ∷ 6 ∷ 0 ∷ []) ≡
+pub cells_at_barriers : map (counted_barriers circling (one_group 2 (9 ∷ 9 ∷ [])) (9 ∷ 9 ∷ [])) (100 ∷ 13 ∷ 7 ∷ 6 ∷ 0 ∷ []) ≡
     map (λ bs. bs ∷ [])
     (((2 ∷ 3 ∷ []) ∷ (1 ∷ 2 ∷ []) ∷ (1 ∷ 2 ∷ []) ∷ []) ∷ ((2 ∷ 3 ∷ []) ∷ (1 ∷ 2 ∷ []) ∷ []) ∷ ((2 ∷ 3 ∷ []) ∷ []) ∷ [] ∷ [] ∷ [])
 unfolding computing circling
-cells-at-barriers = refl
+cells_at_barriers = refl
 
 -- A BARRIER counts neither where nobody comes to it nor where the run diverges; one before a race stays counted.
-pub barriers-not-counted :
-    countedBarriers (row_of 32 0 0 0 ∷ row_of 37 0 0 0 ∷ row_of 34 0 0 0 ∷ []) (oneGroup 2 (9 ∷ [])) (9 ∷ []) 10
-    ∷ countedBarriers (row_of 2 0 0 0 ∷ row_of 32 0 0 0 ∷ row_of 37 0 0 0 ∷ row_of 34 0 0 0 ∷ row_of 37 0 0 0 ∷ []) (oneGroup 2 (9 ∷ [])) (9 ∷ []) 10
-    ∷ countedBarriers (row_of 37 0 0 0 ∷ row_of 2 1 0 0 ∷ row_of 17 0 1 0 ∷ row_of 37 0 0 0 ∷ []) (oneGroup 2 (9 ∷ [])) (9 ∷ []) 10
+pub barriers_not_counted :
+    counted_barriers (row_of 32 0 0 0 ∷ row_of 37 0 0 0 ∷ row_of 34 0 0 0 ∷ []) (one_group 2 (9 ∷ [])) (9 ∷ []) 10
+    ∷ counted_barriers (row_of 2 0 0 0 ∷ row_of 32 0 0 0 ∷ row_of 37 0 0 0 ∷ row_of 34 0 0 0 ∷ row_of 37 0 0 0 ∷ []) (one_group 2 (9 ∷ [])) (9 ∷ []) 10
+    ∷ counted_barriers (row_of 37 0 0 0 ∷ row_of 2 1 0 0 ∷ row_of 17 0 1 0 ∷ row_of 37 0 0 0 ∷ []) (one_group 2 (9 ∷ [])) (9 ∷ []) 10
     ∷ []
     ≡ ([] ∷ []) ∷ ([] ∷ []) ∷ (((9 ∷ []) ∷ []) ∷ []) ∷ []
 unfolding computing
-barriers-not-counted = refl
+barriers_not_counted = refl
 
 -- Both threads load; a BARRIER in an IF that nobody enters forgets nothing, and thread 0's store behind it meets the load of thread 1.
 unfoldable pub skipping : Table
 skipping = row_of 2 0 0 0 ∷ row_of 16 1 2 0 ∷ row_of 32 0 2 0 ∷ row_of 37 0 0 0 ∷ row_of 34 0 0 0 ∷ row_of 17 2 0 0 ∷ []
 
-pub skipped-barrier : (lockstep skipping (oneGroup 2 (4 ∷ [])) (4 ∷ []) 100).verdict ≡ Race 0 1 ReadWrite 0
+pub skipped_barrier : (lockstep skipping (one_group 2 (4 ∷ [])) (4 ∷ []) 100).verdict ≡ Race 0 1 ReadWrite 0
 unfolding computing skipping
-skipped-barrier = refl
+skipped_barrier = refl

@@ -9,21 +9,21 @@ use borrow.Author.Tests.{eq-eqb, ne_eqb}
 use lib.Dec.{eqb}
 use lib.ListN.{length, get_or, set, length-set}
 use lib.Seq.{get_or-set_same, get_or-set_other}
-use Rattle.spec.specs.Steps.{stepped, allStepped, sum}
+use Rattle.spec.specs.Steps.{stepped, all_stepped, sum}
 
-pub stepped-size : (steps : List ℕ) (t : ℕ) → length (stepped steps t) ≡ length steps
+pub stepped_size : (steps : List ℕ) (t : ℕ) → length (stepped steps t) ≡ length steps
 unfolding stepped
-stepped-size steps t = length-set steps t _
+stepped_size steps t = length-set steps t _
 
-pub all-stepped-size : (steps threads : List ℕ) → length (allStepped steps threads) ≡ length steps
-unfolding allStepped
-all-stepped-size steps [] = refl
-all-stepped-size steps (t ∷ ts) = all-stepped-size (stepped steps t) ts ∙ stepped-size steps t
+pub all_stepped_size : (steps threads : List ℕ) → length (all_stepped steps threads) ≡ length steps
+unfolding all_stepped
+all_stepped_size steps [] = refl
+all_stepped_size steps (t ∷ ts) = all_stepped_size (stepped steps t) ts ∙ stepped_size steps t
 
 -- A step of thread t is counted for t alone.
-pub stepped-at : (steps : List ℕ) (t u : ℕ) → u < length steps → get_or (stepped steps t) u 0 ≡ cond (eqb t u) 1 0 + get_or steps u 0
+pub stepped_at : (steps : List ℕ) (t u : ℕ) → u < length steps → get_or (stepped steps t) u 0 ≡ cond (eqb t u) 1 0 + get_or steps u 0
 unfolding stepped
-stepped-at steps t u l = by (ℕ_discrete t u)
+stepped_at steps t u l = by (ℕ_discrete t u)
   where
     new : ℕ
     new = suc (get_or steps t 0)
@@ -35,8 +35,8 @@ stepped-at steps t u l = by (ℕ_discrete t u)
     by (no n) = get_or-set_other steps t u new 0 (λ e. n (sym e)) ∙ rw (ne_eqb t u n) (let z : get_or steps u 0 ≡ 0 + get_or steps u 0 = omega arith in z)
 
 -- It is one step of all.
-pub sum-stepped : (steps : List ℕ) (t : ℕ) → t < length steps → sum (stepped steps t) ≡ 1 + sum steps
+pub sum_stepped : (steps : List ℕ) (t : ℕ) → t < length steps → sum (stepped steps t) ≡ 1 + sum steps
 unfolding stepped sum
-sum-stepped [] t l = absurd (omega arith)
-sum-stepped (k ∷ steps) zero l = omega arith
-sum-stepped (k ∷ steps) (suc t) l = omega (arith, sum-stepped steps t (omega arith))
+sum_stepped [] t l = absurd (omega arith)
+sum_stepped (k ∷ steps) zero l = omega arith
+sum_stepped (k ∷ steps) (suc t) l = omega (arith, sum_stepped steps t (omega arith))

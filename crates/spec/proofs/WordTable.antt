@@ -2,7 +2,7 @@
 use mathlib.Core.Path.{◌≡◌, refl}
 use mathlib.Core.List.{List, [], ◌∷◌, map}
 use Prim.Native.Nat.{ℕ}
-use Rattle.spec.specs.Op.{Calc, SET, TID, COUNT, LAUNCHTID, ADD, SUB, MUL, AND, OR, XOR, SHR, SAR, EQ, Lt, SLT, value}
+use Rattle.spec.specs.Op.{Calc, SET, TID, COUNT, LAUNCHTID, ADD, SUB, MUL, AND, OR, XOR, SHR, SAR, EQ, LT, SLT, value}
 use Rattle.spec.proofs.Computing.{computing}
 
 -- 0, 1, 2 ^ 31 - 1, 2 ^ 31, 2 ^ 32 - 1.
@@ -17,7 +17,7 @@ amounts = 0 ∷ 1 ∷ 31 ∷ 32 ∷ 33 ∷ 63 ∷ 64 ∷ 2147483648 ∷ 42949672
 unfoldable pub tabulated : List ℕ → Calc → List (List ℕ)
 tabulated ys c = map (λ x. map (λ y. value c 7 5 19 3 2 x y) ys) edges
 
-pub add-table : tabulated edges ADD ≡
+pub add_table : tabulated edges ADD ≡
     (0 ∷ 1 ∷ 2147483647 ∷ 2147483648 ∷ 4294967295 ∷ [])
     ∷ (1 ∷ 2 ∷ 2147483648 ∷ 2147483649 ∷ 0 ∷ [])
     ∷ (2147483647 ∷ 2147483648 ∷ 4294967294 ∷ 4294967295 ∷ 2147483646 ∷ [])
@@ -25,9 +25,9 @@ pub add-table : tabulated edges ADD ≡
     ∷ (4294967295 ∷ 0 ∷ 2147483646 ∷ 2147483647 ∷ 4294967294 ∷ [])
     ∷ []
 unfolding computing edges tabulated
-add-table = refl
+add_table = refl
 
-pub sub-table : tabulated edges SUB ≡
+pub sub_table : tabulated edges SUB ≡
     (0 ∷ 4294967295 ∷ 2147483649 ∷ 2147483648 ∷ 1 ∷ [])
     ∷ (1 ∷ 0 ∷ 2147483650 ∷ 2147483649 ∷ 2 ∷ [])
     ∷ (2147483647 ∷ 2147483646 ∷ 0 ∷ 4294967295 ∷ 2147483648 ∷ [])
@@ -35,9 +35,9 @@ pub sub-table : tabulated edges SUB ≡
     ∷ (4294967295 ∷ 4294967294 ∷ 2147483648 ∷ 2147483647 ∷ 0 ∷ [])
     ∷ []
 unfolding computing edges tabulated
-sub-table = refl
+sub_table = refl
 
-pub mul-table : tabulated edges MUL ≡
+pub mul_table : tabulated edges MUL ≡
     (0 ∷ 0 ∷ 0 ∷ 0 ∷ 0 ∷ [])
     ∷ (0 ∷ 1 ∷ 2147483647 ∷ 2147483648 ∷ 4294967295 ∷ [])
     ∷ (0 ∷ 2147483647 ∷ 1 ∷ 2147483648 ∷ 2147483649 ∷ [])
@@ -45,9 +45,9 @@ pub mul-table : tabulated edges MUL ≡
     ∷ (0 ∷ 4294967295 ∷ 2147483649 ∷ 2147483648 ∷ 1 ∷ [])
     ∷ []
 unfolding computing edges tabulated
-mul-table = refl
+mul_table = refl
 
-pub and-table : tabulated edges AND ≡
+pub and_table : tabulated edges AND ≡
     (0 ∷ 0 ∷ 0 ∷ 0 ∷ 0 ∷ [])
     ∷ (0 ∷ 1 ∷ 1 ∷ 0 ∷ 1 ∷ [])
     ∷ (0 ∷ 1 ∷ 2147483647 ∷ 0 ∷ 2147483647 ∷ [])
@@ -55,9 +55,9 @@ pub and-table : tabulated edges AND ≡
     ∷ (0 ∷ 1 ∷ 2147483647 ∷ 2147483648 ∷ 4294967295 ∷ [])
     ∷ []
 unfolding computing edges tabulated
-and-table = refl
+and_table = refl
 
-pub or-table : tabulated edges OR ≡
+pub or_table : tabulated edges OR ≡
     (0 ∷ 1 ∷ 2147483647 ∷ 2147483648 ∷ 4294967295 ∷ [])
     ∷ (1 ∷ 1 ∷ 2147483647 ∷ 2147483649 ∷ 4294967295 ∷ [])
     ∷ (2147483647 ∷ 2147483647 ∷ 2147483647 ∷ 4294967295 ∷ 4294967295 ∷ [])
@@ -65,9 +65,9 @@ pub or-table : tabulated edges OR ≡
     ∷ (4294967295 ∷ 4294967295 ∷ 4294967295 ∷ 4294967295 ∷ 4294967295 ∷ [])
     ∷ []
 unfolding computing edges tabulated
-or-table = refl
+or_table = refl
 
-pub xor-table : tabulated edges XOR ≡
+pub xor_table : tabulated edges XOR ≡
     (0 ∷ 1 ∷ 2147483647 ∷ 2147483648 ∷ 4294967295 ∷ [])
     ∷ (1 ∷ 0 ∷ 2147483646 ∷ 2147483649 ∷ 4294967294 ∷ [])
     ∷ (2147483647 ∷ 2147483646 ∷ 0 ∷ 4294967295 ∷ 2147483648 ∷ [])
@@ -75,9 +75,9 @@ pub xor-table : tabulated edges XOR ≡
     ∷ (4294967295 ∷ 4294967294 ∷ 2147483648 ∷ 2147483647 ∷ 0 ∷ [])
     ∷ []
 unfolding computing edges tabulated
-xor-table = refl
+xor_table = refl
 
-pub eq-table : tabulated edges EQ ≡
+pub eq_table : tabulated edges EQ ≡
     (1 ∷ 0 ∷ 0 ∷ 0 ∷ 0 ∷ [])
     ∷ (0 ∷ 1 ∷ 0 ∷ 0 ∷ 0 ∷ [])
     ∷ (0 ∷ 0 ∷ 1 ∷ 0 ∷ 0 ∷ [])
@@ -85,9 +85,9 @@ pub eq-table : tabulated edges EQ ≡
     ∷ (0 ∷ 0 ∷ 0 ∷ 0 ∷ 1 ∷ [])
     ∷ []
 unfolding computing edges tabulated
-eq-table = refl
+eq_table = refl
 
-pub lt-table : tabulated edges Lt ≡
+pub lt_table : tabulated edges LT ≡
     (0 ∷ 1 ∷ 1 ∷ 1 ∷ 1 ∷ [])
     ∷ (0 ∷ 0 ∷ 1 ∷ 1 ∷ 1 ∷ [])
     ∷ (0 ∷ 0 ∷ 0 ∷ 1 ∷ 1 ∷ [])
@@ -95,9 +95,9 @@ pub lt-table : tabulated edges Lt ≡
     ∷ (0 ∷ 0 ∷ 0 ∷ 0 ∷ 0 ∷ [])
     ∷ []
 unfolding computing edges tabulated
-lt-table = refl
+lt_table = refl
 
-pub slt-table : tabulated edges SLT ≡
+pub slt_table : tabulated edges SLT ≡
     (0 ∷ 1 ∷ 1 ∷ 0 ∷ 0 ∷ [])
     ∷ (0 ∷ 0 ∷ 1 ∷ 0 ∷ 0 ∷ [])
     ∷ (0 ∷ 0 ∷ 0 ∷ 0 ∷ 0 ∷ [])
@@ -105,9 +105,9 @@ pub slt-table : tabulated edges SLT ≡
     ∷ (1 ∷ 1 ∷ 1 ∷ 0 ∷ 0 ∷ [])
     ∷ []
 unfolding computing edges tabulated
-slt-table = refl
+slt_table = refl
 
-pub shr-table : tabulated amounts SHR ≡
+pub shr_table : tabulated amounts SHR ≡
     (0 ∷ 0 ∷ 0 ∷ 0 ∷ 0 ∷ 0 ∷ 0 ∷ 0 ∷ 0 ∷ [])
     ∷ (1 ∷ 0 ∷ 0 ∷ 1 ∷ 0 ∷ 0 ∷ 1 ∷ 1 ∷ 0 ∷ [])
     ∷ (2147483647 ∷ 1073741823 ∷ 0 ∷ 2147483647 ∷ 1073741823 ∷ 0 ∷ 2147483647 ∷ 2147483647 ∷ 0 ∷ [])
@@ -115,9 +115,9 @@ pub shr-table : tabulated amounts SHR ≡
     ∷ (4294967295 ∷ 2147483647 ∷ 1 ∷ 4294967295 ∷ 2147483647 ∷ 1 ∷ 4294967295 ∷ 4294967295 ∷ 1 ∷ [])
     ∷ []
 unfolding computing edges amounts tabulated
-shr-table = refl
+shr_table = refl
 
-pub sar-table : tabulated amounts SAR ≡
+pub sar_table : tabulated amounts SAR ≡
     (0 ∷ 0 ∷ 0 ∷ 0 ∷ 0 ∷ 0 ∷ 0 ∷ 0 ∷ 0 ∷ [])
     ∷ (1 ∷ 0 ∷ 0 ∷ 1 ∷ 0 ∷ 0 ∷ 1 ∷ 1 ∷ 0 ∷ [])
     ∷ (2147483647 ∷ 1073741823 ∷ 0 ∷ 2147483647 ∷ 1073741823 ∷ 0 ∷ 2147483647 ∷ 2147483647 ∷ 0 ∷ [])
@@ -125,7 +125,7 @@ pub sar-table : tabulated amounts SAR ≡
     ∷ (4294967295 ∷ 4294967295 ∷ 4294967295 ∷ 4294967295 ∷ 4294967295 ∷ 4294967295 ∷ 4294967295 ∷ 4294967295 ∷ 4294967295 ∷ [])
     ∷ []
 unfolding computing edges amounts tabulated
-sar-table = refl
+sar_table = refl
 
 -- Shifts by 2 to 30 places of 0x9ABCDEF0, whose top bit is set, and of 0x12345678, whose is not.
 unfoldable pub between : List ℕ
@@ -134,23 +134,23 @@ between = 2 ∷ 3 ∷ 4 ∷ 7 ∷ 8 ∷ 15 ∷ 16 ∷ 17 ∷ 28 ∷ 30 ∷ []
 unfoldable pub shifted : Calc → List (List ℕ)
 shifted c = map (λ x. map (λ y. value c 7 5 19 3 2 x y) between) (2596069104 ∷ 305419896 ∷ [])
 
-pub shr-between : shifted SHR ≡
+pub shr_between : shifted SHR ≡
     (649017276 ∷ 324508638 ∷ 162254319 ∷ 20281789 ∷ 10140894 ∷ 79225 ∷ 39612 ∷ 19806 ∷ 9 ∷ 2 ∷ [])
     ∷ (76354974 ∷ 38177487 ∷ 19088743 ∷ 2386092 ∷ 1193046 ∷ 9320 ∷ 4660 ∷ 2330 ∷ 1 ∷ 0 ∷ [])
     ∷ []
 unfolding computing between shifted
-shr-between = refl
+shr_between = refl
 
-pub sar-between : shifted SAR ≡
+pub sar_between : shifted SAR ≡
     (3870242748 ∷ 4082605022 ∷ 4188786159 ∷ 4281694653 ∷ 4288330974 ∷ 4294915449 ∷ 4294941372 ∷ 4294954334 ∷ 4294967289 ∷ 4294967294 ∷ [])
     ∷ (76354974 ∷ 38177487 ∷ 19088743 ∷ 2386092 ∷ 1193046 ∷ 9320 ∷ 4660 ∷ 2330 ∷ 1 ∷ 0 ∷ [])
     ∷ []
 unfolding computing between shifted
-sar-between = refl
+sar_between = refl
 
 -- Every op of two words that are no edges, 0x9ABCDEF0 and 0x12345678, both ways round.
 pub both_ways :
-    map (λ c. value c 7 5 19 3 2 2596069104 305419896 ∷ value c 7 5 19 3 2 305419896 2596069104 ∷ []) (ADD ∷ SUB ∷ MUL ∷ AND ∷ OR ∷ XOR ∷ EQ ∷ Lt ∷ SLT ∷ []) ≡
+    map (λ c. value c 7 5 19 3 2 2596069104 305419896 ∷ value c 7 5 19 3 2 305419896 2596069104 ∷ []) (ADD ∷ SUB ∷ MUL ∷ AND ∷ OR ∷ XOR ∷ EQ ∷ LT ∷ SLT ∷ []) ≡
     (2901489000 ∷ 2901489000 ∷ [])
     ∷ (2290649208 ∷ 2004318088 ∷ [])
     ∷ (606937216 ∷ 606937216 ∷ [])
@@ -165,6 +165,6 @@ unfolding computing
 both_ways = refl
 
 -- SET, TID, COUNT and LAUNCHTID read no register.
-pub plain-values : (x y : ℕ) → map (λ c. value c 7 5 19 3 2 x y) (SET ∷ TID ∷ COUNT ∷ LAUNCHTID ∷ []) ≡ 515 ∷ 5 ∷ 7 ∷ 19 ∷ []
+pub plain_values : (x y : ℕ) → map (λ c. value c 7 5 19 3 2 x y) (SET ∷ TID ∷ COUNT ∷ LAUNCHTID ∷ []) ≡ 515 ∷ 5 ∷ 7 ∷ 19 ∷ []
 unfolding computing
-plain-values x y = refl
+plain_values x y = refl

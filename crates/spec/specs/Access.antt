@@ -6,19 +6,19 @@ use Rattle.spec.specs.Word.{add}
 pub data Kind : Type 0 where
   load : Kind
   store : ℕ → Kind
-  atomicAdd : ℕ → Kind
+  atomic_add : ℕ → Kind
 
 -- "The kernel table", LOAD and STORE; item 1: what the access leaves in its cell, by what the cell held before. An add grows it modulo 2^32.
-unfoldable pub cellAfter : Kind → ℕ → ℕ
-cellAfter load old = old
-cellAfter (store v) old = v
-cellAfter (atomicAdd v) old = add old v
+unfoldable pub cell_after : Kind → ℕ → ℕ
+cell_after load old = old
+cell_after (store v) old = v
+cell_after (atomic_add v) old = add old v
 
 -- The thread's registers after the access, d being the row's byte d and `old` what the cell held. Only a load returns something.
-unfoldable pub registersAfter : Kind → (d old : ℕ) → List ℕ → List ℕ
-registersAfter load d old regs = set regs d old
-registersAfter (store v) d old regs = regs
-registersAfter (atomicAdd v) d old regs = regs
+unfoldable pub registers_after : Kind → (d old : ℕ) → List ℕ → List ℕ
+registers_after load d old regs = set regs d old
+registers_after (store v) d old regs = regs
+registers_after (atomic_add v) d old regs = regs
 
 -- What an access does to its cell, whatever the value.
 pub data Mode : Type 0 where
@@ -27,7 +27,7 @@ pub data Mode : Type 0 where
 unfoldable pub mode : Kind → Mode
 mode load = reads
 mode (store v) = writes
-mode (atomicAdd v) = adds
+mode (atomic_add v) = adds
 
 pub record Access : Type 0 where
   pub cell : ℕ
@@ -37,7 +37,7 @@ pub record Access : Type 0 where
 unfoldable pub value_of : Kind → ℕ
 value_of load = 0
 value_of (store v) = v
-value_of (atomicAdd v) = v
+value_of (atomic_add v) = v
 
 -- The conflict table, for two accesses of one cell by different threads. "The threads' own machine": they race if one of them at least is a store;
 -- item 1: an add races with a load or a store, but not with an add; item 6: stores of equal values don't race, `equal` telling whether they are.
@@ -58,5 +58,5 @@ unfoldable pub conflict : Access → Access → Bool
 conflict x y = eqb x.cell y.cell && not (agree (eqb (value_of x.kind) (value_of y.kind)) (mode x.kind) (mode y.kind))
 
 -- Item 7: that of two accesses of a global cell by threads of different groups. Equal stores conflict too.
-unfoldable pub groupConflict : Access → Access → Bool
-groupConflict x y = eqb x.cell y.cell && not (agree false (mode x.kind) (mode y.kind))
+unfoldable pub group_conflict : Access → Access → Bool
+group_conflict x y = eqb x.cell y.cell && not (agree false (mode x.kind) (mode y.kind))

@@ -20,68 +20,68 @@ pub use Rattle.spec.specs.declared.Value.{Value}
 pub use Rattle.spec.specs.declared.Details.{Details}
 
 -- "Turned back": the number of a refusal.
-unfoldable pub refusalNumber : Refusal → ℕ
-refusalNumber TableLength = 1
-refusalNumber (TooManyRows p) = 2
-refusalNumber (UnknownOp p) = 3
-refusalNumber (BadOperand p) = 4
-refusalNumber (Misplaced p) = 5
-refusalNumber (TooDeep p) = 6
-refusalNumber (LeftOpen p) = 7
-refusalNumber (ThreadsOutOfRange p) = 8
-refusalNumber (CellsOutOfRange p) = 9
-refusalNumber (LimitOutOfRange p) = 10
-refusalNumber (LineNotDue p) = 11
-refusalNumber FileTooLong = 12
-refusalNumber CellsLength = 20
-refusalNumber LogLength = 21
-refusalNumber (ReportTooLong p) = 22
-refusalNumber ReportLines = 23
-refusalNumber OutputLength = 24
-refusalNumber RecordsLength = 30
-refusalNumber (GroupsOutOfRange p) = 32
-refusalNumber (TooManyCells p) = 33
-refusalNumber (CommonFile p) = 37
+unfoldable pub refusal_number : Refusal → ℕ
+refusal_number TableLength = 1
+refusal_number (TooManyRows p) = 2
+refusal_number (UnknownOp p) = 3
+refusal_number (BadOperand p) = 4
+refusal_number (Misplaced p) = 5
+refusal_number (TooDeep p) = 6
+refusal_number (LeftOpen p) = 7
+refusal_number (ThreadsOutOfRange p) = 8
+refusal_number (CellsOutOfRange p) = 9
+refusal_number (LimitOutOfRange p) = 10
+refusal_number (LineNotDue p) = 11
+refusal_number FileTooLong = 12
+refusal_number CellsLength = 20
+refusal_number LogLength = 21
+refusal_number (ReportTooLong p) = 22
+refusal_number ReportLines = 23
+refusal_number OutputLength = 24
+refusal_number RecordsLength = 30
+refusal_number (GroupsOutOfRange p) = 32
+refusal_number (TooManyCells p) = 33
+refusal_number (CommonFile p) = 37
 
 -- "Turned back": its place. A line counts from 1, a row from 0; 0 stands where there is no place.
-unfoldable pub refusalPlace : Refusal → ℕ
-refusalPlace TableLength = 0
-refusalPlace (TooManyRows p) = p
-refusalPlace (UnknownOp p) = p
-refusalPlace (BadOperand p) = p
-refusalPlace (Misplaced p) = p
-refusalPlace (TooDeep p) = p
-refusalPlace (LeftOpen p) = p
-refusalPlace (ThreadsOutOfRange p) = p
-refusalPlace (CellsOutOfRange p) = p
-refusalPlace (LimitOutOfRange p) = p
-refusalPlace (LineNotDue p) = p
-refusalPlace FileTooLong = 0
-refusalPlace CellsLength = 0
-refusalPlace LogLength = 0
-refusalPlace (ReportTooLong p) = p
-refusalPlace ReportLines = 0
-refusalPlace OutputLength = 0
-refusalPlace RecordsLength = 0
-refusalPlace (GroupsOutOfRange p) = p
-refusalPlace (TooManyCells p) = p
-refusalPlace (CommonFile p) = p
+unfoldable pub refusal_place : Refusal → ℕ
+refusal_place TableLength = 0
+refusal_place (TooManyRows p) = p
+refusal_place (UnknownOp p) = p
+refusal_place (BadOperand p) = p
+refusal_place (Misplaced p) = p
+refusal_place (TooDeep p) = p
+refusal_place (LeftOpen p) = p
+refusal_place (ThreadsOutOfRange p) = p
+refusal_place (CellsOutOfRange p) = p
+refusal_place (LimitOutOfRange p) = p
+refusal_place (LineNotDue p) = p
+refusal_place FileTooLong = 0
+refusal_place CellsLength = 0
+refusal_place LogLength = 0
+refusal_place (ReportTooLong p) = p
+refusal_place ReportLines = 0
+refusal_place OutputLength = 0
+refusal_place RecordsLength = 0
+refusal_place (GroupsOutOfRange p) = p
+refusal_place (TooManyCells p) = p
+refusal_place (CommonFile p) = p
 
 -- A refusal as document 01 names it, by its number and place; and what an answer tells of one.
 unfoldable pub named : Refusal → ℕ × ℕ
-named r = (refusalNumber r, refusalPlace r)
+named r = (refusal_number r, refusal_place r)
 
 unfoldable pub told : Option Refusal → Option (ℕ × ℕ)
 told none = none
 told (some r) = some (named r)
 
-unfoldable pub toldBy : Answer → Option (ℕ × ℕ)
-toldBy (answer.Refused r) = some (named r)
-toldBy (answer.Ran o) = none
+unfoldable pub told_by : Answer → Option (ℕ × ℕ)
+told_by (answer.Refused r) = some (named r)
+told_by (answer.Ran o) = none
 
-unfoldable pub toldIn : Written → Option (ℕ × ℕ)
-toldIn (written.Refused r) = some (named r)
-toldIn (written.Wrote size) = none
+unfoldable pub told_in : Written → Option (ℕ × ℕ)
+told_in (written.Refused r) = some (named r)
+told_in (written.Wrote size) = none
 
 -- A test that is refused where it fails; and the first refusal of several tests, in their order.
 unfoldable pub unless : Bool → Refusal → Option Refusal
@@ -97,11 +97,11 @@ first [] = none
 first (x ∷ xs) = or_else x (first xs)
 
 -- Whether a verdict is passed.
-unfoldable pub isPassed : Verdict → Bool
-isPassed Passed = true
-isPassed (Race thread other kind at) = false
-isPassed (GroupRace thread group kind at) = false
-isPassed (Outside thread at) = false
-isPassed (Common thread at) = false
-isPassed (Diverged thread other) = false
-isPassed Spent = false
+unfoldable pub is_passed : Verdict → Bool
+is_passed Passed = true
+is_passed (Race thread other kind at) = false
+is_passed (GroupRace thread group kind at) = false
+is_passed (Outside thread at) = false
+is_passed (Common thread at) = false
+is_passed (Diverged thread other) = false
+is_passed Spent = false

@@ -4,30 +4,30 @@ use Rattle.std.proofs.Math.Option.{some}
 use Rattle.spec.specs.Answers.{Outcome, Answer, Written}
 use Rattle.spec.specs.declared.Answer.TheVariants as answer
 use Rattle.spec.specs.declared.Written.TheVariants as written
-use Rattle.spec.specs.Shape.{Sizes, allThreads}
-use Rattle.spec.specs.LaunchRun.{countedBarriers}
-use Rattle.spec.specs.AllRuns.{EveryRunEndsWell, countedInAll, PassedSays, Demand3}
+use Rattle.spec.specs.Shape.{Sizes, all_threads}
+use Rattle.spec.specs.LaunchRun.{counted_barriers}
+use Rattle.spec.specs.AllRuns.{EveryRunEndsWell, counted_in_all, PassedSays, Demand3}
 use Rattle.spec.specs.Launch.{Launch}
-use Rattle.spec.specs.LaunchFile.{Checked, accepted, fileLaunch}
-use Rattle.spec.specs.Reading.{beginsWith, numbersAt, Readable}
-use Rattle.spec.specs.Entries.{bareLaunch, subjectOf}
+use Rattle.spec.specs.LaunchFile.{Checked, accepted, file_launch}
+use Rattle.spec.specs.Reading.{begins_with, numbers_at, Readable}
+use Rattle.spec.specs.Entries.{bare_launch, subject_of}
 
 -- Of a launch, and what was answered and left of it.
 abbrev pub LaunchDemand3 : Launch → Outcome → (steps final : List ℕ) → Type 0
 LaunchDemand3 launch o steps final = Demand3 launch.table launch.sizes launch.cells launch.limit o steps final
 
 -- Of a bare launch: of the outcome that it answers, and of both kinds of cells and the step counts as the call leaves them. A refusal speaks of no run.
-abbrev pub BareDemand3 : (table : List ℕ) → Sizes → (limit : ℕ) → (lentCells lentGlobal : List ℕ) → Answer → (left leftGlobal counts : List ℕ) → Type 0
-BareDemand3 table Z limit lentCells lentGlobal (answer.Refused why) left leftGlobal counts = Unit {0}
-BareDemand3 table Z limit lentCells lentGlobal (answer.Ran o) left leftGlobal counts =
-    LaunchDemand3 (bareLaunch table Z limit lentCells lentGlobal) o (take (allThreads Z) counts) (left ++ leftGlobal)
+abbrev pub BareDemand3 : (table : List ℕ) → Sizes → (limit : ℕ) → (lent_cells lent_global : List ℕ) → Answer → (left left_global counts : List ℕ) → Type 0
+BareDemand3 table Z limit lent_cells lent_global (answer.Refused why) left left_global counts = Unit {0}
+BareDemand3 table Z limit lent_cells lent_global (answer.Ran o) left left_global counts =
+    LaunchDemand3 (bare_launch table Z limit lent_cells lent_global) o (take (all_threads Z) counts) (left ++ left_global)
 
 -- Every run of a launch ends well; each group's own cells at its counted barriers.
 abbrev pub RunsEndWell : Launch → Type 0
 RunsEndWell launch = EveryRunEndsWell launch.table launch.sizes launch.cells
 
-abbrev pub countedIn : Launch → List (List (List ℕ))
-countedIn launch = countedBarriers launch.table launch.sizes launch.cells launch.limit
+abbrev pub counted_in : Launch → List (List (List ℕ))
+counted_in launch = counted_barriers launch.table launch.sizes launch.cells launch.limit
 
 -- What a report that begins with `verdict=passed` says of its launch: every run ends well, and what its own lines say is what every run comes to.
 pub record PassedReport (launch : Launch) (report : List ℕ) : Type 0 where
@@ -35,32 +35,32 @@ pub record PassedReport (launch : Launch) (report : List ℕ) : Type 0 where
   pub barriers : ℕ
   pub own : List ℕ
   pub global : List ℕ
-  pub stepsLines : numbersAt "steps" report ≡ map some steps
-  pub barriersLine : numbersAt "barriers" report ≡ some barriers ∷ []
-  pub cellLines : numbersAt "cell" report ≡ map some own
-  pub gcellLines : numbersAt "gcell" report ≡ map some global
+  pub steps_lines : numbers_at "steps" report ≡ map some steps
+  pub barriers_line : numbers_at "barriers" report ≡ some barriers ∷ []
+  pub cell_lines : numbers_at "cell" report ≡ map some own
+  pub gcell_lines : numbers_at "gcell" report ≡ map some global
   pub runs : RunsEndWell launch
-  pub says : PassedSays launch.table launch.sizes launch.cells steps barriers (own ++ global) (countedIn launch)
+  pub says : PassedSays launch.table launch.sizes launch.cells steps barriers (own ++ global) (counted_in launch)
 
 -- Of the bytes of a report, of what was refused or accepted.
 pub record CheckedDemand3 (found : Checked Launch) (report : List ℕ) : Type 0 where
   -- where they begin with `verdict=passed`, a launch was accepted, and the report says this of it
-  pub passed : beginsWith "verdict=passed" report ≡ true → (launch : Launch) × (found ≡ accepted launch) × PassedReport launch report
+  pub passed : begins_with "verdict=passed" report ≡ true → (launch : Launch) × (found ≡ accepted launch) × PassedReport launch report
   -- where the launch is accepted and not spent, they begin so exactly when every run ends well
-  pub exactly : (launch : Launch) → found ≡ accepted launch → beginsWith "verdict=spent" report ≡ false
-      → beginsWith "verdict=passed" report ≡ true ↔ RunsEndWell launch
+  pub exactly : (launch : Launch) → found ≡ accepted launch → begins_with "verdict=spent" report ≡ false
+      → begins_with "verdict=passed" report ≡ true ↔ RunsEndWell launch
   -- there are as many counted barriers as the `barriers=` line says, and spent is said only where the `rows=` line says the limit
-  pub counted : (launch : Launch) → found ≡ accepted launch → numbersAt "barriers" report ≡ some (countedInAll (countedIn launch)) ∷ []
-  pub spent : (launch : Launch) → found ≡ accepted launch → beginsWith "verdict=spent" report ≡ true
-      → numbersAt "rows" report ≡ some launch.limit ∷ []
+  pub counted : (launch : Launch) → found ≡ accepted launch → numbers_at "barriers" report ≡ some (counted_in_all (counted_in launch)) ∷ []
+  pub spent : (launch : Launch) → found ≡ accepted launch → begins_with "verdict=spent" report ≡ true
+      → numbers_at "rows" report ≡ some launch.limit ∷ []
 
 -- Of a file's report.
 abbrev pub ReportDemand3 : (file report : List ℕ) → Type 0
-ReportDemand3 file report = CheckedDemand3 (fileLaunch file) report
+ReportDemand3 file report = CheckedDemand3 (file_launch file) report
 
 -- What a loader may go by in the report of a file.
 abbrev pub FileReadable : (file report : List ℕ) → Type 0
-FileReadable file report = Readable (subjectOf (fileLaunch file)) report
+FileReadable file report = Readable (subject_of (file_launch file)) report
 
 -- Of the report that an entry has written, which stands at the front of its output. A refusal has written none. (Answers for C: length 0.)
 abbrev pub OfWritten : (List ℕ → Type 0) → Written → (output : List ℕ) → Type 0

@@ -1,13 +1,13 @@
 -- The threads of all groups of a launch, moving in any order. Document 02, item 7. Assumes nothing.
 use Rattle.std.specs.Prelude.{◌≡◌, List, [], ◌∷◌, Bool, true, false, cond, not, ◌&&◌, ℕ, eqb, leb, ltb, length, get_or, set, replicate}
-use Rattle.spec.specs.Access.{Access, groupConflict}
+use Rattle.spec.specs.Access.{Access, group_conflict}
 use Rattle.spec.specs.Lists.{any_of, every}
 use Rattle.spec.specs.Table.{Table}
-use Rattle.spec.specs.Shape.{Sizes, shape_of, isGlobal}
+use Rattle.spec.specs.Shape.{Sizes, shape_of, is_global}
 use Rattle.spec.specs.Runs.{Machine}
-use Rattle.spec.specs.LaunchRun.{ownCells}
+use Rattle.spec.specs.LaunchRun.{own_cells}
 use Rattle.spec.specs.Threads as own
-use Rattle.spec.specs.Threads.{Thread, AccessRecord, emptyRecord, anyBelow, Group, initialThreads}
+use Rattle.spec.specs.Threads.{Thread, AccessRecord, empty_record, any_below, Group, initial_threads}
 
 -- What a group has for itself: its threads, their accesses since its last release, and all since the launch.
 pub record Part : Type 0 where
@@ -22,15 +22,15 @@ pub record Groups : Type 0 where
   pub bad : Bool
 
 unfoldable pub no_part : Part
-no_part = record { threads = []; made = emptyRecord; ever = emptyRecord }
+no_part = record { threads = []; made = empty_record; ever = empty_record }
 
 -- The group of this part has, anywhere in the launch, made an access that conflicts with a.
-unfoldable pub hasMet : Part → Access → Bool
-hasMet p a = anyBelow (length p.threads) (λ t. any_of (groupConflict a) (p.ever t))
+unfoldable pub has_met : Part → Access → Bool
+has_met p a = any_below (length p.threads) (λ t. any_of (group_conflict a) (p.ever t))
 
 -- An access by group g conflicts with one of another group. Own cells are out of other groups' reach.
-unfoldable pub barredTo : Sizes → List Part → (g : ℕ) → Access → Bool
-barredTo Z parts g a = isGlobal (shape_of Z g) a.cell && anyBelow (length parts) (λ h. not (eqb h g) && hasMet (get_or parts h no_part) a)
+unfoldable pub barred_to : Sizes → List Part → (g : ℕ) → Access → Bool
+barred_to Z parts g a = is_global (shape_of Z g) a.cell && any_below (length parts) (λ h. not (eqb h g) && has_met (get_or parts h no_part) a)
 
 -- Group g as its own machine has it; and the launch with group g as that leaves it.
 abbrev pub view : Sizes → Groups → (g : ℕ) → Group
@@ -41,37 +41,37 @@ view Z S g =
       cells = S.cells;
       made = part.made;
       ever = part.ever;
-      barred = barredTo Z S.parts g;
+      barred = barred_to Z S.parts g;
       bad = S.bad;
     }
 
 abbrev pub part_of : Group → Part
 part_of v = record { threads = v.threads; made = v.made; ever = v.ever }
 
-abbrev pub withGroup : Groups → (g : ℕ) → Group → Groups
-withGroup S g v = record { parts = set S.parts g (part_of v); cells = v.cells; bad = v.bad }
+abbrev pub with_group : Groups → (g : ℕ) → Group → Groups
+with_group S g v = record { parts = set S.parts g (part_of v); cells = v.cells; bad = v.bad }
 
 -- A move is a move of one group: a thread's row, or the group's release.
 pub data Move : Type 0 where
-  ofGroup : (g : ℕ) → own.Move → Move
+  of_group : (g : ℕ) → own.Move → Move
 
 unfoldable pub next : Table → Sizes → Groups → Move → Groups
-next T Z S (ofGroup g m) = withGroup S g (own.next T (shape_of Z g) (view Z S g) m)
+next T Z S (of_group g m) = with_group S g (own.next T (shape_of Z g) (view Z S g) m)
 
 unfoldable pub possible : Table → Sizes → Groups → Move → Bool
-possible T Z S (ofGroup g m) = ltb g Z.groups && own.possible T (shape_of Z g) (view Z S g) m
+possible T Z S (of_group g m) = ltb g Z.groups && own.possible T (shape_of Z g) (view Z S g) m
 
 -- The run has come to its end: all threads of all groups are at the table's end, and it has not ended badly.
-unfoldable pub partAtEnd : Table → Part → Bool
-partAtEnd T p = every (λ th. leb (length T) th.row) p.threads
+unfoldable pub part_at_end : Table → Part → Bool
+part_at_end T p = every (λ th. leb (length T) th.row) p.threads
 
-unfoldable pub atEnd : Table → Groups → Bool
-atEnd T S = not S.bad && every (partAtEnd T) S.parts
+unfoldable pub at_end : Table → Groups → Bool
+at_end T S = not S.bad && every (part_at_end T) S.parts
 
 -- An observer for each group, who is shown the group's own cells just before each of its releases.
 unfoldable pub shown : Sizes → (observer : ℕ) → Groups → Move → List (List ℕ)
-shown Z w S (ofGroup g (own.row t)) = []
-shown Z w S (ofGroup g own.release) = cond (eqb g w) (ownCells (shape_of Z g) S.cells ∷ []) []
+shown Z w S (of_group g (own.row t)) = []
+shown Z w S (of_group g own.release) = cond (eqb g w) (own_cells (shape_of Z g) S.cells ∷ []) []
 
 abbrev pub machine : Table → Sizes → Machine
 machine T Z =
@@ -83,13 +83,13 @@ machine T Z =
       Possible = λ S m. possible T Z S m ≡ true;
       next = next T Z;
       shows = shown Z;
-      Ended = λ S. atEnd T S ≡ true;
+      Ended = λ S. at_end T S ≡ true;
       Bad = λ S. S.bad ≡ true;
     }
 
 -- At the start the cells are the launch's, and no thread has moved.
-unfoldable pub initialPart : Table → Sizes → Part
-initialPart T Z = record { threads = initialThreads T Z.threads; made = emptyRecord; ever = emptyRecord }
+unfoldable pub initial_part : Table → Sizes → Part
+initial_part T Z = record { threads = initial_threads T Z.threads; made = empty_record; ever = empty_record }
 
-unfoldable pub initialGroups : Table → Sizes → (cells : List ℕ) → Groups
-initialGroups T Z cells = record { parts = replicate Z.groups (initialPart T Z); cells = cells; bad = false }
+unfoldable pub initial_groups : Table → Sizes → (cells : List ℕ) → Groups
+initial_groups T Z cells = record { parts = replicate Z.groups (initial_part T Z); cells = cells; bad = false }

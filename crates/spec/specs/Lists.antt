@@ -15,11 +15,11 @@ unfoldable pub passing : {A : Type 0} → (A → Bool) → List A → List A
 passing p [] = []
 passing p (x ∷ xs) = cond (p x) (x ∷ passing p xs) (passing p xs)
 
-unfoldable pub equalList : List ℕ → List ℕ → Bool
-equalList [] [] = true
-equalList [] (y ∷ ys) = false
-equalList (x ∷ xs) [] = false
-equalList (x ∷ xs) (y ∷ ys) = eqb x y && equalList xs ys
+unfoldable pub equal_list : List ℕ → List ℕ → Bool
+equal_list [] [] = true
+equal_list [] (y ∷ ys) = false
+equal_list (x ∷ xs) [] = false
+equal_list (x ∷ xs) (y ∷ ys) = eqb x y && equal_list xs ys
 
 -- Lists one behind the other.
 unfoldable pub joined : {A : Type 0} → List (List A) → List A
@@ -27,9 +27,9 @@ joined [] = []
 joined (xs ∷ xss) = xs ++ joined xss
 
 -- From place i on, f of the elements at whose place p holds; the others as they are.
-unfoldable pub mapWhere : {A : Type 0} → (p : ℕ → Bool) → (A → A) → (i : ℕ) → List A → List A
-mapWhere p f i [] = []
-mapWhere p f i (x ∷ xs) = cond (p i) (f x) x ∷ mapWhere p f (suc i) xs
+unfoldable pub map_where : {A : Type 0} → (p : ℕ → Bool) → (A → A) → (i : ℕ) → List A → List A
+map_where p f i [] = []
+map_where p f i (x ∷ xs) = cond (p i) (f x) x ∷ map_where p f (suc i) xs
 
 -- The last element; d where there is none.
 unfoldable pub last_of : {A : Type 0} → (d : A) → List A → A

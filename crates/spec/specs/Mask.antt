@@ -5,21 +5,21 @@ abbrev pub Mask : Type 0
 Mask = List Bool
 
 -- The mask as a word: bit t is thread t's.
-unfoldable pub maskWord : Mask → ℕ
-maskWord [] = 0
-maskWord (b ∷ m) = cond b 1 0 + 2 * maskWord m
+unfoldable pub mask_word : Mask → ℕ
+mask_word [] = 0
+mask_word (b ∷ m) = cond b 1 0 + 2 * mask_word m
 
 unfoldable pub has : Mask → ℕ → Bool
 has m t = get_or m t false
 
 -- The threads of a mask, lowest first, where its first is thread k.
-unfoldable pub membersFrom : ℕ → Mask → List ℕ
-membersFrom k [] = []
-membersFrom k (false ∷ m) = membersFrom (suc k) m
-membersFrom k (true ∷ m) = k ∷ membersFrom (suc k) m
+unfoldable pub members_from : ℕ → Mask → List ℕ
+members_from k [] = []
+members_from k (false ∷ m) = members_from (suc k) m
+members_from k (true ∷ m) = k ∷ members_from (suc k) m
 
 unfoldable pub members : Mask → List ℕ
-members m = membersFrom 0 m
+members m = members_from 0 m
 
 unfoldable pub any : Mask → Bool
 any [] = false

@@ -25,15 +25,15 @@ module _ (K L : Machine) where
   PairPossible s (inl m) = K.Possible s.0 m
   PairPossible s (inr m) = L.Possible s.1 m
 
-  abbrev pub pairNext : PairState → PairMove → PairState
-  pairNext s (inl m) = (K.next s.0 m, s.1)
-  pairNext s (inr m) = (s.0, L.next s.1 m)
+  abbrev pub pair_next : PairState → PairMove → PairState
+  pair_next s (inl m) = (K.next s.0 m, s.1)
+  pair_next s (inr m) = (s.0, L.next s.1 m)
 
-  abbrev pub pairShows : K.Observer ⊎ L.Observer → PairState → PairMove → List (K.Shown ⊎ L.Shown)
-  pairShows (inl w) s (inl m) = map inl (K.shows w s.0 m)
-  pairShows (inl w) s (inr m) = []
-  pairShows (inr w) s (inl m) = []
-  pairShows (inr w) s (inr m) = map inr (L.shows w s.1 m)
+  abbrev pub pair_shows : K.Observer ⊎ L.Observer → PairState → PairMove → List (K.Shown ⊎ L.Shown)
+  pair_shows (inl w) s (inl m) = map inl (K.shows w s.0 m)
+  pair_shows (inl w) s (inr m) = []
+  pair_shows (inr w) s (inl m) = []
+  pair_shows (inr w) s (inr m) = map inr (L.shows w s.1 m)
 
   -- A run of the pair has come to its end when both have; it has ended badly when one has. One that has makes no more moves; the other may go on.
   abbrev pub pair : Machine
@@ -44,8 +44,8 @@ module _ (K L : Machine) where
         Observer = K.Observer ⊎ L.Observer;
         Shown = K.Shown ⊎ L.Shown;
         Possible = PairPossible;
-        next = pairNext;
-        shows = pairShows;
+        next = pair_next;
+        shows = pair_shows;
         Ended = λ s. K.Ended s.0 × L.Ended s.1;
         Bad = λ s. K.Bad s.0 ⊎ L.Bad s.1;
       }

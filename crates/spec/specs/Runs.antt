@@ -31,9 +31,9 @@ module _ (K : Machine) where
   after s (m ∷ ms) = after (K.next s m) ms
 
   -- What an observer is shown in a run, in its order.
-  abbrev pub shownTo : K.Observer → K.State → List K.Move → List K.Shown
-  shownTo w s [] = []
-  shownTo w s (m ∷ ms) = K.shows w s m ++ shownTo w (K.next s m) ms
+  abbrev pub shown_to : K.Observer → K.State → List K.Move → List K.Shown
+  shown_to w s [] = []
+  shown_to w s (m ∷ ms) = K.shows w s m ++ shown_to w (K.next s m) ms
 
   -- No move can carry the run on.
   abbrev pub Halted : K.State → Type 0

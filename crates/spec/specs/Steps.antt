@@ -6,9 +6,9 @@ unfoldable pub stepped : (steps : List ℕ) → (t : ℕ) → List ℕ
 stepped steps t = set steps t (suc (get_or steps t 0))
 
 -- Each of these threads has.
-unfoldable pub allStepped : (steps threads : List ℕ) → List ℕ
-allStepped steps [] = steps
-allStepped steps (t ∷ ts) = allStepped (stepped steps t) ts
+unfoldable pub all_stepped : (steps threads : List ℕ) → List ℕ
+all_stepped steps [] = steps
+all_stepped steps (t ∷ ts) = all_stepped (stepped steps t) ts
 
 -- The steps of all threads together.
 unfoldable pub sum : List ℕ → ℕ

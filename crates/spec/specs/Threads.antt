@@ -2,11 +2,11 @@
 -- "The threads' own machine"; item 7. Assumes nothing.
 use Rattle.std.specs.Prelude.{◌≡◌, List, [], ◌∷◌, ◌++◌, map, Bool, true, false, cond, not, ◌&&◌, ◌||◌, ℕ, zero, suc, eqb, ltb, leb, length, get_or, set, replicate}
 use Rattle.spec.specs.Limits.{registers}
-use Rattle.spec.specs.Access.{Kind, Access, cellAfter, registersAfter, conflict}
-use Rattle.spec.specs.Lists.{any_of, every, equalList}
+use Rattle.spec.specs.Access.{Kind, Access, cell_after, registers_after, conflict}
+use Rattle.spec.specs.Lists.{any_of, every, equal_list}
 use Rattle.spec.specs.Op.{Op, CALC, Space, MEM, IF, ELSE, ENDIF, WHILE, ENDWHILE, BARRIER, UNKNOWN, value}
-use Rattle.spec.specs.Table.{Table, Row, row_at, cellByte, kind_of, end_of, else_of, start_of}
-use Rattle.spec.specs.Shape.{Shape, launchNumber, bound, address, Past, nowhere, loads, changes, past}
+use Rattle.spec.specs.Table.{Table, Row, row_at, cell_byte, kind_of, end_of, else_of, start_of}
+use Rattle.spec.specs.Shape.{Shape, launch_number, bound, address, Past, nowhere, loads, changes, past}
 use Rattle.spec.specs.Runs.{Machine}
 
 -- `loops` has a number for each row of the table. At a WHILE around the thread, or at the thread's own row, it is how often that WHILE was found true
@@ -45,23 +45,23 @@ unfoldable pub reach : Shape → Thread → Space → ℕ → Kind → ℕ → E
 reach L th p c k d = cond (ltb c (bound L p)) (accesses (address L p c) k d) (beyond th d (past L p c k))
 
 -- IF false goes to the row after ELSE, or to ENDIF where there is none.
-unfoldable pub onIf : Table → Thread → ℕ → Thread
-onIf T th zero = goto th (else_of T th.row)
-onIf T th (suc v) = goto th (suc th.row)
+unfoldable pub on_if : Table → Thread → ℕ → Thread
+on_if T th zero = goto th (else_of T th.row)
+on_if T th (suc v) = goto th (suc th.row)
 
 -- WHILE false goes to the row after ENDWHILE; found true, its count grows by 1.
-unfoldable pub onWhile : Table → Thread → ℕ → Thread
-onWhile T th zero = record { row = suc (end_of T th.row); regs = th.regs; loops = set th.loops th.row 0 }
-onWhile T th (suc v) = record { row = suc th.row; regs = th.regs; loops = set th.loops th.row (suc (get_or th.loops th.row 0)) }
+unfoldable pub on_while : Table → Thread → ℕ → Thread
+on_while T th zero = record { row = suc (end_of T th.row); regs = th.regs; loops = set th.loops th.row 0 }
+on_while T th (suc v) = record { row = suc th.row; regs = th.regs; loops = set th.loops th.row (suc (get_or th.loops th.row 0)) }
 
 -- The row's effect, by its op. ELSE goes to ENDIF; ENDIF to the next row; ENDWHILE to its WHILE. UNKNOWN is never come to in a table that is accepted.
 unfoldable pub effect_of : Table → Shape → ℕ → Thread → Row → Op → Effect
-effect_of T L t th x (CALC c) = goes (put th x.d (value c L.threads t (launchNumber L t) x.a x.b (reg th x.a) (reg th x.b)))
-effect_of T L t th x (MEM p m) = reach L th p (reg th (cellByte m x)) (kind_of m (reg th x.a)) x.d
-effect_of T L t th x IF = goes (onIf T th (reg th x.a))
+effect_of T L t th x (CALC c) = goes (put th x.d (value c L.threads t (launch_number L t) x.a x.b (reg th x.a) (reg th x.b)))
+effect_of T L t th x (MEM p m) = reach L th p (reg th (cell_byte m x)) (kind_of m (reg th x.a)) x.d
+effect_of T L t th x IF = goes (on_if T th (reg th x.a))
 effect_of T L t th x ELSE = goes (goto th (end_of T th.row))
 effect_of T L t th x ENDIF = goes (goto th (suc th.row))
-effect_of T L t th x WHILE = goes (onWhile T th (reg th x.a))
+effect_of T L t th x WHILE = goes (on_while T th (reg th x.a))
 effect_of T L t th x ENDWHILE = goes (goto th (start_of T th.row))
 effect_of T L t th x BARRIER = waits
 effect_of T L t th x UNKNOWN = waits
@@ -73,20 +73,20 @@ effect T L t th = cond (ltb th.row (length T)) (effect_of T L t th (row_at T th.
 abbrev pub AccessRecord : Type 0
 AccessRecord = ℕ → List Access
 
-unfoldable pub emptyRecord : AccessRecord
-emptyRecord t = []
+unfoldable pub empty_record : AccessRecord
+empty_record t = []
 
 -- The accesses xs of thread t recorded.
 unfoldable pub recorded : AccessRecord → ℕ → List Access → AccessRecord
 recorded R t xs u = cond (eqb u t) (xs ++ R u) (R u)
 
-unfoldable pub anyBelow : ℕ → (ℕ → Bool) → Bool
-anyBelow zero p = false
-anyBelow (suc n) p = p n || anyBelow n p
+unfoldable pub any_below : ℕ → (ℕ → Bool) → Bool
+any_below zero p = false
+any_below (suc n) p = p n || any_below n p
 
 -- Thread t's access x, of n threads, races: another thread has a record that conflicts with it.
 unfoldable pub races : ℕ → AccessRecord → ℕ → Access → Bool
-races n R t x = anyBelow n (λ u. not (eqb u t) && any_of (conflict x) (R u))
+races n R t x = any_below n (λ u. not (eqb u t) && any_of (conflict x) (R u))
 
 -- A group: its threads, the launch's cells, the accesses since the group's last release and all since the launch, and which accesses conflict with one
 -- that another group has made; `bad` once a run has ended badly.
@@ -99,72 +99,72 @@ pub record Group : Type 0 where
   pub bad : Bool
 
 -- At the start each thread is at row 0 with registers 0.
-unfoldable pub initialThreads : Table → (n : ℕ) → List Thread
-initialThreads T n = replicate n (record { row = 0; regs = replicate registers 0; loops = replicate (length T) 0 })
+unfoldable pub initial_threads : Table → (n : ℕ) → List Thread
+initial_threads T n = replicate n (record { row = 0; regs = replicate registers 0; loops = replicate (length T) 0 })
 
-unfoldable pub noThread : Thread
-noThread = record { row = 0; regs = []; loops = [] }
+unfoldable pub no_thread : Thread
+no_thread = record { row = 0; regs = []; loops = [] }
 
-unfoldable pub threadCount : Group → ℕ
-threadCount s = length s.threads
+unfoldable pub thread_count : Group → ℕ
+thread_count s = length s.threads
 
-unfoldable pub effectAt : Table → Shape → Group → ℕ → Effect
-effectAt T L s t = effect T L t (get_or s.threads t noThread)
+unfoldable pub effect_at : Table → Shape → Group → ℕ → Effect
+effect_at T L s t = effect T L t (get_or s.threads t no_thread)
 
 -- The accesses that an effect makes: one or none.
-unfoldable pub accessesOf : Effect → List Access
-accessesOf waits = []
-accessesOf (goes th) = []
-accessesOf strays = []
-accessesOf (accesses c k d) = record { cell = c; kind = k } ∷ []
+unfoldable pub accesses_of : Effect → List Access
+accesses_of waits = []
+accesses_of (goes th) = []
+accesses_of strays = []
+accesses_of (accesses c k d) = record { cell = c; kind = k } ∷ []
 
-unfoldable pub isOutside : Effect → Bool
-isOutside waits = false
-isOutside (goes th) = false
-isOutside strays = true
-isOutside (accesses c k d) = false
+unfoldable pub is_outside : Effect → Bool
+is_outside waits = false
+is_outside (goes th) = false
+is_outside strays = true
+is_outside (accesses c k d) = false
 
 -- A move ends the run badly: an access outside the cells, a store or an add to a common one, a race with a thread of the group, or one with another group.
-unfoldable pub endsBadly : Group → ℕ → Effect → Bool
-endsBadly s t x = isOutside x || any_of (λ a. races (threadCount s) s.made t a || s.barred a) (accessesOf x)
+unfoldable pub ends_badly : Group → ℕ → Effect → Bool
+ends_badly s t x = is_outside x || any_of (λ a. races (thread_count s) s.made t a || s.barred a) (accesses_of x)
 
-unfoldable pub markBad : Group → Group
-markBad s = record { threads = s.threads; cells = s.cells; made = s.made; ever = s.ever; barred = s.barred; bad = true }
+unfoldable pub mark_bad : Group → Group
+mark_bad s = record { threads = s.threads; cells = s.cells; made = s.made; ever = s.ever; barred = s.barred; bad = true }
 
 -- Otherwise the effect is made: on the thread, on the cells, and on the records.
-unfoldable pub threadAfter : Thread → List ℕ → Effect → Thread
-threadAfter th cells waits = th
-threadAfter th cells (goes h) = h
-threadAfter th cells strays = th
-threadAfter th cells (accesses c k d) = record { row = suc th.row; regs = registersAfter k d (get_or cells c 0) th.regs; loops = th.loops }
+unfoldable pub thread_after : Thread → List ℕ → Effect → Thread
+thread_after th cells waits = th
+thread_after th cells (goes h) = h
+thread_after th cells strays = th
+thread_after th cells (accesses c k d) = record { row = suc th.row; regs = registers_after k d (get_or cells c 0) th.regs; loops = th.loops }
 
-unfoldable pub cellsAfter : List ℕ → Effect → List ℕ
-cellsAfter cells waits = cells
-cellsAfter cells (goes h) = cells
-cellsAfter cells strays = cells
-cellsAfter cells (accesses c k d) = set cells c (cellAfter k (get_or cells c 0))
+unfoldable pub cells_after : List ℕ → Effect → List ℕ
+cells_after cells waits = cells
+cells_after cells (goes h) = cells
+cells_after cells strays = cells
+cells_after cells (accesses c k d) = set cells c (cell_after k (get_or cells c 0))
 
 unfoldable pub performed : Group → ℕ → Effect → Group
 performed s t x =
     record {
-      threads = set s.threads t (threadAfter (get_or s.threads t noThread) s.cells x);
-      cells = cellsAfter s.cells x;
-      made = recorded s.made t (accessesOf x);
-      ever = recorded s.ever t (accessesOf x);
+      threads = set s.threads t (thread_after (get_or s.threads t no_thread) s.cells x);
+      cells = cells_after s.cells x;
+      made = recorded s.made t (accesses_of x);
+      ever = recorded s.ever t (accesses_of x);
       barred = s.barred;
       bad = s.bad;
     }
 
 -- A release: all pass the BARRIER and the accesses are forgotten as far as the own group goes.
-unfoldable pub pastBarrier : Thread → Thread
-pastBarrier th = goto th (suc th.row)
+unfoldable pub past_barrier : Thread → Thread
+past_barrier th = goto th (suc th.row)
 
 unfoldable pub released : Group → Group
 released s =
     record {
-      threads = map pastBarrier s.threads;
+      threads = map past_barrier s.threads;
       cells = s.cells;
-      made = emptyRecord;
+      made = empty_record;
       ever = s.ever;
       barred = s.barred;
       bad = s.bad;
@@ -176,39 +176,39 @@ pub data Move : Type 0 where
   release : Move
 
 unfoldable pub next : Table → Shape → Group → Move → Group
-next T L s (row t) = cond (endsBadly s t (effectAt T L s t)) (markBad s) (performed s t (effectAt T L s t))
+next T L s (row t) = cond (ends_badly s t (effect_at T L s t)) (mark_bad s) (performed s t (effect_at T L s t))
 next T L s release = released s
 
-unfoldable pub isBarrier : Op → Bool
-isBarrier (CALC c) = false
-isBarrier (MEM p m) = false
-isBarrier IF = false
-isBarrier ELSE = false
-isBarrier ENDIF = false
-isBarrier WHILE = false
-isBarrier ENDWHILE = false
-isBarrier BARRIER = true
-isBarrier UNKNOWN = false
+unfoldable pub is_barrier : Op → Bool
+is_barrier (CALC c) = false
+is_barrier (MEM p m) = false
+is_barrier IF = false
+is_barrier ELSE = false
+is_barrier ENDIF = false
+is_barrier WHILE = false
+is_barrier ENDWHILE = false
+is_barrier BARRIER = true
+is_barrier UNKNOWN = false
 
 -- All threads wait at the same BARRIER row with equal loop counts.
-unfoldable pub atOneBarrier : Table → List Thread → Bool
-atOneBarrier T [] = false
-atOneBarrier T (x ∷ xs) = isBarrier (row_at T x.row).op && every (λ y. eqb y.row x.row && equalList y.loops x.loops) xs
+unfoldable pub at_one_barrier : Table → List Thread → Bool
+at_one_barrier T [] = false
+at_one_barrier T (x ∷ xs) = is_barrier (row_at T x.row).op && every (λ y. eqb y.row x.row && equal_list y.loops x.loops) xs
 
-unfoldable pub isWaiting : Effect → Bool
-isWaiting waits = true
-isWaiting (goes th) = false
-isWaiting strays = false
-isWaiting (accesses c k d) = false
+unfoldable pub is_waiting : Effect → Bool
+is_waiting waits = true
+is_waiting (goes th) = false
+is_waiting strays = false
+is_waiting (accesses c k d) = false
 
 -- Any thread not at BARRIER or the table's end may make the next move; a release is possible when all wait together. After a bad end no move is possible.
 unfoldable pub possible : Table → Shape → Group → Move → Bool
-possible T L s (row t) = not s.bad && (ltb t (threadCount s) && not (isWaiting (effectAt T L s t)))
-possible T L s release = not s.bad && atOneBarrier T s.threads
+possible T L s (row t) = not s.bad && (ltb t (thread_count s) && not (is_waiting (effect_at T L s t)))
+possible T L s release = not s.bad && at_one_barrier T s.threads
 
 -- The run has come to its end: all threads are at the table's end, and it has not ended badly.
-unfoldable pub atEnd : Table → Group → Bool
-atEnd T s = not s.bad && every (λ th. leb (length T) th.row) s.threads
+unfoldable pub at_end : Table → Group → Bool
+at_end T s = not s.bad && every (λ th. leb (length T) th.row) s.threads
 
 -- The one observer is shown the cells just before each release.
 unfoldable pub shown : Group → Move → List (List ℕ)
@@ -225,6 +225,6 @@ machine T L =
       Possible = λ s m. possible T L s m ≡ true;
       next = next T L;
       shows = λ w. shown;
-      Ended = λ s. atEnd T s ≡ true;
+      Ended = λ s. at_end T s ≡ true;
       Bad = λ s. s.bad ≡ true;
     }

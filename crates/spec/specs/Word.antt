@@ -42,5 +42,5 @@ equal x y = truth (eqb x y)
 abbrev pub less : ℕ → ℕ → ℕ
 less x y = truth (ltb x y)
 
-abbrev pub signedLess : ℕ → ℕ → ℕ
-signedLess x y = truth (lt_z (signed x) (signed y))
+abbrev pub signed_less : ℕ → ℕ → ℕ
+signed_less x y = truth (lt_z (signed x) (signed y))

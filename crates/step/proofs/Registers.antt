@@ -7,9 +7,9 @@ use Rattle.layout.specs.Memory.{Computed, KeptBut}
 use Rattle.layout.specs.Running.{RegsAfter}
 
 module _ (op n mask d a b : ℕ) (regs : List ℕ) where
-  pub regs-computed : (d' a' b' : ℕ) (regs' : List ℕ) → op < 16 → d' ≡ d → a' ≡ a → b' ≡ b → Computed op n mask d' a' b' regs regs'
+  pub regs_computed : (d' a' b' : ℕ) (regs' : List ℕ) → op < 16 → d' ≡ d → a' ≡ a → b' ≡ b → Computed op n mask d' a' b' regs regs'
       → RegsAfter op n mask d a b regs regs'
-  regs-computed d' a' b' regs' h ed ea eb C =
+  regs_computed d' a' b' regs' h ed ea eb C =
       record {
         computed = λ l. subst (λ x. Computed op n mask x a b regs regs') ed
             (subst (λ x. Computed op n mask d' x b regs regs') ea (subst (λ x. Computed op n mask d' a' x regs regs') eb C));
@@ -17,13 +17,13 @@ module _ (op n mask d a b : ℕ) (regs : List ℕ) where
         kept = λ l. absurd (omega arith);
       }
 
-  pub regs-accessed : (d' : ℕ) (regs' : List ℕ) → 16 ≤ op → op < 32 → d' ≡ d → KeptBut d' n regs regs' → RegsAfter op n mask d a b regs regs'
-  regs-accessed d' regs' h l ed K =
+  pub regs_accessed : (d' : ℕ) (regs' : List ℕ) → 16 ≤ op → op < 32 → d' ≡ d → KeptBut d' n regs regs' → RegsAfter op n mask d a b regs regs'
+  regs_accessed d' regs' h l ed K =
       record {
         computed = λ m. absurd (omega arith);
         accessed = λ k m. subst (λ x. KeptBut x n regs regs') ed K;
         kept = λ m. absurd (omega arith);
       }
 
-  pub regs-kept : 32 ≤ op → RegsAfter op n mask d a b regs regs
-  regs-kept h = record { computed = λ m. absurd (omega arith); accessed = λ k m. absurd (omega arith); kept = λ m. refl }
+  pub regs_kept : 32 ≤ op → RegsAfter op n mask d a b regs regs
+  regs_kept h = record { computed = λ m. absurd (omega arith); accessed = λ k m. absurd (omega arith); kept = λ m. refl }

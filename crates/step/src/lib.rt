@@ -1,16 +1,16 @@
 // The rows of a group over its own cells, by the kinds of their ops: computing rows, accesses, constructs and BARRIER.
 ghost use Rattle.std.specs.Prelude.{◌≡◌, ◌+◌, ◌*◌, ◌^◌, ◌<◌, ◌≤◌, length, get_or};
-ghost use Rattle.spec.specs.Limits.{logPerCell};
+ghost use Rattle.spec.specs.Limits.{log_per_cell};
 ghost use Rattle.layout.specs.declared.Next.TheVariants as next;
-ghost use Rattle.layout.specs.Constructs.{barrierNext, barrierLog};
-ghost use Rattle.layout.specs.Memory.{ComputeAsks, Computed, AccessAsks, InMemory, KeptBut, cellIn};
-ghost use Rattle.layout.specs.Represents.{Room, DepthAsks, movedOn, reached, accessed};
+ghost use Rattle.layout.specs.Constructs.{barrier_next, barrier_log};
+ghost use Rattle.layout.specs.Memory.{ComputeAsks, Computed, AccessAsks, InMemory, KeptBut, cell_in};
+ghost use Rattle.layout.specs.Represents.{Room, DepthAsks, moved_on, reached, accessed};
 ghost use Rattle.layout.specs.Running.{AccessDone};
 ghost use Rattle.layout.specs.Groups.{SharedAfter};
 ghost use Rattle.layout.specs.Counting.{Roomy, StepsOn};
 ghost use Rattle.banks.specs.Counting.{Older};
 ghost use Rattle.banks.specs.Remembering.{Memo};
-ghost use Rattle.intervals.specs.Records.{RecordAsks, recordsAfter};
+ghost use Rattle.intervals.specs.Records.{RecordAsks, records_after};
 ghost use Rattle.step.specs.Recording.{RowRecorded, paid};
 ghost use Rattle.step.specs.Arms.{OperandsAt, ConstructCounted};
 
@@ -50,7 +50,7 @@ pub fn compute_row(
     s: layout::State,
 ) -> layout::Next
     requires { Room s × (n ≤ 32) × (a < 256) × (b < 256) × ComputeAsks op d a b × (length regs.old ≡ 512) }
-    ensures { (result ≡ next.Go (movedOn s)) × Computed op n s.mask d a b regs.old regs.new }
+    ensures { (result ≡ next.Go (moved_on s)) × Computed op n s.mask d a b regs.old regs.new }
 {
     compute::compute_row(regs, n, s.mask, op, d, a, b);
     layout::Next::Go(constructs::moved(s))
@@ -114,7 +114,7 @@ pub fn access_row(
         × Older (s.rows + 1) stamps.old × Memo memo.old × RecordAsks (s.barriers + group) s.rows records.old }
     ensures { AccessDone op n d a s common.now regs.old cells.old log.old result
         regs.new cells.new log.new × KeptBut d n regs.old regs.new × StepsOn s result
-        × RowRecorded op n group (cellIn op d a regs.old) s result records.old records.new stamps.new memo.new }
+        × RowRecorded op n group (cell_in op d a regs.old) s result records.old records.new stamps.new memo.new }
 {
     let numbers = access::cell_register(op, d, a);
     let cost = banks::row_cost(
@@ -169,8 +169,8 @@ fn next_interval(
     z: layout::State,
 )
     requires { Room s × (group < 8) × RecordAsks (s.barriers + group) s.rows records.old × (s.rows ≤ z.rows) × (z.row ≤ 256)
-        × (length shared.old ≡ logPerCell * global) }
-    ensures { (records.new ≡ recordsAfter group 0 s (next.Go z) records.old)
+        × (length shared.old ≡ log_per_cell * global) }
+    ensures { (records.new ≡ records_after group 0 s (next.Go z) records.old)
         × SharedAfter s (next.Go z) shared.old shared.new }
 {
     if s.barriers < z.barriers {
@@ -190,11 +190,11 @@ pub fn barrier_row(
     group: u32,
     s: layout::State,
 ) -> layout::Next
-    requires { Room s × (1 ≤ n) × (n ≤ 32) × (group < 8) × (length log.old ≡ logPerCell * cells)
+    requires { Room s × (1 ≤ n) × (n ≤ 32) × (group < 8) × (length log.old ≡ log_per_cell * cells)
         × RecordAsks (s.barriers + group) s.rows records.old
-        × (length shared.old ≡ logPerCell * global) }
-    ensures { (result ≡ barrierNext n s) × (log.new ≡ barrierLog n s cells log.old)
-        × (records.new ≡ recordsAfter group 0 s result records.old)
+        × (length shared.old ≡ log_per_cell * global) }
+    ensures { (result ≡ barrier_next n s) × (log.new ≡ barrier_log n s cells log.old)
+        × (records.new ≡ records_after group 0 s result records.old)
         × SharedAfter s result shared.old shared.new }
 {
     match constructs::barrier_row(log, cells, n, s) {

@@ -11,31 +11,31 @@ use lib.Dec.{eqb}
 use lib.Pow.{field, mod-mod-pow, pow_mono, pow_pos}
 use lib.ListN.{length, get_or, set, length-set}
 use lib.Seq.{get_or-set_same, get_or-set_other}
-use Rattle.spec.proofs.Laws.{lt-or-le}
+use Rattle.spec.proofs.Laws.{lt_or_le}
 use Rattle.layout.specs.declared.State.{State}
-use Rattle.layout.specs.Represents.{withSince}
-use Rattle.layout.specs.Counting.{bit_of, steps_of, Roomy, Added, Settled, ownStep}
+use Rattle.layout.specs.Represents.{with_since}
+use Rattle.layout.specs.Counting.{bit_of, steps_of, Roomy, Added, Settled, own_step}
 
 -- A bit times a number.
-pub bit-zero : (b k : ℕ) → b ≡ 0 → b * k ≡ 0
-bit-zero b k e = ap (λ (x : ℕ). x * k) e ∙ (let z : 0 * k ≡ 0 = omega arith in z)
+pub bit_zero : (b k : ℕ) → b ≡ 0 → b * k ≡ 0
+bit_zero b k e = ap (λ (x : ℕ). x * k) e ∙ (let z : 0 * k ≡ 0 = omega arith in z)
 
-pub bit-one : (b k : ℕ) → b ≡ 1 → b * k ≡ k
-bit-one b k e = ap (λ (x : ℕ). x * k) e ∙ (let z : 1 * k ≡ k = omega arith in z)
+pub bit_one : (b k : ℕ) → b ≡ 1 → b * k ≡ k
+bit_one b k e = ap (λ (x : ℕ). x * k) e ∙ (let z : 1 * k ≡ k = omega arith in z)
 
-pub bit-add : (b j k : ℕ) → b < 2 → b * (j + k) ≡ b * j + b * k
-bit-add b j k h = by (ℕ_discrete b 0)
+pub bit_add : (b j k : ℕ) → b < 2 → b * (j + k) ≡ b * j + b * k
+bit_add b j k h = by (ℕ_discrete b 0)
   where
     by : Dec (b ≡ 0) → b * (j + k) ≡ b * j + b * k
-    by (yes e) = omega (arith, bit-zero b (j + k) e, bit-zero b j e, bit-zero b k e)
-    by (no n) = let o : b ≡ 1 = omega (arith, n) in omega (arith, bit-one b (j + k) o, bit-one b j o, bit-one b k o)
+    by (yes e) = omega (arith, bit_zero b (j + k) e, bit_zero b j e, bit_zero b k e)
+    by (no n) = let o : b ≡ 1 = omega (arith, n) in omega (arith, bit_one b (j + k) o, bit_one b j o, bit_one b k o)
 
-pub bit-most : (b k : ℕ) → b < 2 → b * k ≤ k
-bit-most b k h = by (ℕ_discrete b 0)
+pub bit_most : (b k : ℕ) → b < 2 → b * k ≤ k
+bit_most b k h = by (ℕ_discrete b 0)
   where
     by : Dec (b ≡ 0) → b * k ≤ k
-    by (yes e) = omega (arith, bit-zero b k e)
-    by (no n) = omega (arith, bit-one b k (omega (arith, n)))
+    by (yes e) = omega (arith, bit_zero b k e)
+    by (no n) = omega (arith, bit_one b k (omega (arith, n)))
 
 -- The first t counts are added to.
 pub record Adding (mask k : ℕ) (counts counts' : List ℕ) (t : ℕ) : Type 0 where
@@ -45,12 +45,12 @@ pub record Adding (mask k : ℕ) (counts counts' : List ℕ) (t : ℕ) : Type 0 
   pub rest : (j : ℕ) → t ≤ j → get_or counts' j 0 ≡ get_or counts j 0
 
 module _ (mask k : ℕ) (counts : List ℕ) where
-  pub adding-none : length counts ≡ 32 → Adding mask k counts counts 0
-  adding-none l = record { few = omega arith; size = l; done = λ j h. absurd (not-suc-le-zero h); rest = λ j h. refl }
+  pub adding_none : length counts ≡ 32 → Adding mask k counts counts 0
+  adding_none l = record { few = omega arith; size = l; done = λ j h. absurd (not-suc-le-zero h); rest = λ j h. refl }
 
   module _ (counts' : List ℕ) (t : ℕ) (A : Adding mask k counts counts' t) where
-    pub adding-more : t < 32 → Adding mask k counts (set counts' t (get_or counts' t 0 + bit_of mask t * k)) (t + 1)
-    adding-more h =
+    pub adding_more : t < 32 → Adding mask k counts (set counts' t (get_or counts' t 0 + bit_of mask t * k)) (t + 1)
+    adding_more h =
         record {
           few = omega arith;
           size = length-set counts' t _ ∙ A.size;
@@ -67,27 +67,27 @@ module _ (mask k : ℕ) (counts : List ℕ) where
             ∙ ap (λ (y : ℕ). y + bit_of mask t * k) (A.rest t (omega arith)) ∙ ap (steps_of mask k counts) (sym e)
         by j q (no n) = get_or-set_other counts' t j new 0 n ∙ A.done j (omega (arith, n))
 
-    pub adding-all : 32 ≤ t → Added mask k counts counts'
-    adding-all h = record { size = A.size; each = λ j l. A.done j (omega arith) }
+    pub adding_all : 32 ≤ t → Added mask k counts counts'
+    adding_all h = record { size = A.size; each = λ j l. A.done j (omega arith) }
 
     -- The next count has room.
-    pub adding-fits : Roomy mask k counts → t < 32 → get_or counts' t 0 + bit_of mask t * k < 4294967296
-    adding-fits r h = omega (arith, A.rest t (omega arith), r.each t h)
+    pub adding_fits : Roomy mask k counts → t < 32 → get_or counts' t 0 + bit_of mask t * k < 4294967296
+    adding_fits r h = omega (arith, A.rest t (omega arith), r.each t h)
 
 -- Nobody's steps.
-pub nobody-bit : (t : ℕ) → bit_of 0 t ≡ 0
-nobody-bit t = ap (λ (x : ℕ). x % 2) (zero-div (2 ^ t))
+pub nobody_bit : (t : ℕ) → bit_of 0 t ≡ 0
+nobody_bit t = ap (λ (x : ℕ). x % 2) (zero-div (2 ^ t))
 
-pub added-nobody : (k : ℕ) (counts : List ℕ) → length counts ≡ 32 → Added 0 k counts counts
-added-nobody k counts l =
-    record { size = l; each = λ t h. let z : get_or counts t 0 ≡ get_or counts t 0 + bit_of 0 t * k = omega (arith, bit-zero (bit_of 0 t) k (nobody-bit t)) in z }
+pub added_nobody : (k : ℕ) (counts : List ℕ) → length counts ≡ 32 → Added 0 k counts counts
+added_nobody k counts l =
+    record { size = l; each = λ t h. let z : get_or counts t 0 ≡ get_or counts t 0 + bit_of 0 t * k = omega (arith, bit_zero (bit_of 0 t) k (nobody_bit t)) in z }
 
 -- Room for as many is room for fewer.
-pub roomy-fewer : (mask j k : ℕ) (counts : List ℕ) → j ≤ k → Roomy mask k counts → Roomy mask j counts
-roomy-fewer mask j k counts h r =
+pub roomy_fewer : (mask j k : ℕ) (counts : List ℕ) → j ≤ k → Roomy mask k counts → Roomy mask j counts
+roomy_fewer mask j k counts h r =
     record {
       size = r.size;
-      each = λ t l. omega (arith, r.each t l, bit-add (bit_of mask t) j (k - j) (omega arith), ap (λ (i : ℕ). bit_of mask t * i) (let e : j + (k - j) ≡ k = omega arith in e));
+      each = λ t l. omega (arith, r.each t l, bit_add (bit_of mask t) j (k - j) (omega arith), ap (λ (i : ℕ). bit_of mask t * i) (let e : j + (k - j) ≡ k = omega arith in e));
     }
 
 -- Bits of a mask below thread t, and from t on.
@@ -100,16 +100,16 @@ pub high_bit : (m t j : ℕ) → t ≤ j → bit_of (m % 2 ^ t) j ≡ 0
 high_bit m t j h = ap (λ (x : ℕ). x % 2) (div-eq_of_lt (lt_of_lt_of_le (mod-lt m (pow_pos t)) (pow_mono {i = t} {j = j} h)))
 
 -- Room for a mask is room for those of it below a thread.
-pub roomy-below : (mask k t : ℕ) (counts : List ℕ) → Roomy mask k counts → Roomy (mask % 2 ^ t) k counts
-roomy-below mask k t counts r = record { size = r.size; each = λ j l. by j l (lt-or-le j t) }
+pub roomy_below : (mask k t : ℕ) (counts : List ℕ) → Roomy mask k counts → Roomy (mask % 2 ^ t) k counts
+roomy_below mask k t counts r = record { size = r.size; each = λ j l. by j l (lt_or_le j t) }
   where
     by : (j : ℕ) → j < 32 → (j < t) ⊎ (t ≤ j) → steps_of (mask % 2 ^ t) k counts j < 4294967296
     by j l (inl h) = subst (λ (b : ℕ). get_or counts j 0 + b * k < 4294967296) (sym (low_bit mask t j h)) (r.each j l)
-    by j l (inr h) = omega (arith, r.each j l, bit-zero (bit_of (mask % 2 ^ t) j) k (high_bit mask t j h))
+    by j l (inr h) = omega (arith, r.each j l, bit_zero (bit_of (mask % 2 ^ t) j) k (high_bit mask t j h))
 
-pub own-few : (op : ℕ) → ownStep op ≤ 1
-unfolding ownStep
-own-few op = by (eqb op 34)
+pub own_few : (op : ℕ) → own_step op ≤ 1
+unfolding own_step
+own_few op = by (eqb op 34)
   where
     by : (b : Bool) → cond b 1 0 ≤ 1
     by true = omega arith
@@ -119,25 +119,25 @@ own-few op = by (eqb op 34)
 pub settled_same : (op mask : ℕ) (s : State) (counts : List ℕ) → s.mask ≡ mask → 1 ≤ s.since → length counts ≡ 32 → Settled op mask s s counts counts
 settled_same op mask s counts e h l =
     record {
-      state-is = refl;
-      since-few = omega arith;
+      state_is = refl;
+      since_few = omega arith;
       size = l;
       each = λ t q. ap (λ (m : ℕ). steps_of m s.since counts t) e
-          ∙ (let z : steps_of mask s.since counts t ≡ steps_of mask (s.since - ownStep op) counts t + bit_of mask t * ownStep op =
+          ∙ (let z : steps_of mask s.since counts t ≡ steps_of mask (s.since - own_step op) counts t + bit_of mask t * own_step op =
           omega (
             arith,
-            bit-add (bit_of mask t) (s.since - ownStep op) (ownStep op) (omega arith),
-            ap (λ (i : ℕ). bit_of mask t * i) (let y : s.since - ownStep op + ownStep op ≡ s.since = omega (arith, own-few op) in y),
+            bit_add (bit_of mask t) (s.since - own_step op) (own_step op) (omega arith),
+            ap (λ (i : ℕ). bit_of mask t * i) (let y : s.since - own_step op + own_step op ≡ s.since = omega (arith, own_few op) in y),
           ) in z)
-          ∙ ap (λ (m : ℕ). steps_of mask (s.since - ownStep op) counts t + bit_of m t * ownStep op) (sym e);
+          ∙ ap (λ (m : ℕ). steps_of mask (s.since - own_step op) counts t + bit_of m t * own_step op) (sym e);
     }
 
-pub settled-added : (op mask own : ℕ) (s : State) (counts counts' : List ℕ) → own ≡ ownStep op → own ≤ s.since → Added mask (s.since - own) counts counts'
-    → Settled op mask s (withSince s own) counts counts'
-settled-added op mask own s counts counts' e h A =
+pub settled_added : (op mask own : ℕ) (s : State) (counts counts' : List ℕ) → own ≡ own_step op → own ≤ s.since → Added mask (s.since - own) counts counts'
+    → Settled op mask s (with_since s own) counts counts'
+settled_added op mask own s counts counts' e h A =
     record {
-      state-is = refl;
-      since-few = h;
+      state_is = refl;
+      since_few = h;
       size = A.size;
       each = λ t q. ap (λ (x : ℕ). x + bit_of s.mask t * own) (A.each t q)
           ∙ ap (λ (k : ℕ). steps_of mask (s.since - k) counts t + bit_of s.mask t * k) e;

@@ -14,111 +14,111 @@ use Rattle.layout.specs.declared.Access.TheVariants.{Done, Stop}
 use Rattle.layout.specs.declared.State.{State}
 use Rattle.layout.specs.declared.Next.{Next}
 use Rattle.layout.specs.declared.Next.TheVariants as next
-use Rattle.layout.specs.Represents.{Represents, After, goneOn, movedOn, withSince, reached, accessed}
-use Rattle.layout.specs.Memory.{holdingWord}
-use Rattle.layout.specs.Constructs.{ifState, elseState, endifState, whileDepth, leftState, whileState, endwhileState, constructState}
-use Rattle.layout.specs.Constructs.{ConstructDone, barrierNext, passedState, divergedNext}
-use Rattle.layout.specs.Counting.{bit_of, steps_of, ownStep, Settled, stepping, StepsOn, RowCounted, NextCounted}
+use Rattle.layout.specs.Represents.{Represents, After, gone_on, moved_on, with_since, reached, accessed}
+use Rattle.layout.specs.Memory.{holding_word}
+use Rattle.layout.specs.Constructs.{if_state, else_state, endif_state, while_depth, left_state, while_state, endwhile_state, construct_state}
+use Rattle.layout.specs.Constructs.{ConstructDone, barrier_next, passed_state, diverged_next}
+use Rattle.layout.specs.Counting.{bit_of, steps_of, own_step, Settled, stepping, StepsOn, RowCounted, NextCounted}
 use Rattle.layout.proofs.PlainRows.{stands_alike}
-use Rattle.stepcounts.proofs.Adding.{bit-add, bit-zero, nobody-bit}
+use Rattle.stepcounts.proofs.Adding.{bit_add, bit_zero, nobody_bit}
 
 -- One more step of a mask's threads.
 one_more : (mask k : ℕ) (counts : List ℕ) (t : ℕ) → steps_of mask (k + 1) counts t ≡ steps_of mask k counts t + bit_of mask t
-one_more mask k counts t = omega (arith, bit-add (bit_of mask t) k 1 (omega arith), (let z : bit_of mask t * 1 ≡ bit_of mask t = omega arith in z))
+one_more mask k counts t = omega (arith, bit_add (bit_of mask t) k 1 (omega arith), (let z : bit_of mask t * 1 ≡ bit_of mask t = omega arith in z))
 
 step_by : (op : ℕ) (s r : State) → (op ≡ 37 → ⊥) → (op ≡ 34 → ⊥) → stepping op s r ≡ s.mask
 unfolding stepping
 step_by op s r h k = rw (ne_eqb op 37 h, ne_eqb op 34 k)
 
 -- A computing row, and a row of accesses.
-pub counts-on : (op : ℕ) (s : State) (r : Next) (counts : List ℕ) → op < 32 → length counts ≡ 32 → StepsOn s r → NextCounted op s r counts counts
-counts-on op s (next.Go r) counts h l (em, es) =
+pub counts_on : (op : ℕ) (s : State) (r : Next) (counts : List ℕ) → op < 32 → length counts ≡ 32 → StepsOn s r → NextCounted op s r counts counts
+counts_on op s (next.Go r) counts h l (em, es) =
     record {
       size = l;
       each = λ t q. ap₂ (λ (m k : ℕ). steps_of m k counts t) em es ∙ one_more s.mask s.since counts t
           ∙ ap (λ (m : ℕ). steps_of s.mask s.since counts t + bit_of m t) (sym (step_by op s r (λ e. omega arith) (λ e. omega arith)));
     }
-counts-on op s (next.Stop r v) counts h l (em, es) = (em, es, refl)
+counts_on op s (next.Stop r v) counts h l (em, es) = (em, es, refl)
 
-pub moved_on : (s r : State) → r ≡ movedOn s → StepsOn s (next.Go r)
-moved_on s r e = (ap (λ x. x.mask) e, ap (λ x. x.since) e)
+pub moved_on_lem : (s r : State) → r ≡ moved_on s → StepsOn s (next.Go r)
+moved_on_lem s r e = (ap (λ x. x.mask) e, ap (λ x. x.since) e)
 
-pub accessed-on : (s : State) (g : ℕ) (a : Access) (r : Next) → r ≡ accessed (reached s g) a → StepsOn s r
-accessed-on s g Done r e = subst (StepsOn s) (sym e) (refl, refl)
-accessed-on s g (Stop v) r e = subst (StepsOn s) (sym e) (refl, refl)
+pub accessed_on : (s : State) (g : ℕ) (a : Access) (r : Next) → r ≡ accessed (reached s g) a → StepsOn s r
+accessed_on s g Done r e = subst (StepsOn s) (sym e) (refl, refl)
+accessed_on s g (Stop v) r e = subst (StepsOn s) (sym e) (refl, refl)
 
 -- BARRIER: nobody steps.
-barrier-step : (s r : State) → stepping 37 s r ≡ 0
+barrier_step : (s r : State) → stepping 37 s r ≡ 0
 unfolding stepping
-barrier-step s r = refl
+barrier_step s r = refl
 
-pub counts-barrier : (op n : ℕ) (s : State) (r : Next) (counts : List ℕ) → op ≡ 37 → length counts ≡ 32 → r ≡ barrierNext n s → NextCounted op s r counts counts
-unfolding barrierNext
-counts-barrier op n s r counts eo l e =
+pub counts_barrier : (op n : ℕ) (s : State) (r : Next) (counts : List ℕ) → op ≡ 37 → length counts ≡ 32 → r ≡ barrier_next n s → NextCounted op s r counts counts
+unfolding barrier_next
+counts_barrier op n s r counts eo l e =
     subst (λ k. NextCounted k s r counts counts) (sym eo) (subst (λ x. NextCounted 37 s x counts counts) (sym e) (by (eqb s.mask (2 ^ n - 1)) (ℕ_discrete s.mask 0)))
   where
     same : (m : ℕ) (t : ℕ) → steps_of m s.since counts t ≡ steps_of m s.since counts t + bit_of 0 t
-    same m t = omega (arith, nobody-bit t)
+    same m t = omega (arith, nobody_bit t)
 
-    by : (b : Bool) → Dec (s.mask ≡ 0) → NextCounted 37 s (cond b (next.Go (passedState s)) (cond (eqb s.mask 0) (next.Go (movedOn s)) (divergedNext n s))) counts counts
-    by true d = record { size = l; each = λ t q. same s.mask t ∙ ap (λ (m : ℕ). steps_of s.mask s.since counts t + bit_of m t) (sym (barrier-step s (passedState s))) }
+    by : (b : Bool) → Dec (s.mask ≡ 0) → NextCounted 37 s (cond b (next.Go (passed_state s)) (cond (eqb s.mask 0) (next.Go (moved_on s)) (diverged_next n s))) counts counts
+    by true d = record { size = l; each = λ t q. same s.mask t ∙ ap (λ (m : ℕ). steps_of s.mask s.since counts t + bit_of m t) (sym (barrier_step s (passed_state s))) }
     by false (yes z) =
         rw (eq-eqb s.mask 0 z)
         (record {
           size = l;
           each = λ t q. one_more s.mask s.since counts t
-              ∙ ap (λ (m : ℕ). steps_of s.mask s.since counts t + bit_of m t) (z ∙ sym (barrier-step s (movedOn s)));
+              ∙ ap (λ (m : ℕ). steps_of s.mask s.since counts t + bit_of m t) (z ∙ sym (barrier_step s (moved_on s)));
         })
     by false (no f) = rw (ne_eqb s.mask 0 f) (refl, refl, refl)
 
 -- A construct: one more step, under the old mask or, at an ENDIF, the new one.
-construct-since : (op a e : ℕ) (regs : List ℕ) (s : State) (saved openers : List ℕ) → (constructState op a e regs s saved openers).since ≡ s.since + 1
-unfolding constructState whileState
-construct-since op a e regs s saved openers =
-    let next : State = endwhileState openers s in
-    let loop : State = whileState a e regs s saved openers in
-    let stays : State = goneOn s (s.row + 1) (holdingWord s.mask a regs) (whileDepth s openers) in
-    let from-while = either (eqb op 35) loop next (either (eqb (holdingWord s.mask a regs) 0) (leftState e s saved openers) stays refl refl) refl in
-    let from-endif = either (eqb op 34) (endifState saved s) (cond (eqb op 35) loop next) refl from-while in
-    let from-else = either (eqb op 33) (elseState saved s) (cond (eqb op 34) (endifState saved s) (cond (eqb op 35) loop next)) refl from-endif in
-    either (eqb op 32) (ifState a regs s)
-    (cond (eqb op 33) (elseState saved s) (cond (eqb op 34) (endifState saved s) (cond (eqb op 35) loop next))) refl from-else
+construct_since : (op a e : ℕ) (regs : List ℕ) (s : State) (saved openers : List ℕ) → (construct_state op a e regs s saved openers).since ≡ s.since + 1
+unfolding construct_state while_state
+construct_since op a e regs s saved openers =
+    let next : State = endwhile_state openers s in
+    let loop : State = while_state a e regs s saved openers in
+    let stays : State = gone_on s (s.row + 1) (holding_word s.mask a regs) (while_depth s openers) in
+    let from-while = either (eqb op 35) loop next (either (eqb (holding_word s.mask a regs) 0) (left_state e s saved openers) stays refl refl) refl in
+    let from-endif = either (eqb op 34) (endif_state saved s) (cond (eqb op 35) loop next) refl from-while in
+    let from-else = either (eqb op 33) (else_state saved s) (cond (eqb op 34) (endif_state saved s) (cond (eqb op 35) loop next)) refl from-endif in
+    either (eqb op 32) (if_state a regs s)
+    (cond (eqb op 33) (else_state saved s) (cond (eqb op 34) (endif_state saved s) (cond (eqb op 35) loop next))) refl from-else
   where
     either : (b : Bool) (x y : State) → x.since ≡ s.since + 1 → y.since ≡ s.since + 1 → (cond b x y).since ≡ s.since + 1
     either true x y h k = h
     either false x y h k = k
 
-pub done-since : {op a e : ℕ} {regs : List ℕ} {s : State} {saved openers : List ℕ} {r : State} {saved' openers' : List ℕ}
+pub done_since : {op a e : ℕ} {regs : List ℕ} {s : State} {saved openers : List ℕ} {r : State} {saved' openers' : List ℕ}
     → ConstructDone op a e regs s saved openers r saved' openers' → r.since ≡ s.since + 1
-done-since {op} {a} {e} {regs} {s} {saved} {openers} D = ap (λ x. x.since) D.state-is ∙ construct-since op a e regs s saved openers
+done_since {op} {a} {e} {regs} {s} {saved} {openers} D = ap (λ x. x.since) D.state_is ∙ construct_since op a e regs s saved openers
 
-own_is : (op k : ℕ) → (op ≡ 34 → k ≡ 1) → ((op ≡ 34 → ⊥) → k ≡ 0) → ownStep op ≡ k
-unfolding ownStep
+own_is : (op k : ℕ) → (op ≡ 34 → k ≡ 1) → ((op ≡ 34 → ⊥) → k ≡ 0) → own_step op ≡ k
+unfolding own_step
 own_is op k h l = by (ℕ_discrete op 34)
   where
     by : Dec (op ≡ 34) → cond (eqb op 34) 1 0 ≡ k
     by (yes e) = rw (eq-eqb op 34 e) (sym (h e))
     by (no f) = rw (ne_eqb op 34 f) (sym (l f))
 
-endif-step : (op : ℕ) (s r : State) → op ≡ 34 → stepping op s r ≡ r.mask
+endif_step : (op : ℕ) (s r : State) → op ≡ 34 → stepping op s r ≡ r.mask
 unfolding stepping
-endif-step op s r e = rw (ne_eqb op 37 (λ z. omega arith), eq-eqb op 34 e)
+endif_step op s r e = rw (ne_eqb op 37 (λ z. omega arith), eq-eqb op 34 e)
 
-pub counts-construct : (op : ℕ) (s z r : State) (counts counts' : List ℕ) → op < 37 → z.since ≡ s.since + 1 → Settled op s.mask z r counts counts'
+pub counts_construct : (op : ℕ) (s z r : State) (counts counts' : List ℕ) → op < 37 → z.since ≡ s.since + 1 → Settled op s.mask z r counts counts'
     → NextCounted op s (next.Go r) counts counts'
-counts-construct op s z r counts counts' h e S =
-    record { size = S.size; each = λ t q. S.each t q ∙ ap (λ (k : ℕ). steps_of s.mask (k - ownStep op) counts t + bit_of z.mask t * ownStep op) e ∙ by t (ℕ_discrete op 34) }
+counts_construct op s z r counts counts' h e S =
+    record { size = S.size; each = λ t q. S.each t q ∙ ap (λ (k : ℕ). steps_of s.mask (k - own_step op) counts t + bit_of z.mask t * own_step op) e ∙ by t (ℕ_discrete op 34) }
   where
-    by : (t : ℕ) → Dec (op ≡ 34) → steps_of s.mask (s.since + 1 - ownStep op) counts t + bit_of z.mask t * ownStep op
+    by : (t : ℕ) → Dec (op ≡ 34) → steps_of s.mask (s.since + 1 - own_step op) counts t + bit_of z.mask t * own_step op
         ≡ steps_of s.mask s.since counts t + bit_of (stepping op s r) t
     by t (yes d) =
-        let own : ownStep op ≡ 1 = own_is op 1 (λ x. refl) (λ f. absurd (f d)) in
+        let own : own_step op ≡ 1 = own_is op 1 (λ x. refl) (λ f. absurd (f d)) in
         ap (λ (k : ℕ). steps_of s.mask (s.since + 1 - k) counts t + bit_of z.mask t * k) own
         ∙ ap₂ (λ (k b : ℕ). steps_of s.mask k counts t + b) (let y : s.since + 1 - 1 ≡ s.since = omega arith in y)
         (let y : bit_of z.mask t * 1 ≡ bit_of z.mask t = omega arith in y)
-        ∙ ap (λ (m : ℕ). steps_of s.mask s.since counts t + bit_of m t) (sym (endif-step op s r d ∙ ap (λ x. x.mask) S.state-is))
+        ∙ ap (λ (m : ℕ). steps_of s.mask s.since counts t + bit_of m t) (sym (endif_step op s r d ∙ ap (λ x. x.mask) S.state_is))
     by t (no f) =
-        let own : ownStep op ≡ 0 = own_is op 0 (λ x. absurd (f x)) (λ x. refl) in
+        let own : own_step op ≡ 0 = own_is op 0 (λ x. absurd (f x)) (λ x. refl) in
         ap (λ (k : ℕ). steps_of s.mask (s.since + 1 - k) counts t + bit_of z.mask t * k) own
         ∙ ap₂ (λ (k b : ℕ). steps_of s.mask k counts t + b) (let y : s.since + 1 - 0 ≡ s.since + 1 = omega arith in y)
         (let y : bit_of z.mask t * 0 ≡ 0 = omega arith in y)
@@ -127,13 +127,13 @@ counts-construct op s z r counts counts' h e S =
         ∙ ap (λ (m : ℕ). steps_of s.mask s.since counts t + bit_of m t) (sym (step_by op s r (λ x. omega arith) f))
 
 -- The state that was settled stands for what it stood for.
-pub after-settled : (n : ℕ) (o : Step) (z r : State) (regs cells log saved openers : List ℕ) → After n o (next.Go z) regs cells log saved openers
-    → r ≡ withSince z r.since → After n o (next.Go r) regs cells log saved openers
-after-settled n (continues y) z r regs cells log saved openers (u, f, R) e =
+pub after_settled : (n : ℕ) (o : Step) (z r : State) (regs cells log saved openers : List ℕ) → After n o (next.Go z) regs cells log saved openers
+    → r ≡ with_since z r.since → After n o (next.Go r) regs cells log saved openers
+after_settled n (continues y) z r regs cells log saved openers (u, f, R) e =
     let same : u ≡ z = cc in (
       r,
       refl,
-      subst (λ x. Represents n y x regs cells log saved openers) (ap (λ x. withSince x r.since) same ∙ sym e)
-          (stands_alike n y u regs cells log saved openers R u.reach r.since R.reach-is),
+      subst (λ x. Represents n y x regs cells log saved openers) (ap (λ x. with_since x r.since) same ∙ sym e)
+          (stands_alike n y u regs cells log saved openers R u.reach r.since R.reach_is),
     )
-after-settled n (stops v y) z r regs cells log saved openers (u, f, R) e = let q : ◌≡◌ {A = ℕ} 0 1 = cc in absurd (omega arith)
+after_settled n (stops v y) z r regs cells log saved openers (u, f, R) e = let q : ◌≡◌ {A = ℕ} 0 1 = cc in absurd (omega arith)

@@ -7,16 +7,16 @@ use lib.Dec.{leb}
 use Rattle.spec.specs.declared.Verdict.{Verdict}
 use Rattle.spec.specs.declared.Verdict.TheVariants.{Passed, Race, GroupRace, Outside, Common, Diverged, Spent}
 use Rattle.spec.specs.Access.{Kind}
-use Rattle.spec.specs.Mask.{Mask, members, membersFrom, any, full, lowest}
-use Rattle.spec.specs.Log.{conflictMask, raceKind}
-use Rattle.spec.specs.GroupLog.{groupRaceKind}
+use Rattle.spec.specs.Mask.{Mask, members, members_from, any, full, lowest}
+use Rattle.spec.specs.Log.{conflict_mask, race_kind}
+use Rattle.spec.specs.GroupLog.{group_race_kind}
 use Rattle.spec.specs.Op.{Op, Calc, CALC, Space, OWN, GLOBAL, Mem, MEM, IF, ELSE, ENDIF, WHILE, ENDWHILE, BARRIER, UNKNOWN}
 use Rattle.spec.specs.Shape.{Shape, Past, changes, loads, nowhere, past, bound, address}
-use Rattle.spec.specs.Table.{Table, Row, cellByte, kind_of}
-use Rattle.spec.specs.Steps.{stepped, allStepped}
-use Rattle.spec.specs.LockStep.{LockState, Step, continues, stops, and_then, in_turn, advance, setReg, computeTurn, madeAccess, enterGroup}
-use Rattle.spec.specs.LockStep.{rivals, tryAccess, pastTurn, accessTurn, update}
-use Rattle.spec.specs.LockStep.{reg, forEnabled, countSteps, topMask, ifRow, elseRow, endifRow, leaveOrStay, whileRow, endwhileRow, passBarrier, barrierRow}
+use Rattle.spec.specs.Table.{Table, Row, cell_byte, kind_of}
+use Rattle.spec.specs.Steps.{stepped, all_stepped}
+use Rattle.spec.specs.LockStep.{LockState, Step, continues, stops, and_then, in_turn, advance, set_reg, compute_turn, made_access, enter_group}
+use Rattle.spec.specs.LockStep.{rivals, try_access, past_turn, access_turn, update}
+use Rattle.spec.specs.LockStep.{reg, for_enabled, count_steps, top_mask, if_row, else_row, endif_row, leave_or_stay, while_row, endwhile_row, pass_barrier, barrier_row}
 use Rattle.spec.specs.LockStep.{run_row}
 
 -- The thread that stops a row of accesses.
@@ -41,20 +41,20 @@ pub record Before (ts : List ℕ) (s : LockState) (v : Verdict) (z : LockState) 
   pub rest : List ℕ
   pub all : ts ≡ acted ++ (at ∷ rest)
   pub stopper : StopsAt v at
-  pub counted : z.steps ≡ allStepped s.steps acted
+  pub counted : z.steps ≡ all_stepped s.steps acted
 
 abbrev pub Turned : List ℕ → LockState → Step → Type 0
-Turned ts s (continues z) = z.steps ≡ allStepped s.steps ts
+Turned ts s (continues z) = z.steps ≡ all_stepped s.steps ts
 Turned ts s (stops v z) = Before ts s v z
 
 module _ (f : LockState → ℕ → Step) (one : (s : LockState) (t : ℕ) → OneStep s t (f s t)) where
   turned : (ts : List ℕ) (s : LockState) → Turned ts s (in_turn f ts s)
-  unfolding in_turn allStepped
+  unfolding in_turn all_stepped
   turned [] s = refl
   turned (t ∷ ts) s = first (f s t) (one s t) (turned ts)
     where
       later : (z : LockState) → z.steps ≡ stepped s.steps t → (o : Step) → Turned ts z o → Turned (t ∷ ts) s o
-      later z e (continues y) h = h ∙ ap (λ x. allStepped x ts) e
+      later z e (continues y) h = h ∙ ap (λ x. all_stepped x ts) e
       later z e (stops v y) h =
           record {
             acted = t ∷ h.acted;
@@ -62,32 +62,32 @@ module _ (f : LockState → ℕ → Step) (one : (s : LockState) (t : ℕ) → O
             rest = h.rest;
             all = ap (λ x. t ∷ x) h.all;
             stopper = h.stopper;
-            counted = h.counted ∙ ap (λ x. allStepped x h.acted) e;
+            counted = h.counted ∙ ap (λ x. all_stepped x h.acted) e;
           }
 
       first : (o : Step) → OneStep s t o → ((z : LockState) → Turned ts z (in_turn f ts z)) → Turned (t ∷ ts) s (and_then o (in_turn f ts))
       first (continues z) e ih = unfold and_then in (later z e (in_turn f ts z) (ih z))
       first (stops v z) (w, e) ih = unfold and_then in (record { acted = []; at = t; rest = ts; all = refl; stopper = w; counted = e })
 
-  enabled-turned : (s : LockState) → Turned (members s.enabled) s (forEnabled f s)
-  unfolding forEnabled advance
-  enabled-turned s = by (in_turn f (members s.enabled) s) (turned (members s.enabled) s)
+  enabled_turned : (s : LockState) → Turned (members s.enabled) s (for_enabled f s)
+  unfolding for_enabled advance
+  enabled_turned s = by (in_turn f (members s.enabled) s) (turned (members s.enabled) s)
     where
       by : (o : Step) → Turned (members s.enabled) s o
           → Turned (members s.enabled) s (and_then o (λ z. continues (advance (suc z.row) z.enabled z.saved z)))
       by (continues z) e = unfold and_then in e
       by (stops v z) h = unfold and_then in h
 
-compute-one : (x : Row) (g : ℕ → ℕ → ℕ → ℕ) (s : LockState) (t : ℕ) → OneStep s t (computeTurn x g s t)
-unfolding computeTurn setReg
-compute-one x g s t = refl
+compute_one : (x : Row) (g : ℕ → ℕ → ℕ → ℕ) (s : LockState) (t : ℕ) → OneStep s t (compute_turn x g s t)
+unfolding compute_turn set_reg
+compute_one x g s t = refl
 
-access-one : (L : Shape) (p : Space) (m : Mem) (x : Row) (s : LockState) (t : ℕ) → OneStep s t (accessTurn L p m x s t)
-unfolding accessTurn tryAccess
-access-one L p m x s t = by (leb (bound L p) c) (any others) (any groups)
+access_one : (L : Shape) (p : Space) (m : Mem) (x : Row) (s : LockState) (t : ℕ) → OneStep s t (access_turn L p m x s t)
+unfolding access_turn try_access
+access_one L p m x s t = by (leb (bound L p) c) (any others) (any groups)
   where
     c : ℕ
-    c = reg s t (cellByte m x)
+    c = reg s t (cell_byte m x)
 
     i : ℕ
     i = address L p c
@@ -96,40 +96,40 @@ access-one L p m x s t = by (leb (bound L p) c) (any others) (any groups)
     k = kind_of m (reg s t x.a)
 
     others : Mask
-    others = conflictMask s.log i t k
+    others = conflict_mask s.log i t k
 
     groups : Mask
     groups = rivals p s L.group i k
 
-    entered : (p : Space) → (enterGroup p L.group i k (madeAccess s t x.d i k)).steps ≡ stepped s.steps t
-    entered OWN = unfold enterGroup madeAccess in refl
-    entered GLOBAL = unfold enterGroup madeAccess in refl
+    entered : (p : Space) → (enter_group p L.group i k (made_access s t x.d i k)).steps ≡ stepped s.steps t
+    entered OWN = unfold enter_group made_access in refl
+    entered GLOBAL = unfold enter_group made_access in refl
 
-    beyond : (q : Past) → OneStep s t (pastTurn s t x.d c q)
-    beyond nowhere = unfold pastTurn in (refl, refl)
-    beyond (loads v) = unfold pastTurn setReg update in refl
-    beyond changes = unfold pastTurn in (refl, refl)
+    beyond : (q : Past) → OneStep s t (past_turn s t x.d c q)
+    beyond nowhere = unfold past_turn in (refl, refl)
+    beyond (loads v) = unfold past_turn set_reg update in refl
+    beyond changes = unfold past_turn in (refl, refl)
 
-    by : (b o g : Bool) → OneStep s t (cond b (pastTurn s t x.d c (past L p c k))
-        (cond o (stops (Race t (lowest others) (raceKind s.log i (lowest others) k) c) s)
-        (cond g (stops (GroupRace t (lowest groups) (groupRaceKind s.groupLog i (lowest groups) k) c) s)
-        (continues (enterGroup p L.group i k (madeAccess s t x.d i k))))))
+    by : (b o g : Bool) → OneStep s t (cond b (past_turn s t x.d c (past L p c k))
+        (cond o (stops (Race t (lowest others) (race_kind s.log i (lowest others) k) c) s)
+        (cond g (stops (GroupRace t (lowest groups) (group_race_kind s.group_log i (lowest groups) k) c) s)
+        (continues (enter_group p L.group i k (made_access s t x.d i k))))))
     by true o g = beyond (past L p c k)
     by false true g = (refl, refl)
     by false false true = (refl, refl)
     by false false false = entered p
 
 -- The threads that step in a row that goes on.
-unfoldable pub whoSteps : Op → LockState → Mask
-whoSteps (CALC c) s = s.enabled
-whoSteps (MEM p m) s = s.enabled
-whoSteps IF s = s.enabled
-whoSteps ELSE s = s.enabled
-whoSteps ENDIF s = topMask s.saved
-whoSteps WHILE s = s.enabled
-whoSteps ENDWHILE s = s.enabled
-whoSteps BARRIER s = []
-whoSteps UNKNOWN s = []
+unfoldable pub who_steps : Op → LockState → Mask
+who_steps (CALC c) s = s.enabled
+who_steps (MEM p m) s = s.enabled
+who_steps IF s = s.enabled
+who_steps ELSE s = s.enabled
+who_steps ENDIF s = top_mask s.saved
+who_steps WHILE s = s.enabled
+who_steps ENDWHILE s = s.enabled
+who_steps BARRIER s = []
+who_steps UNKNOWN s = []
 
 -- A row that stops has stopped at one of its accesses, or at a BARRIER, where nobody steps.
 abbrev pub StoppedRow : LockState → Verdict → LockState → Type 0
@@ -142,45 +142,45 @@ StoppedRow s (Diverged t o) z = z.steps ≡ s.steps
 StoppedRow s Spent z = ⊥
 
 abbrev pub RowSteps : Op → LockState → Step → Type 0
-RowSteps o s (continues z) = z.steps ≡ allStepped s.steps (members (whoSteps o s))
+RowSteps o s (continues z) = z.steps ≡ all_stepped s.steps (members (who_steps o s))
 RowSteps o s (stops v z) = StoppedRow s v z
 
-stopped-row : (s : LockState) (v : Verdict) (z : LockState) → Before (members s.enabled) s v z → StoppedRow s v z
-stopped-row s Passed z h = h.stopper
-stopped-row s (Race t o k c) z h = h
-stopped-row s (GroupRace t h k c) z b = b
-stopped-row s (Outside t c) z h = h
-stopped-row s (Common t c) z h = h
-stopped-row s (Diverged t o) z h = absurd h.stopper
-stopped-row s Spent z h = h.stopper
+stopped_row : (s : LockState) (v : Verdict) (z : LockState) → Before (members s.enabled) s v z → StoppedRow s v z
+stopped_row s Passed z h = h.stopper
+stopped_row s (Race t o k c) z h = h
+stopped_row s (GroupRace t h k c) z b = b
+stopped_row s (Outside t c) z h = h
+stopped_row s (Common t c) z h = h
+stopped_row s (Diverged t o) z h = absurd h.stopper
+stopped_row s Spent z h = h.stopper
 
-pub row-steps : (T : Table) (L : Shape) (x : Row) (s : LockState) (o : Op) → RowSteps o s (run_row T L x s o)
-unfolding run_row whoSteps ifRow elseRow endifRow whileRow endwhileRow advance countSteps members allStepped membersFrom passBarrier
-row-steps T L x s (CALC c) = by (forEnabled _ s) (enabled-turned _ (compute-one x _) s)
+pub row_steps : (T : Table) (L : Shape) (x : Row) (s : LockState) (o : Op) → RowSteps o s (run_row T L x s o)
+unfolding run_row who_steps if_row else_row endif_row while_row endwhile_row advance count_steps members all_stepped members_from pass_barrier
+row_steps T L x s (CALC c) = by (for_enabled _ s) (enabled_turned _ (compute_one x _) s)
   where
     by : (o : Step) → Turned (members s.enabled) s o → RowSteps (CALC c) s o
     by (continues z) h = h
-    by (stops v z) h = stopped-row s v z h
-row-steps T L x s (MEM p m) = by (forEnabled _ s) (enabled-turned _ (access-one L p m x) s)
+    by (stops v z) h = stopped_row s v z h
+row_steps T L x s (MEM p m) = by (for_enabled _ s) (enabled_turned _ (access_one L p m x) s)
   where
     by : (o : Step) → Turned (members s.enabled) s o → RowSteps (MEM p m) s o
     by (continues z) h = h
-    by (stops v z) h = stopped-row s v z h
-row-steps T L x s IF = refl
-row-steps T L x s ELSE = refl
-row-steps T L x s ENDIF = refl
-row-steps T L x s WHILE = unfold leaveOrStay in (either (any _) _ _ refl refl)
+    by (stops v z) h = stopped_row s v z h
+row_steps T L x s IF = refl
+row_steps T L x s ELSE = refl
+row_steps T L x s ENDIF = refl
+row_steps T L x s WHILE = unfold leave_or_stay in (either (any _) _ _ refl refl)
   where
-    either : (b : Bool) (y z : LockState) → y.steps ≡ allStepped s.steps (members s.enabled) → z.steps ≡ allStepped s.steps (members s.enabled)
-        → (cond b y z).steps ≡ allStepped s.steps (members s.enabled)
+    either : (b : Bool) (y z : LockState) → y.steps ≡ all_stepped s.steps (members s.enabled) → z.steps ≡ all_stepped s.steps (members s.enabled)
+        → (cond b y z).steps ≡ all_stepped s.steps (members s.enabled)
     either true y z h k = h
     either false y z h k = k
-row-steps T L x s ENDWHILE = refl
-row-steps T L x s BARRIER = unfold barrierRow in (by (any s.enabled) (full s.enabled))
+row_steps T L x s ENDWHILE = refl
+row_steps T L x s BARRIER = unfold barrier_row in (by (any s.enabled) (full s.enabled))
   where
-    by : (b c : Bool) → RowSteps BARRIER s (cond b (cond c (continues (passBarrier L s)) (stops (Diverged (lowest s.enabled) (lowest (map not s.enabled))) s))
+    by : (b c : Bool) → RowSteps BARRIER s (cond b (cond c (continues (pass_barrier L s)) (stops (Diverged (lowest s.enabled) (lowest (map not s.enabled))) s))
         (continues (advance (suc s.row) s.enabled s.saved s)))
     by true true = refl
     by true false = refl
     by false c = refl
-row-steps T L x s UNKNOWN = refl
+row_steps T L x s UNKNOWN = refl

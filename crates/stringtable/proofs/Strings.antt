@@ -16,9 +16,9 @@ joined [] = []
 joined (s ∷ ss) = s ++ joined ss
 
 -- The start of each string, and the end of the last one. The first starts at `a`.
-unfoldable pub startsFrom : ℕ → List (List ℕ) → List ℕ
-startsFrom a [] = a ∷ []
-startsFrom a (s ∷ ss) = a ∷ startsFrom (a + length s) ss
+unfoldable pub starts_from : ℕ → List (List ℕ) → List ℕ
+starts_from a [] = a ∷ []
+starts_from a (s ∷ ss) = a ∷ starts_from (a + length s) ss
 
 abbrev pub part_of : (bytes : List ℕ) → (start end : ℕ) → List ℕ
 part_of bytes start end = take (end - start) (drop start bytes)
@@ -28,14 +28,14 @@ pub record IsPart (bytes : List ℕ) (start end : ℕ) (string : List ℕ) : Typ
   pub inside : end ≤ length bytes
   pub part : part_of bytes start end ≡ string
 
-pub part-size : {bytes string : List ℕ} {start end : ℕ} → IsPart bytes start end string → end - start ≡ length string
-part-size {bytes} {string} {start} {end} p =
+pub part_size : {bytes string : List ℕ} {start end : ℕ} → IsPart bytes start end string → end - start ≡ length string
+part_size {bytes} {string} {start} {end} p =
     sym (length-take-le (end - start) (drop start bytes) (simp length-drop (omega (arith, p.inside)))) ∙ ap length p.part
 
-first-start : (a : ℕ) (ss : List (List ℕ)) → get_or (startsFrom a ss) 0 0 ≡ a
-unfolding startsFrom
-first-start a [] = refl
-first-start a (s ∷ ss) = refl
+first_start : (a : ℕ) (ss : List (List ℕ)) → get_or (starts_from a ss) 0 0 ≡ a
+unfolding starts_from
+first_start a [] = refl
+first_start a (s ∷ ss) = refl
 
 between : (front s rest : List ℕ) → IsPart (front ++ (s ++ rest)) (length front) (length front + length s) s
 between front s rest =
@@ -48,22 +48,22 @@ between front s rest =
 
 -- The strings, behind some bytes.
 behind : (front : List ℕ) (ss : List (List ℕ)) (i : ℕ) → i < length ss
-    → IsPart (front ++ joined ss) (get_or (startsFrom (length front) ss) i 0) (get_or (startsFrom (length front) ss) (suc i) 0) (get_or ss i [])
-unfolding joined startsFrom
+    → IsPart (front ++ joined ss) (get_or (starts_from (length front) ss) i 0) (get_or (starts_from (length front) ss) (suc i) 0) (get_or ss i [])
+unfolding joined starts_from
 behind front [] i h = absurd (omega arith)
-behind front (s ∷ ss) zero h = rw (first-start (length front + length s) ss) (between front s (joined ss))
+behind front (s ∷ ss) zero h = rw (first_start (length front + length s) ss) (between front s (joined ss))
 behind front (s ∷ ss) (suc i) h = rw (← append_assoc front s (joined ss), ← length-append front s) (behind (front ++ s) ss i (omega arith))
 
-pub string-at : (ss : List (List ℕ)) (i : ℕ) → i < length ss
-    → IsPart (joined ss) (get_or (startsFrom 0 ss) i 0) (get_or (startsFrom 0 ss) (i + 1) 0) (get_or ss i [])
-string-at ss i h = rw (add-one i) (behind [] ss i h)
+pub string_at : (ss : List (List ℕ)) (i : ℕ) → i < length ss
+    → IsPart (joined ss) (get_or (starts_from 0 ss) i 0) (get_or (starts_from 0 ss) (i + 1) 0) (get_or ss i [])
+string_at ss i h = rw (add-one i) (behind [] ss i h)
 
 -- A bound that every string of a table keeps to.
-unfoldable pub isWithin : ℕ → List ℕ → Bool
-isWithin n s = leb (length s) n
+unfoldable pub is_within : ℕ → List ℕ → Bool
+is_within n s = leb (length s) n
 
-pub at_most : (n : ℕ) (ss : List (List ℕ)) (i : ℕ) → every (isWithin n) ss ≡ true → length (get_or ss i []) ≤ n
-unfolding every isWithin
+pub at_most : (n : ℕ) (ss : List (List ℕ)) (i : ℕ) → every (is_within n) ss ≡ true → length (get_or ss i []) ≤ n
+unfolding every is_within
 at_most n [] i e = omega arith
 at_most n (s ∷ ss) zero e = leb-true (length s) n ((and-eq-true_iff _ _).0 e).0
 at_most n (s ∷ ss) (suc i) e = at_most n ss i ((and-eq-true_iff (leb (length s) n) _).0 e).1

@@ -2,7 +2,7 @@
 use Rattle.std.proofs.Math.Option.{Option, none, some}
 use Rattle.std.specs.Prelude.{List, cond, ◌&&◌, ℕ, ltb}
 use Rattle.spec.specs.Lists.{every}
-use Rattle.spec.specs.Text.{isDigit, digitsValue}
+use Rattle.spec.specs.Text.{is_digit, digits_value}
 use Rattle.text.specs.declared.Number.{Number}
 use Rattle.text.specs.declared.Number.TheVariants.{Value, Bad}
 
@@ -11,5 +11,5 @@ number_of (Value v) = some v
 number_of Bad = none
 
 -- Digits alone, put behind a value so far; leading zeros are not looked at.
-unfoldable pub digitsBelow : (bound sofar : ℕ) → List ℕ → Option ℕ
-digitsBelow bound sofar bs = cond (every isDigit bs && ltb (digitsValue sofar bs) bound) (some (digitsValue sofar bs)) none
+unfoldable pub digits_below : (bound sofar : ℕ) → List ℕ → Option ℕ
+digits_below bound sofar bs = cond (every is_digit bs && ltb (digits_value sofar bs) bound) (some (digits_value sofar bs)) none

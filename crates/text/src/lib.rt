@@ -1,9 +1,9 @@
 // Parts of a text at a first byte, equal texts, and numbers in base ten. A part is a slice of the text itself.
 ghost use Rattle.std.specs.Prelude.{◌≡◌, ◌+◌, ◌≤◌, ◌^◌, length, drop};
-ghost use Rattle.spec.specs.Text.{numberBelow};
-ghost use Rattle.spec.specs.Lists.{equalList};
+ghost use Rattle.spec.specs.Text.{number_below};
+ghost use Rattle.spec.specs.Lists.{equal_list};
 ghost use Rattle.text.specs.Parts.{First};
-ghost use Rattle.text.specs.Numbers.{number_of, digitsBelow};
+ghost use Rattle.text.specs.Numbers.{number_of, digits_below};
 
 // A number below a bound, or none.
 #[derive(Drop)]
@@ -42,7 +42,7 @@ pub fn behind<'a, 'b>(s: &'a [u8], front: &'b [u8]) -> &'a [u8]
 
 // Whether two texts are equal.
 pub fn same(s: &[u8], key: &[u8]) -> bool
-    ensures { result ≡ equalList s.now key.now }
+    ensures { result ≡ equal_list s.now key.now }
 {
     if s.len() != key.len() {
         return false;
@@ -66,7 +66,7 @@ fn wide(b: u8) -> u64
 // The value of digits, where it is below the bound. It stops at the bound, so that no value is too large for a u64.
 fn digits(s: &[u8], bound: u64) -> Number
     requires { (1 ≤ bound) × (bound ≤ 2 ^ 32) }
-    ensures { digitsBelow bound 0 s.now ≡ number_of result }
+    ensures { digits_below bound 0 s.now ≡ number_of result }
 {
     let mut value: u64 = 0;
     let mut i = 0;
@@ -90,7 +90,7 @@ fn digits(s: &[u8], bound: u64) -> Number
 // A number without leading zeros, where it is below the bound.
 pub fn number_below(s: &[u8], bound: u64) -> Number
     requires { (1 ≤ bound) × (bound ≤ 2 ^ 32) }
-    ensures { numberBelow bound s.now ≡ number_of result }
+    ensures { number_below bound s.now ≡ number_of result }
 {
     if s.len() == 0 {
         return Number::Bad;

@@ -11,7 +11,7 @@ pub struct InLaunch {
     pub number: u32,
 }
 
-// `Shape.launchNumber`. A lane behind the group's last thread has a number too, so that a computing row needs no test.
+// `Shape.launch_number`. A lane behind the group's last thread has a number too, so that a computing row needs no test.
 pub fn in_launch(group: u32, threads: u32, t: InGroup) -> InLaunch
     requires { (group < 8) × (threads ≤ 32) × (t.number < 32) }
     ensures { (result.number ≡ group * threads + t.number) × (result.number < 256) }

@@ -1,6 +1,6 @@
 // Which threads find a register true.
 ghost use Rattle.std.specs.Prelude.{◌≡◌, ◌<◌};
-ghost use Rattle.layout.specs.Memory.{ZerosAre, holdingWord};
+ghost use Rattle.layout.specs.Memory.{ZerosAre, holding_word};
 
 // The lanes in which register a is 0, as a word: a straight loop over all 32.
 fn zero_lanes(regs: &[u32; 512], a: usize) -> u32
@@ -21,7 +21,7 @@ fn zero_lanes(regs: &[u32; 512], a: usize) -> u32
 // Those of the mask whose register a is nonzero.
 pub fn holding(regs: &[u32; 512], mask: u32, a: usize) -> u32
     requires { a < 16 }
-    ensures { result ≡ holdingWord mask a regs.now }
+    ensures { result ≡ holding_word mask a regs.now }
 {
     masks::minus(mask, zero_lanes(regs, a))
 }

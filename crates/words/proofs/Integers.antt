@@ -15,15 +15,15 @@ use mir.ValLaws.{to_z_pos, to_z-of_z}
 use Rattle.spec.specs.Word.{signed, unsigned}
 
 -- A product of two words fits 64 bits.
-pub product-fits : {a b : ℕ} → a < 2 ^ 32 → b < 2 ^ 32 → a * b < 2 ^ 64
-product-fits {a} {b} ha hb = lt_of_le_of_lt (mul-le-mul_left a (le_of_lt hb)) (mul-lt-mul_of_pos_right ha (pow_pos 32))
+pub product_fits : {a b : ℕ} → a < 2 ^ 32 → b < 2 ^ 32 → a * b < 2 ^ 64
+product_fits {a} {b} ha hb = lt_of_le_of_lt (mul-le-mul_left a (le_of_lt hb)) (mul-lt-mul_of_pos_right ha (pow_pos 32))
 
-sel-cond : (b : Bool) (x y : ℤ) → sel b x y ≡ cond b x y
-sel-cond true x y = refl
-sel-cond false x y = refl
+sel_cond : (b : Bool) (x y : ℤ) → sel b x y ≡ cond b x y
+sel_cond true x y = refl
+sel_cond false x y = refl
 
 pub signed_is : (x : ℕ) → to_z w32 x ≡ signed x
-signed_is x = sel-cond (ltb x (2 ^ 31)) (pos x) (negsuc (2 ^ 32 - suc x))
+signed_is x = sel_cond (ltb x (2 ^ 31)) (pos x) (negsuc (2 ^ 32 - suc x))
 
 -- A number below 2 ^ 31 that z or its flipped bits read as, and that gives the word of z.
 pub record Negative (z : ℤ) : Type 0 where

@@ -1,6 +1,6 @@
 // The ops that compute, on words of 32 bits.
 ghost use Rattle.std.specs.Prelude.{◌≡◌};
-ghost use Rattle.spec.specs.Word.{add, sub, mul, shr, sar, equal, less, signedLess, signed, unsigned};
+ghost use Rattle.spec.specs.Word.{add, sub, mul, shr, sar, equal, less, signed_less, signed, unsigned};
 
 // Sums, differences and products are taken in 64 bits, where none wraps.
 pub fn add(x: u32, y: u32) -> u32
@@ -68,7 +68,7 @@ pub fn lt(x: u32, y: u32) -> u32
 }
 
 pub fn slt(x: u32, y: u32) -> u32
-    ensures { result ≡ signedLess x y }
+    ensures { result ≡ signed_less x y }
 {
     if signed(x) < signed(y) { 1 } else { 0 }
 }

@@ -5,10 +5,10 @@ use mathlib.Core.List.{List, [], ◌∷◌, ◌++◌, map}
 use lib.ListN.{replicate}
 use Rattle.spec.proofs.Lines.{lines}
 use Rattle.spec.proofs.Computing.{computing}
-use Rattle.workedlaunches.proofs.Worked.{Worked, computed, expected, finalLog}
+use Rattle.workedlaunches.proofs.Worked.{Worked, computed, expected, final_log}
 
-unfoldable pub addExamples : List Worked
-addExamples =
+unfoldable pub add_examples : List Worked
+add_examples =
     -- two threads add R2, which is 10 + t, to cell R1, which is cell 4; then R1 and R2 are stored, as they were
     record {
       file = lines "kernel=1/threads=2/cells=5/groups=1/global=0/limit=100/rows=9"
@@ -230,6 +230,6 @@ addExamples =
     ∷ record { file = lines "kernel=1/threads=1/cells=1/groups=1/global=0/limit=1/rows=1/row=23,0,0,0/cell=0/end=kernel"; report = lines "refused=3/place=0/end=report"; log = [] }
     ∷ []
 
-pub worked-adds : map computed addExamples ≡ map expected addExamples
-unfolding computing computed expected finalLog addExamples
-worked-adds = refl
+pub worked_adds : map computed add_examples ≡ map expected add_examples
+unfolding computing computed expected final_log add_examples
+worked_adds = refl

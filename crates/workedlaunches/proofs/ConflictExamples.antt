@@ -4,13 +4,13 @@ use mathlib.Core.Path.{◌≡◌, refl}
 use mathlib.Core.List.{List, [], ◌∷◌, ◌++◌, map}
 use Prim.Native.Nat.{ℕ}
 use lib.ListN.{replicate}
-use Rattle.spec.specs.LaunchFile.{fileLaunch}
+use Rattle.spec.specs.LaunchFile.{file_launch}
 use Rattle.spec.proofs.Lines.{lines}
 use Rattle.spec.proofs.Computing.{computing}
-use Rattle.workedlaunches.proofs.Worked.{Worked, computed, expected, finalLog, finalRecords}
+use Rattle.workedlaunches.proofs.Worked.{Worked, computed, expected, final_log, final_records}
 
-unfoldable pub conflictExamples : List Worked
-conflictExamples =
+unfoldable pub conflict_examples : List Worked
+conflict_examples =
     -- LOAD by four threads, STORE by three and ATOMIC ADD by two, at cells 16 apart: 3, 2 and 1, each in an interval of its own
     record {
       file = lines "kernel=1/threads=4/cells=49/groups=1/global=0/limit=100/rows=14/row=2,0,0,0/row=1,1,16,0/row=6,2,0,1/row=16,3,2,0/row=37,0,0,0/row=32,0,0,0/row=17,2,0,0"
@@ -146,8 +146,8 @@ conflictExamples =
     ∷ []
 
 -- The words of the records of each of them: start, rows and cost of each interval.
-unfoldable pub conflictRecords : List (List ℕ)
-conflictRecords =
+unfoldable pub conflict_records : List (List ℕ)
+conflict_records =
     (0 ∷ 5 ∷ 3 ∷ 5 ∷ 4 ∷ 2 ∷ 9 ∷ 5 ∷ 1 ∷ [])
     ∷ (0 ∷ 6 ∷ 1 ∷ [])
     ∷ (0 ∷ 5 ∷ 0 ∷ 5 ∷ 3 ∷ 1 ∷ 8 ∷ 4 ∷ 0 ∷ 12 ∷ 1 ∷ 0 ∷ [])
@@ -165,10 +165,10 @@ conflictRecords =
     ∷ (0 ∷ 8 ∷ 1 ∷ 8 ∷ 2 ∷ 0 ∷ 10 ∷ 4 ∷ 1 ∷ 8 ∷ 2 ∷ 0 ∷ 10 ∷ 3 ∷ 1 ∷ [])
     ∷ []
 
-pub worked-conflicts : map computed conflictExamples ≡ map expected conflictExamples
-unfolding computing computed expected finalLog conflictExamples
-worked-conflicts = refl
+pub worked_conflicts : map computed conflict_examples ≡ map expected conflict_examples
+unfolding computing computed expected final_log conflict_examples
+worked_conflicts = refl
 
-pub worked-records : map (λ x. finalRecords (fileLaunch x.file)) conflictExamples ≡ conflictRecords
-unfolding computing finalRecords conflictExamples conflictRecords
-worked-records = refl
+pub worked_records : map (λ x. final_records (file_launch x.file)) conflict_examples ≡ conflict_records
+unfolding computing final_records conflict_examples conflict_records
+worked_records = refl

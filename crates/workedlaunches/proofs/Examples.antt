@@ -5,10 +5,10 @@ use mathlib.Core.Path.{◌≡◌, refl}
 use mathlib.Core.List.{List, [], ◌∷◌, ◌++◌, map}
 use lib.ListN.{take, replicate}
 use Rattle.spec.specs.Text.{text}
-use Rattle.spec.specs.LaunchFile.{fileLaunch}
+use Rattle.spec.specs.LaunchFile.{file_launch}
 use Rattle.spec.proofs.Lines.{lines}
 use Rattle.spec.proofs.Computing.{computing}
-use Rattle.workedlaunches.proofs.Worked.{Worked, computed, expected, finalLog, finalRecords}
+use Rattle.workedlaunches.proofs.Worked.{Worked, computed, expected, final_log, final_records}
 
 unfoldable pub examples : List Worked
 examples =
@@ -193,11 +193,11 @@ examples =
     ∷ []
 
 pub worked : map computed examples ≡ map expected examples
-unfolding computing computed expected finalLog examples
+unfolding computing computed expected final_log examples
 worked = refl
 
 -- P1 to P8 of document 01: an empty table and limit 0 have their record too.
-pub records-of-p : map (λ x. finalRecords (fileLaunch x.file)) (take 9 examples) ≡
+pub records_of_p : map (λ x. final_records (file_launch x.file)) (take 9 examples) ≡
     (0 ∷ 6 ∷ 0 ∷ [])
     ∷ (0 ∷ 5 ∷ 0 ∷ 5 ∷ 3 ∷ 0 ∷ [])
     ∷ (0 ∷ 0 ∷ 0 ∷ [])
@@ -208,5 +208,5 @@ pub records-of-p : map (λ x. finalRecords (fileLaunch x.file)) (take 9 examples
     ∷ (0 ∷ 10 ∷ 0 ∷ [])
     ∷ (0 ∷ 9 ∷ 0 ∷ [])
     ∷ []
-unfolding computing finalRecords examples
-records-of-p = refl
+unfolding computing final_records examples
+records_of_p = refl

@@ -9,11 +9,11 @@ use Rattle.spec.specs.declared.Verdict.{Verdict}
 use Rattle.spec.specs.declared.Verdict.TheVariants.{Passed, Race, GroupRace, Outside, Diverged, Spent}
 use Rattle.spec.specs.Table.{Table, row_of}
 use Rattle.spec.specs.Shape.{Sizes, sizes}
-use Rattle.spec.specs.Log.{logKinds}
-use Rattle.spec.specs.LaunchRun.{lockstep, lastGroup, stepsByLaunch}
-use Rattle.spec.specs.Intervals.{intervalRecords, recordWords}
-use Rattle.spec.proofs.GlobalRows.{globalLoad, globalStore, globalAdd, growing, numbering}
-use Rattle.spec.proofs.GroupTable.{maskWords}
+use Rattle.spec.specs.Log.{log_kinds}
+use Rattle.spec.specs.LaunchRun.{lockstep, last_group, steps_by_launch}
+use Rattle.spec.specs.Intervals.{interval_records, record_words}
+use Rattle.spec.proofs.GlobalRows.{global_load, global_store, global_add, growing, numbering}
+use Rattle.spec.proofs.GroupTable.{mask_words}
 use Rattle.spec.proofs.Computing.{computing}
 
 -- What a launch ends with: verdict, group and row where it ended; counts; steps by launch number; cells; the log by kind (readers, writers, adders, first
@@ -28,7 +28,7 @@ pub record Ending : Type 0 where
   pub steps : List ℕ
   pub cells : List ℕ
   pub log : List (List ℕ)
-  pub groupMasks : List (List ℕ)
+  pub group_masks : List (List ℕ)
   pub records : List ℕ
 
 pub record GroupLaunch : Type 0 where
@@ -38,8 +38,8 @@ pub record GroupLaunch : Type 0 where
   pub limit : ℕ
   pub ends : Ending
 
-unfoldable pub groupExamples : List GroupLaunch
-groupExamples =
+unfoldable pub group_examples : List GroupLaunch
+group_examples =
     -- thread t stores 5 + t to its own group's cell t, behind a BARRIER. Each group's release counts. Group 1 stores to cells 2 and 3 of all; neither its
     -- start nor its BARRIER touches the log of group 0's cells. Each group has a record up to its BARRIER and one behind it
     record {
@@ -56,13 +56,13 @@ groupExamples =
         steps = 4 ∷ 4 ∷ 4 ∷ 4 ∷ [];
         cells = 5 ∷ 6 ∷ 5 ∷ 6 ∷ [];
         log = replicate 4 0 ∷ (1 ∷ 2 ∷ 1 ∷ 2 ∷ []) ∷ replicate 4 0 ∷ (5 ∷ 6 ∷ 5 ∷ 6 ∷ []) ∷ replicate 4 0 ∷ [];
-        groupMasks = replicate 3 (replicate 4 0);
+        group_masks = replicate 3 (replicate 4 0);
         records = 0 ∷ 4 ∷ 0 ∷ 4 ∷ 1 ∷ 0 ∷ 0 ∷ 4 ∷ 0 ∷ 4 ∷ 1 ∷ 0 ∷ [];
       };
     }
     -- own cell 0 says whether the group stores: group 0 does, passes its BARRIER and loads; group 1 passes its BARRIER, and its load meets group 0's store
     ∷ record {
-      table = row_of 16 1 0 0 ∷ row_of 32 0 1 0 ∷ globalStore 0 1 ∷ row_of 34 0 0 0 ∷ row_of 37 0 0 0 ∷ globalLoad 2 0 ∷ [];
+      table = row_of 16 1 0 0 ∷ row_of 32 0 1 0 ∷ global_store 0 1 ∷ row_of 34 0 0 0 ∷ row_of 37 0 0 0 ∷ global_load 2 0 ∷ [];
       sizes = sizes 1 1 2 1;
       cells = 1 ∷ 0 ∷ 9 ∷ [];
       limit = 100;
@@ -75,13 +75,13 @@ groupExamples =
         steps = 5 ∷ 3 ∷ [];
         cells = 1 ∷ 0 ∷ 1 ∷ [];
         log = replicate 5 (replicate 3 0);
-        groupMasks = (0 ∷ 0 ∷ 1 ∷ []) ∷ (0 ∷ 0 ∷ 1 ∷ []) ∷ (0 ∷ 0 ∷ 0 ∷ []) ∷ [];
+        group_masks = (0 ∷ 0 ∷ 1 ∷ []) ∷ (0 ∷ 0 ∷ 1 ∷ []) ∷ (0 ∷ 0 ∷ 0 ∷ []) ∷ [];
         records = 0 ∷ 5 ∷ 0 ∷ 5 ∷ 1 ∷ 0 ∷ 0 ∷ 5 ∷ 0 ∷ 5 ∷ 0 ∷ 0 ∷ [];
       };
     }
     -- both groups store 5 to one global cell, with no BARRIER: group 1's meets group 0's. Its start has cleared the log of the cell, not the group mask
     ∷ record {
-      table = row_of 1 1 5 0 ∷ globalStore 0 1 ∷ [];
+      table = row_of 1 1 5 0 ∷ global_store 0 1 ∷ [];
       sizes = sizes 1 1 2 1;
       cells = 7 ∷ 8 ∷ 9 ∷ [];
       limit = 100;
@@ -94,13 +94,13 @@ groupExamples =
         steps = 2 ∷ 1 ∷ [];
         cells = 7 ∷ 8 ∷ 5 ∷ [];
         log = replicate 5 (replicate 3 0);
-        groupMasks = (0 ∷ 0 ∷ 0 ∷ []) ∷ (0 ∷ 0 ∷ 1 ∷ []) ∷ (0 ∷ 0 ∷ 0 ∷ []) ∷ [];
+        group_masks = (0 ∷ 0 ∷ 0 ∷ []) ∷ (0 ∷ 0 ∷ 1 ∷ []) ∷ (0 ∷ 0 ∷ 0 ∷ []) ∷ [];
         records = 0 ∷ 2 ∷ 0 ∷ 0 ∷ 1 ∷ 0 ∷ [];
       };
     }
     -- both threads of both groups load global cell 0 and add 1 to global cell 1, which held 4. The log has group 1's accesses, the group masks both groups'
     ∷ record {
-      table = row_of 1 1 1 0 ∷ globalLoad 2 0 ∷ globalAdd 1 1 ∷ [];
+      table = row_of 1 1 1 0 ∷ global_load 2 0 ∷ global_add 1 1 ∷ [];
       sizes = sizes 2 1 2 2;
       cells = 7 ∷ 8 ∷ 3 ∷ 4 ∷ [];
       limit = 100;
@@ -113,13 +113,13 @@ groupExamples =
         steps = 3 ∷ 3 ∷ 3 ∷ 3 ∷ [];
         cells = 7 ∷ 8 ∷ 3 ∷ 8 ∷ [];
         log = (0 ∷ 0 ∷ 3 ∷ 0 ∷ []) ∷ replicate 4 0 ∷ (0 ∷ 0 ∷ 0 ∷ 3 ∷ []) ∷ replicate 4 0 ∷ replicate 4 0 ∷ [];
-        groupMasks = (0 ∷ 0 ∷ 3 ∷ 0 ∷ []) ∷ replicate 4 0 ∷ (0 ∷ 0 ∷ 0 ∷ 3 ∷ []) ∷ [];
+        group_masks = (0 ∷ 0 ∷ 3 ∷ 0 ∷ []) ∷ replicate 4 0 ∷ (0 ∷ 0 ∷ 0 ∷ 3 ∷ []) ∷ [];
         records = 0 ∷ 3 ∷ 0 ∷ 0 ∷ 3 ∷ 0 ∷ [];
       };
     }
     -- all load the global cell; where own cell 0 has 1, thread 1 then stores to it. In group 1 that meets thread 0 as well as group 0: thread 0 is named
     ∷ record {
-      table = globalLoad 3 0 ∷ row_of 16 1 0 0 ∷ row_of 2 2 0 0 ∷ row_of 7 1 1 2 ∷ row_of 32 0 1 0 ∷ globalStore 0 1 ∷ row_of 34 0 0 0 ∷ [];
+      table = global_load 3 0 ∷ row_of 16 1 0 0 ∷ row_of 2 2 0 0 ∷ row_of 7 1 1 2 ∷ row_of 32 0 1 0 ∷ global_store 0 1 ∷ row_of 34 0 0 0 ∷ [];
       sizes = sizes 2 1 2 1;
       cells = 0 ∷ 1 ∷ 9 ∷ [];
       limit = 100;
@@ -132,13 +132,13 @@ groupExamples =
         steps = 6 ∷ 6 ∷ 5 ∷ 5 ∷ [];
         cells = 0 ∷ 1 ∷ 9 ∷ [];
         log = (3 ∷ 3 ∷ 3 ∷ []) ∷ replicate 4 (replicate 3 0);
-        groupMasks = (0 ∷ 0 ∷ 3 ∷ []) ∷ replicate 2 (replicate 3 0);
+        group_masks = (0 ∷ 0 ∷ 3 ∷ []) ∷ replicate 2 (replicate 3 0);
         records = 0 ∷ 7 ∷ 0 ∷ 0 ∷ 5 ∷ 0 ∷ [];
       };
     }
     -- groups 0 and 1 load the global cell, group 2 stores to it, by own cell 0: it meets both, and group 0 is named
     ∷ record {
-      table = row_of 16 1 0 0 ∷ row_of 32 0 1 0 ∷ globalStore 0 1 ∷ row_of 33 0 0 0 ∷ globalLoad 2 0 ∷ row_of 34 0 0 0 ∷ [];
+      table = row_of 16 1 0 0 ∷ row_of 32 0 1 0 ∷ global_store 0 1 ∷ row_of 33 0 0 0 ∷ global_load 2 0 ∷ row_of 34 0 0 0 ∷ [];
       sizes = sizes 1 1 3 1;
       cells = 0 ∷ 0 ∷ 1 ∷ 9 ∷ [];
       limit = 100;
@@ -151,13 +151,13 @@ groupExamples =
         steps = 4 ∷ 4 ∷ 2 ∷ [];
         cells = 0 ∷ 0 ∷ 1 ∷ 9 ∷ [];
         log = (1 ∷ 1 ∷ 1 ∷ 0 ∷ []) ∷ replicate 4 (replicate 4 0);
-        groupMasks = (0 ∷ 0 ∷ 0 ∷ 3 ∷ []) ∷ replicate 2 (replicate 4 0);
+        group_masks = (0 ∷ 0 ∷ 0 ∷ 3 ∷ []) ∷ replicate 2 (replicate 4 0);
         records = 0 ∷ 6 ∷ 0 ∷ 0 ∷ 6 ∷ 0 ∷ 0 ∷ 2 ∷ 0 ∷ [];
       };
     }
     -- each group stores to the global cell that its own cell 0 numbers: group 0 to cell 0, groups 1 and 2 to cell 1. Group 0 is lower, but in no conflict
     ∷ record {
-      table = row_of 16 1 0 0 ∷ globalStore 1 1 ∷ [];
+      table = row_of 16 1 0 0 ∷ global_store 1 1 ∷ [];
       sizes = sizes 1 1 3 2;
       cells = 0 ∷ 1 ∷ 1 ∷ 8 ∷ 9 ∷ [];
       limit = 100;
@@ -170,13 +170,13 @@ groupExamples =
         steps = 2 ∷ 2 ∷ 1 ∷ [];
         cells = 0 ∷ 1 ∷ 1 ∷ 0 ∷ 1 ∷ [];
         log = (1 ∷ 1 ∷ 1 ∷ 0 ∷ 0 ∷ []) ∷ replicate 4 (replicate 5 0);
-        groupMasks = replicate 5 0 ∷ (0 ∷ 0 ∷ 0 ∷ 1 ∷ 2 ∷ []) ∷ replicate 5 0 ∷ [];
+        group_masks = replicate 5 0 ∷ (0 ∷ 0 ∷ 0 ∷ 1 ∷ 2 ∷ []) ∷ replicate 5 0 ∷ [];
         records = 0 ∷ 2 ∷ 0 ∷ 0 ∷ 2 ∷ 0 ∷ 0 ∷ 1 ∷ 0 ∷ [];
       };
     }
     -- group 0 loads the global cell, adds what it loaded and stores it, 9, 18 and 9 again; group 1 stores: of the three kinds w is shown
     ∷ record {
-      table = row_of 16 1 0 0 ∷ row_of 32 0 1 0 ∷ globalStore 0 1 ∷ row_of 33 0 0 0 ∷ globalLoad 2 0 ∷ globalAdd 0 2 ∷ globalStore 0 2 ∷ row_of 34 0 0 0 ∷ [];
+      table = row_of 16 1 0 0 ∷ row_of 32 0 1 0 ∷ global_store 0 1 ∷ row_of 33 0 0 0 ∷ global_load 2 0 ∷ global_add 0 2 ∷ global_store 0 2 ∷ row_of 34 0 0 0 ∷ [];
       sizes = sizes 1 1 2 1;
       cells = 0 ∷ 1 ∷ 9 ∷ [];
       limit = 100;
@@ -189,7 +189,7 @@ groupExamples =
         steps = 6 ∷ 2 ∷ [];
         cells = 0 ∷ 1 ∷ 9 ∷ [];
         log = (1 ∷ 1 ∷ 0 ∷ []) ∷ replicate 4 (replicate 3 0);
-        groupMasks = replicate 3 (0 ∷ 0 ∷ 1 ∷ []);
+        group_masks = replicate 3 (0 ∷ 0 ∷ 1 ∷ []);
         records = 0 ∷ 8 ∷ 0 ∷ 0 ∷ 2 ∷ 0 ∷ [];
       };
     }
@@ -208,7 +208,7 @@ groupExamples =
         steps = 2 ∷ 2 ∷ [];
         cells = 7 ∷ 8 ∷ 13 ∷ [];
         log = replicate 2 (replicate 3 0) ++ ((0 ∷ 0 ∷ 1 ∷ []) ∷ replicate 2 (replicate 3 0));
-        groupMasks = replicate 2 (replicate 3 0) ++ ((0 ∷ 0 ∷ 3 ∷ []) ∷ []);
+        group_masks = replicate 2 (replicate 3 0) ++ ((0 ∷ 0 ∷ 3 ∷ []) ∷ []);
         records = 0 ∷ 2 ∷ 0 ∷ 0 ∷ 2 ∷ 0 ∷ [];
       };
     }
@@ -227,7 +227,7 @@ groupExamples =
         steps = 2 ∷ 1 ∷ [];
         cells = 7 ∷ 8 ∷ 11 ∷ [];
         log = replicate 5 (replicate 3 0);
-        groupMasks = replicate 2 (replicate 3 0) ++ ((0 ∷ 0 ∷ 1 ∷ []) ∷ []);
+        group_masks = replicate 2 (replicate 3 0) ++ ((0 ∷ 0 ∷ 1 ∷ []) ∷ []);
         records = 0 ∷ 2 ∷ 0 ∷ 0 ∷ 1 ∷ 0 ∷ [];
       };
     }
@@ -246,7 +246,7 @@ groupExamples =
         steps = 2 ∷ 0 ∷ [];
         cells = 7 ∷ 8 ∷ 11 ∷ [];
         log = replicate 5 (replicate 3 0);
-        groupMasks = replicate 2 (replicate 3 0) ++ ((0 ∷ 0 ∷ 1 ∷ []) ∷ []);
+        group_masks = replicate 2 (replicate 3 0) ++ ((0 ∷ 0 ∷ 1 ∷ []) ∷ []);
         records = 0 ∷ 2 ∷ 0 ∷ 0 ∷ 0 ∷ 0 ∷ [];
       };
     }
@@ -265,13 +265,13 @@ groupExamples =
         steps = 1 ∷ 0 ∷ [];
         cells = 7 ∷ 8 ∷ 9 ∷ [];
         log = replicate 5 (replicate 3 0);
-        groupMasks = replicate 3 (replicate 3 0);
+        group_masks = replicate 3 (replicate 3 0);
         records = 0 ∷ 1 ∷ 0 ∷ [];
       };
     }
     -- two threads load cells that are 16 apart, global ones at no cost and own ones at cost 1
     ∷ record {
-      table = row_of 2 0 0 0 ∷ row_of 1 1 16 0 ∷ row_of 6 2 0 1 ∷ globalLoad 3 2 ∷ row_of 16 4 2 0 ∷ [];
+      table = row_of 2 0 0 0 ∷ row_of 1 1 16 0 ∷ row_of 6 2 0 1 ∷ global_load 3 2 ∷ row_of 16 4 2 0 ∷ [];
       sizes = sizes 2 17 1 17;
       cells = replicate 34 7;
       limit = 100;
@@ -284,13 +284,13 @@ groupExamples =
         steps = 5 ∷ 5 ∷ [];
         cells = replicate 34 7;
         log = (1 ∷ replicate 15 0 ++ (2 ∷ 1 ∷ replicate 15 0 ++ (2 ∷ []))) ∷ replicate 4 (replicate 34 0);
-        groupMasks = (replicate 17 0 ++ (1 ∷ replicate 15 0 ++ (1 ∷ []))) ∷ replicate 2 (replicate 34 0);
+        group_masks = (replicate 17 0 ++ (1 ∷ replicate 15 0 ++ (1 ∷ []))) ∷ replicate 2 (replicate 34 0);
         records = 0 ∷ 5 ∷ 1 ∷ [];
       };
     }
     -- one own cell and two global ones: global cell 1 is there; own cell 1 is outside, though group 1 has a cell there. Groups 1 and 2 do not start
     ∷ record {
-      table = row_of 1 1 1 0 ∷ globalLoad 2 1 ∷ row_of 16 3 1 0 ∷ [];
+      table = row_of 1 1 1 0 ∷ global_load 2 1 ∷ row_of 16 3 1 0 ∷ [];
       sizes = sizes 1 1 3 2;
       cells = 6 ∷ 7 ∷ 8 ∷ 4 ∷ 5 ∷ [];
       limit = 100;
@@ -303,13 +303,13 @@ groupExamples =
         steps = 2 ∷ 0 ∷ 0 ∷ [];
         cells = 6 ∷ 7 ∷ 8 ∷ 4 ∷ 5 ∷ [];
         log = (0 ∷ 0 ∷ 0 ∷ 0 ∷ 1 ∷ []) ∷ replicate 4 (replicate 5 0);
-        groupMasks = (0 ∷ 0 ∷ 0 ∷ 0 ∷ 1 ∷ []) ∷ replicate 2 (replicate 5 0);
+        group_masks = (0 ∷ 0 ∷ 0 ∷ 0 ∷ 1 ∷ []) ∷ replicate 2 (replicate 5 0);
         records = 0 ∷ 2 ∷ 0 ∷ [];
       };
     }
     -- two own cells and one global one: own cell 1 is there; global cell 1 is outside. Group 1 of two threads does not start
     ∷ record {
-      table = row_of 1 1 1 0 ∷ row_of 17 1 1 0 ∷ globalAdd 1 1 ∷ [];
+      table = row_of 1 1 1 0 ∷ row_of 17 1 1 0 ∷ global_add 1 1 ∷ [];
       sizes = sizes 2 2 2 1;
       cells = 5 ∷ 6 ∷ 7 ∷ 8 ∷ 9 ∷ [];
       limit = 100;
@@ -322,13 +322,13 @@ groupExamples =
         steps = 2 ∷ 2 ∷ 0 ∷ 0 ∷ [];
         cells = 5 ∷ 1 ∷ 7 ∷ 8 ∷ 9 ∷ [];
         log = replicate 5 0 ∷ (0 ∷ 3 ∷ 0 ∷ 0 ∷ 0 ∷ []) ∷ replicate 5 0 ∷ (0 ∷ 1 ∷ 0 ∷ 0 ∷ 0 ∷ []) ∷ replicate 5 0 ∷ [];
-        groupMasks = replicate 3 (replicate 5 0);
+        group_masks = replicate 3 (replicate 5 0);
         records = 0 ∷ 2 ∷ 0 ∷ [];
       };
     }
     -- own cell 0 numbers the global cell: group 1's is outside
     ∷ record {
-      table = row_of 16 1 0 0 ∷ globalLoad 2 1 ∷ [];
+      table = row_of 16 1 0 0 ∷ global_load 2 1 ∷ [];
       sizes = sizes 1 1 2 1;
       cells = 0 ∷ 1 ∷ 9 ∷ [];
       limit = 100;
@@ -341,13 +341,13 @@ groupExamples =
         steps = 2 ∷ 1 ∷ [];
         cells = 0 ∷ 1 ∷ 9 ∷ [];
         log = (1 ∷ 1 ∷ 0 ∷ []) ∷ replicate 4 (replicate 3 0);
-        groupMasks = (0 ∷ 0 ∷ 1 ∷ []) ∷ replicate 2 (replicate 3 0);
+        group_masks = (0 ∷ 0 ∷ 1 ∷ []) ∷ replicate 2 (replicate 3 0);
         records = 0 ∷ 2 ∷ 0 ∷ 0 ∷ 1 ∷ 0 ∷ [];
       };
     }
     -- two threads of one group store 5 to a global cell, and 6 behind a BARRIER, which has cleared the first value
     ∷ record {
-      table = row_of 1 1 5 0 ∷ globalStore 0 1 ∷ row_of 37 0 0 0 ∷ row_of 1 1 6 0 ∷ globalStore 0 1 ∷ [];
+      table = row_of 1 1 5 0 ∷ global_store 0 1 ∷ row_of 37 0 0 0 ∷ row_of 1 1 6 0 ∷ global_store 0 1 ∷ [];
       sizes = sizes 2 1 1 1;
       cells = 7 ∷ 9 ∷ [];
       limit = 100;
@@ -360,13 +360,13 @@ groupExamples =
         steps = 4 ∷ 4 ∷ [];
         cells = 7 ∷ 6 ∷ [];
         log = (0 ∷ 0 ∷ []) ∷ (0 ∷ 3 ∷ []) ∷ (0 ∷ 0 ∷ []) ∷ (0 ∷ 6 ∷ []) ∷ (0 ∷ 0 ∷ []) ∷ [];
-        groupMasks = (0 ∷ 0 ∷ []) ∷ (0 ∷ 1 ∷ []) ∷ (0 ∷ 0 ∷ []) ∷ [];
+        group_masks = (0 ∷ 0 ∷ []) ∷ (0 ∷ 1 ∷ []) ∷ (0 ∷ 0 ∷ []) ∷ [];
         records = 0 ∷ 3 ∷ 0 ∷ 3 ∷ 2 ∷ 0 ∷ [];
       };
     }
     -- their own numbers race. It is cell 0 that they name, wherever it stands
     ∷ record {
-      table = row_of 2 1 0 0 ∷ globalStore 0 1 ∷ [];
+      table = row_of 2 1 0 0 ∷ global_store 0 1 ∷ [];
       sizes = sizes 2 1 2 1;
       cells = 7 ∷ 8 ∷ 9 ∷ [];
       limit = 100;
@@ -379,7 +379,7 @@ groupExamples =
         steps = 2 ∷ 1 ∷ 0 ∷ 0 ∷ [];
         cells = 7 ∷ 8 ∷ 0 ∷ [];
         log = replicate 3 0 ∷ (0 ∷ 0 ∷ 1 ∷ []) ∷ replicate 3 (replicate 3 0);
-        groupMasks = replicate 3 0 ∷ (0 ∷ 0 ∷ 1 ∷ []) ∷ replicate 3 0 ∷ [];
+        group_masks = replicate 3 0 ∷ (0 ∷ 0 ∷ 1 ∷ []) ∷ replicate 3 0 ∷ [];
         records = 0 ∷ 1 ∷ 0 ∷ [];
       };
     }
@@ -398,7 +398,7 @@ groupExamples =
         steps = 5 ∷ 5 ∷ 5 ∷ 4 ∷ [];
         cells = 0 ∷ 7 ∷ 1 ∷ 0 ∷ [];
         log = (3 ∷ 0 ∷ 3 ∷ 0 ∷ []) ∷ (0 ∷ 0 ∷ 0 ∷ 1 ∷ []) ∷ replicate 3 (replicate 4 0);
-        groupMasks = replicate 3 (replicate 4 0);
+        group_masks = replicate 3 (replicate 4 0);
         records = 0 ∷ 6 ∷ 0 ∷ 0 ∷ 4 ∷ 0 ∷ [];
       };
     }
@@ -417,7 +417,7 @@ groupExamples =
         steps = 5 ∷ 5 ∷ 4 ∷ 4 ∷ [];
         cells = 0 ∷ 1 ∷ [];
         log = (3 ∷ 3 ∷ []) ∷ replicate 4 (0 ∷ 0 ∷ []);
-        groupMasks = replicate 3 (0 ∷ 0 ∷ []);
+        group_masks = replicate 3 (0 ∷ 0 ∷ []);
         records = 0 ∷ 6 ∷ 0 ∷ 0 ∷ 4 ∷ 0 ∷ [];
       };
     }
@@ -436,7 +436,7 @@ groupExamples =
         steps = 6 ∷ 6 ∷ 6 ∷ 6 ∷ [];
         cells = 0 ∷ 0 ∷ 2 ∷ 2 ∷ 0 ∷ 0 ∷ 2 ∷ 2 ∷ [];
         log = replicate 8 0 ∷ (1 ∷ 2 ∷ 1 ∷ 2 ∷ 1 ∷ 2 ∷ 1 ∷ 2 ∷ []) ∷ replicate 8 0 ∷ (0 ∷ 0 ∷ 2 ∷ 2 ∷ 0 ∷ 0 ∷ 2 ∷ 2 ∷ []) ∷ replicate 8 0 ∷ [];
-        groupMasks = replicate 3 (replicate 8 0);
+        group_masks = replicate 3 (replicate 8 0);
         records = 0 ∷ 6 ∷ 0 ∷ 0 ∷ 6 ∷ 0 ∷ [];
       };
     }
@@ -462,7 +462,7 @@ groupExamples =
             ∷ (0 ∷ 1 ∷ 0 ∷ 2 ∷ 3 ∷ 0 ∷ 0 ∷ 0 ∷ 0 ∷ 1 ∷ [])
             ∷ replicate 10 0
             ∷ [];
-        groupMasks = replicate 10 0 ∷ (0 ∷ 0 ∷ 0 ∷ 0 ∷ 0 ∷ 0 ∷ 1 ∷ 1 ∷ 2 ∷ 2 ∷ []) ∷ replicate 10 0 ∷ [];
+        group_masks = replicate 10 0 ∷ (0 ∷ 0 ∷ 0 ∷ 0 ∷ 0 ∷ 0 ∷ 1 ∷ 1 ∷ 2 ∷ 2 ∷ []) ∷ replicate 10 0 ∷ [];
         records = 0 ∷ 4 ∷ 0 ∷ 0 ∷ 4 ∷ 0 ∷ [];
       };
     }
@@ -481,7 +481,7 @@ groupExamples =
         steps = 5 ∷ 8 ∷ 11 ∷ 14 ∷ [];
         cells = 0 ∷ 2 ∷ [];
         log = (3 ∷ 3 ∷ []) ∷ replicate 4 (0 ∷ 0 ∷ []);
-        groupMasks = replicate 3 (0 ∷ 0 ∷ []);
+        group_masks = replicate 3 (0 ∷ 0 ∷ []);
         records = 0 ∷ 8 ∷ 0 ∷ 0 ∷ 14 ∷ 0 ∷ [];
       };
     }
@@ -500,7 +500,7 @@ groupExamples =
         steps = 0 ∷ 0 ∷ [];
         cells = 7 ∷ 8 ∷ 9 ∷ [];
         log = replicate 5 (replicate 3 0);
-        groupMasks = replicate 3 (replicate 3 0);
+        group_masks = replicate 3 (replicate 3 0);
         records = replicate 6 0;
       };
     }
@@ -514,17 +514,17 @@ ending x =
     let s = o.state in
     record {
       verdict = o.verdict;
-      group = lastGroup T Z x.cells x.limit;
+      group = last_group T Z x.cells x.limit;
       row = s.row;
       rows = s.rows;
       barriers = s.barriers;
-      steps = stepsByLaunch T Z x.cells x.limit;
+      steps = steps_by_launch T Z x.cells x.limit;
       cells = s.cells;
-      log = logKinds s.log;
-      groupMasks = maskWords s.groupLog;
-      records = recordWords (intervalRecords T Z x.cells x.limit);
+      log = log_kinds s.log;
+      group_masks = mask_words s.group_log;
+      records = record_words (interval_records T Z x.cells x.limit);
     }
 
-pub worked-groups : map ending groupExamples ≡ map (λ x. x.ends) groupExamples
-unfolding computing maskWords ending groupExamples
-worked-groups = refl
+pub worked_groups : map ending group_examples ≡ map (λ x. x.ends) group_examples
+unfolding computing mask_words ending group_examples
+worked_groups = refl

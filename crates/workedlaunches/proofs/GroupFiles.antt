@@ -7,13 +7,13 @@ use mathlib.Core.List.{List, [], ◌∷◌, ◌++◌, map}
 use Prim.Native.Nat.{ℕ}
 use lib.ListN.{replicate}
 use Rattle.spec.specs.Lists.{joined}
-use Rattle.spec.specs.LaunchFile.{fileLaunch}
+use Rattle.spec.specs.LaunchFile.{file_launch}
 use Rattle.spec.proofs.Lines.{lines}
 use Rattle.spec.proofs.Computing.{computing}
-use Rattle.workedlaunches.proofs.Worked.{Worked, computed, expected, finalLog, finalRecords}
+use Rattle.workedlaunches.proofs.Worked.{Worked, computed, expected, final_log, final_records}
 
-unfoldable pub groupFiles : List Worked
-groupFiles =
+unfoldable pub group_files : List Worked
+group_files =
     -- a sum in two steps: the threads of a group add their cells into own cell 2, and behind a BARRIER thread 0 adds that into the global cell, once a group
     record {
       file = lines "kernel=1/threads=2/cells=3/groups=2/global=1/limit=100/rows=10/row=2,0,0,0/row=16,1,0,0/row=1,2,2,0/row=18,2,1,0/row=37,0,0,0/row=12,3,0,15"
@@ -287,8 +287,8 @@ groupFiles =
     ∷ []
 
 -- The words of the records of each of them: start, rows and cost of each interval. One starts with each group. None for a refusal.
-unfoldable pub groupFileRecords : List (List ℕ)
-groupFileRecords =
+unfoldable pub group_file_records : List (List ℕ)
+group_file_records =
     (0 ∷ 5 ∷ 0 ∷ 5 ∷ 5 ∷ 0 ∷ 0 ∷ 5 ∷ 0 ∷ 5 ∷ 5 ∷ 0 ∷ [])
     ∷ (0 ∷ 5 ∷ 0 ∷ 5 ∷ 5 ∷ 0 ∷ 0 ∷ 5 ∷ 0 ∷ 5 ∷ 3 ∷ 0 ∷ [])
     ∷ (0 ∷ 2 ∷ 0 ∷ [])
@@ -318,10 +318,10 @@ groupFileRecords =
     ∷ (0 ∷ 6 ∷ 1 ∷ 6 ∷ 2 ∷ 1 ∷ 0 ∷ 6 ∷ 1 ∷ 6 ∷ 2 ∷ 1 ∷ [])
     ∷ replicate 9 []
 
-pub worked-groups : map computed groupFiles ≡ map expected groupFiles
-unfolding computing computed expected finalLog groupFiles
-worked-groups = refl
+pub worked_groups : map computed group_files ≡ map expected group_files
+unfolding computing computed expected final_log group_files
+worked_groups = refl
 
-pub worked-group-records : map (λ x. finalRecords (fileLaunch x.file)) groupFiles ≡ groupFileRecords
-unfolding computing finalRecords groupFiles groupFileRecords
-worked-group-records = refl
+pub worked_group_records : map (λ x. final_records (file_launch x.file)) group_files ≡ group_file_records
+unfolding computing final_records group_files group_file_records
+worked_group_records = refl

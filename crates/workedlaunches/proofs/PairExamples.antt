@@ -6,7 +6,7 @@ use Prim.Native.Nat.{ℕ}
 use lib.ListN.{replicate}
 use Rattle.spec.specs.Lists.{joined}
 use Rattle.spec.specs.Text.{text}
-use Rattle.spec.specs.PairFiles.{pairPrints}
+use Rattle.spec.specs.PairFiles.{pair_prints}
 use Rattle.spec.proofs.Lines.{lines}
 use Rattle.spec.proofs.Computing.{computing}
 
@@ -44,8 +44,8 @@ strayed verdict =
 unfoldable pub unknown : List ℕ
 unknown = lines "kernel=1/threads=1/cells=1/groups=1/global=0/limit=0/rows=2/row=2,0,0,0/row=15,0,0,0/cell=0/end=kernel"
 
-unfoldable pub workedPairs : List WorkedPair
-workedPairs =
+unfoldable pub worked_pairs : List WorkedPair
+worked_pairs =
     record {
       filter = summing;
       trigger = straying;
@@ -76,6 +76,6 @@ workedPairs =
     }
     ∷ []
 
-pub worked-pairs : map (λ x. pairPrints x.filter x.trigger x.common) workedPairs ≡ map (λ x. x.prints) workedPairs
-unfolding computing summing summed straying strayed unknown workedPairs
-worked-pairs = refl
+pub worked_pairs_lem : map (λ x. pair_prints x.filter x.trigger x.common) worked_pairs ≡ map (λ x. x.prints) worked_pairs
+unfolding computing summing summed straying strayed unknown worked_pairs
+worked_pairs_lem = refl

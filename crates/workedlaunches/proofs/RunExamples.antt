@@ -5,10 +5,10 @@ use mathlib.Core.List.{List, [], ◌∷◌, ◌++◌, map}
 use lib.ListN.{replicate}
 use Rattle.spec.proofs.Lines.{lines}
 use Rattle.spec.proofs.Computing.{computing}
-use Rattle.workedlaunches.proofs.Worked.{Worked, computed, expected, finalLog}
+use Rattle.workedlaunches.proofs.Worked.{Worked, computed, expected, final_log}
 
-unfoldable pub runExamples : List Worked
-runExamples =
+unfoldable pub run_examples : List Worked
+run_examples =
     -- every computing op by its byte: R1 is 2,949,075,000 (its top bit is set), R2 is 11
     record {
       file = lines "kernel=1/threads=1/cells=11/groups=1/global=0/limit=100/rows=37"
@@ -222,6 +222,6 @@ runExamples =
     }
     ∷ []
 
-pub worked-runs : map computed runExamples ≡ map expected runExamples
-unfolding computing computed expected finalLog runExamples
-worked-runs = refl
+pub worked_runs : map computed run_examples ≡ map expected run_examples
+unfolding computing computed expected final_log run_examples
+worked_runs = refl

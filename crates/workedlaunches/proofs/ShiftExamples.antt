@@ -5,10 +5,10 @@ use mathlib.Core.List.{List, [], ◌∷◌, ◌++◌, map}
 use lib.ListN.{replicate}
 use Rattle.spec.proofs.Lines.{lines}
 use Rattle.spec.proofs.Computing.{computing}
-use Rattle.workedlaunches.proofs.Worked.{Worked, computed, expected, finalLog}
+use Rattle.workedlaunches.proofs.Worked.{Worked, computed, expected, final_log}
 
-unfoldable pub shiftExamples : List Worked
-shiftExamples =
+unfoldable pub shift_examples : List Worked
+shift_examples =
     -- thread t shifts 2^31 + 9 by cell t, which is 32, 33, 63, 64, 2^31 or 2^32 - 1: by 0, 1, 31, 0, 0 and 31 places; SHR into cell t, SAR into cell 6 + t
     record {
       file = lines "kernel=1/threads=6/cells=13/groups=1/global=0/limit=100/rows=10"
@@ -38,6 +38,6 @@ shiftExamples =
     }
     ∷ []
 
-pub worked-shifts : map computed shiftExamples ≡ map expected shiftExamples
-unfolding computing computed expected finalLog shiftExamples
-worked-shifts = refl
+pub worked_shifts : map computed shift_examples ≡ map expected shift_examples
+unfolding computing computed expected final_log shift_examples
+worked_shifts = refl

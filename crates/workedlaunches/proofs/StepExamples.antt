@@ -4,13 +4,13 @@ use mathlib.Core.Path.{◌≡◌, refl}
 use mathlib.Core.List.{List, [], ◌∷◌, ◌++◌, map}
 use Prim.Native.Nat.{ℕ}
 use lib.ListN.{replicate}
-use Rattle.spec.specs.LaunchFile.{fileLaunch}
+use Rattle.spec.specs.LaunchFile.{file_launch}
 use Rattle.spec.proofs.Lines.{lines}
 use Rattle.spec.proofs.Computing.{computing}
-use Rattle.workedlaunches.proofs.Worked.{Worked, computed, expected, finalLog, allSteps}
+use Rattle.workedlaunches.proofs.Worked.{Worked, computed, expected, final_log, all_steps}
 
-unfoldable pub stepExamples : List Worked
-stepExamples =
+unfoldable pub step_examples : List Worked
+step_examples =
     -- the arms of an IF: threads 0 and 2 in the first, which step at the ELSE too, threads 1 and 3 in the second
     record {
       file = lines "kernel=1/threads=4/cells=4/groups=1/global=0/limit=100/rows=9"
@@ -106,13 +106,13 @@ stepExamples =
     ∷ []
 
 -- The steps of all threads together, in each of them.
-unfoldable pub stepSums : List ℕ
-stepSums = 26 ∷ 34 ∷ 27 ∷ 41 ∷ 19 ∷ 22 ∷ 20 ∷ 4 ∷ 14 ∷ 11 ∷ 16 ∷ 161 ∷ []
+unfoldable pub step_sums : List ℕ
+step_sums = 26 ∷ 34 ∷ 27 ∷ 41 ∷ 19 ∷ 22 ∷ 20 ∷ 4 ∷ 14 ∷ 11 ∷ 16 ∷ 161 ∷ []
 
-pub worked-steps : map computed stepExamples ≡ map expected stepExamples
-unfolding computing computed expected finalLog stepExamples
-worked-steps = refl
+pub worked_steps : map computed step_examples ≡ map expected step_examples
+unfolding computing computed expected final_log step_examples
+worked_steps = refl
 
-pub worked-sums : map (λ x. allSteps (fileLaunch x.file)) stepExamples ≡ stepSums
-unfolding computing allSteps stepExamples stepSums
-worked-sums = refl
+pub worked_sums : map (λ x. all_steps (file_launch x.file)) step_examples ≡ step_sums
+unfolding computing all_steps step_examples step_sums
+worked_sums = refl

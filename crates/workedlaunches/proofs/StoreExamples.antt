@@ -5,10 +5,10 @@ use mathlib.Core.List.{List, [], ◌∷◌, ◌++◌, map}
 use lib.ListN.{replicate}
 use Rattle.spec.proofs.Lines.{lines}
 use Rattle.spec.proofs.Computing.{computing}
-use Rattle.workedlaunches.proofs.Worked.{Worked, computed, expected, finalLog}
+use Rattle.workedlaunches.proofs.Worked.{Worked, computed, expected, final_log}
 
-unfoldable pub storeExamples : List Worked
-storeExamples =
+unfoldable pub store_examples : List Worked
+store_examples =
     -- five threads set a flag to 1, clear another one, and set a third to 2^32 - 1
     record {
       file = lines "kernel=1/threads=5/cells=4/groups=1/global=0/limit=100/rows=6/row=1,1,1,0/row=17,0,1,0/row=17,1,0,0/row=5,2,0,1/row=1,3,2,0/row=17,3,2,0/cell=9/cell=9/cell=9/cell=9"
@@ -118,6 +118,6 @@ storeExamples =
     }
     ∷ []
 
-pub worked-stores : map computed storeExamples ≡ map expected storeExamples
-unfolding computing computed expected finalLog storeExamples
-worked-stores = refl
+pub worked_stores : map computed store_examples ≡ map expected store_examples
+unfolding computing computed expected final_log store_examples
+worked_stores = refl

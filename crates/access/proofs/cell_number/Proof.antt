@@ -12,12 +12,12 @@ returns c =
     let start = c.before.before.before in
     record {
       register = register.result;
-      in-register = register.ensures;
+      in_register = register.ensures;
       word = ap (λ j. get_or start.args.regs.now (register.result * 32 + j) 0) c.before.before.index.ensures;
     }
 
-pub cell-number-spec : {M : Type 1} → statement M
-cell-number-spec =
+pub cell_number_spec : {M : Type 1} → statement M
+cell_number_spec =
     tie.close
     (tie.spec
     (λ c κs. search rules) (λ c κs. search rules) (λ c. search rules) (λ c. search rules) (λ c. search rules)

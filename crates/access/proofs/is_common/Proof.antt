@@ -4,17 +4,17 @@ use lib.Dec.{ltb}
 use lib.ListN.{length}
 use Prim.Native.Nat.{ℕ}
 use borrow.Author.Rules.{rules}
-use Rattle.access.proofs.Accesses.{below-common, from-common}
+use Rattle.access.proofs.Accesses.{below_common, from_common}
 use Rattle.access.proofs.is_common.Statement.{statement}
 use Rattle.access.proofs.is_common.Tie as tie
 
 returns : tie.Need-returns
-returns c = below-common _ _ c.if1.true
+returns c = below_common _ _ c.if1.true
 
 returns-2 : tie.Need-returns-2
 returns-2 c =
     let start = c.before.before.before in
-    ap (λ (y : ℕ). ltb y (length start.args.common.now)) c.index.ensures ∙ from-common start.args.common.now start.args.x c.before.if1.false
+    ap (λ (y : ℕ). ltb y (length start.args.common.now)) c.index.ensures ∙ from_common start.args.common.now start.args.x c.before.if1.false
 
-pub is-common-spec : {M : Type 1} → statement M
-is-common-spec = tie.close (tie.spec returns (λ c κs. search rules) returns-2)
+pub is_common_spec : {M : Type 1} → statement M
+is_common_spec = tie.close (tie.spec returns (λ c κs. search rules) returns-2)

@@ -11,5 +11,5 @@ add-result c =
     let e = fits args.groups args.cells args.global (search rules) (search rules) (search rules) in
     omega arith
 
-pub all-cells-spec : {M : Type 1} → statement M
-all-cells-spec = tie.close (tie.spec (λ c κs. search rules) (λ c κs. search rules) add-result (λ c. search rules))
+pub all_cells_spec : {M : Type 1} → statement M
+all_cells_spec = tie.close (tie.spec (λ c κs. search rules) (λ c κs. search rules) add-result (λ c. search rules))

@@ -1,20 +1,20 @@
 -- `admission::lent` meets its contract. Assumes nothing.
 use borrow.Author.Rules.{rules}
-use Rattle.admission.proofs.Tests.{bad-held, bad-global, bad-eighth, bad-log, bad-recorded, lent-fine}
+use Rattle.admission.proofs.Tests.{bad_held, bad_global, bad_eighth, bad_log, bad_recorded, lent_fine}
 use Rattle.admission.proofs.lent.Statement.{statement}
 use Rattle.admission.proofs.lent.Tie as tie
 
 returns : tie.Need-returns
 returns c =
     let at_own = c.before in
-    bad-held _ _ _ _ _ _ _ _ at_own.own-cells.ensures c.if1.true
+    bad_held _ _ _ _ _ _ _ _ at_own.own_cells_lem.ensures c.if1.true
 
 returns-2 : tie.Need-returns-2
 returns-2 c =
     let at_wide = c.before in
     let at_held = at_wide.before in
     let at_own = at_held.before in
-    bad-global _ _ _ _ _ _ _ _ at_own.own-cells.ensures at_held.if1.false _ at_wide.wide.ensures c.if2.true
+    bad_global _ _ _ _ _ _ _ _ at_own.own_cells_lem.ensures at_held.if1.false _ at_wide.wide.ensures c.if2.true
 
 returns-3 : tie.Need-returns-3
 returns-3 c =
@@ -22,7 +22,7 @@ returns-3 c =
     let at_wide = at-global.before in
     let at_held = at_wide.before in
     let at_own = at_held.before in
-    bad-eighth _ _ _ _ _ _ _ _ at_own.own-cells.ensures at_held.if1.false _ at_wide.wide.ensures at-global.if2.false c.if3.true
+    bad_eighth _ _ _ _ _ _ _ _ at_own.own_cells_lem.ensures at_held.if1.false _ at_wide.wide.ensures at-global.if2.false c.if3.true
 
 returns-4 : tie.Need-returns-4
 returns-4 c =
@@ -32,8 +32,8 @@ returns-4 c =
     let at_wide = at-global.before in
     let at_held = at_wide.before in
     let at_own = at_held.before in
-    bad-log _ _ _ _ _ _ _ _ at_own.own-cells.ensures at_held.if1.false _ at_wide.wide.ensures at-global.if2.false at-eighth.if3.false
-    _ at_all.all-cells.ensures c.if4.true
+    bad_log _ _ _ _ _ _ _ _ at_own.own_cells_lem.ensures at_held.if1.false _ at_wide.wide.ensures at-global.if2.false at-eighth.if3.false
+    _ at_all.all_cells_lem.ensures c.if4.true
 
 returns-5 : tie.Need-returns-5
 returns-5 c =
@@ -44,8 +44,8 @@ returns-5 c =
     let at_wide = at-global.before in
     let at_held = at_wide.before in
     let at_own = at_held.before in
-    bad-recorded _ _ _ _ _ _ _ _ at_own.own-cells.ensures at_held.if1.false _ at_wide.wide.ensures at-global.if2.false
-    at-eighth.if3.false _ at_all.all-cells.ensures at-log.if4.false c.if5.true
+    bad_recorded _ _ _ _ _ _ _ _ at_own.own_cells_lem.ensures at_held.if1.false _ at_wide.wide.ensures at-global.if2.false
+    at-eighth.if3.false _ at_all.all_cells_lem.ensures at-log.if4.false c.if5.true
 
 returns-6 : tie.Need-returns-6
 returns-6 c =
@@ -56,8 +56,8 @@ returns-6 c =
     let at_wide = at-global.before in
     let at_held = at_wide.before in
     let at_own = at_held.before in
-    lent-fine _ _ _ _ _ _ _ _ at_own.own-cells.ensures at_held.if1.false _ at_wide.wide.ensures at-global.if2.false
-    at-eighth.if3.false _ at_all.all-cells.ensures at-log.if4.false c.if5.false
+    lent_fine _ _ _ _ _ _ _ _ at_own.own_cells_lem.ensures at_held.if1.false _ at_wide.wide.ensures at-global.if2.false
+    at-eighth.if3.false _ at_all.all_cells_lem.ensures at-log.if4.false c.if5.false
 
 pub lent_spec : {M : Type 1} → statement M
 lent_spec =

@@ -17,5 +17,5 @@ mul-result c =
 returns : tie.Need-returns
 returns c = cc
 
-pub own-cells-spec : {M : Type 1} → statement M
-own-cells-spec = tie.close (tie.spec (λ c κs. search rules) (λ c κs. search rules) mul-result returns)
+pub own_cells_spec : {M : Type 1} → statement M
+own_cells_spec = tie.close (tie.spec (λ c κs. search rules) (λ c κs. search rules) mul-result returns)

@@ -11,5 +11,5 @@ returns c = sym (ap (λ b. b && leb c.before.args.x c.before.args.high) (le-leb 
 returns-2 : tie.Need-returns-2
 returns-2 c = lt-leb _ _ c.if1.false ∙ sym (ap (λ b. b && leb c.before.args.x c.before.args.high) (lt-leb _ _ c.if1.false))
 
-pub within-spec : {M : Type 1} → statement M
-within-spec = tie.close (tie.spec returns returns-2)
+pub within_spec : {M : Type 1} → statement M
+within_spec = tie.close (tie.spec returns returns-2)

@@ -1,27 +1,27 @@
 -- `answerwords::kind_from` meets its contract. Assumes nothing.
 use borrow.Author.Tests.{eq-eqb, ne_eqb}
-use Rattle.answerwords.specs.Codes.{kindFrom}
+use Rattle.answerwords.specs.Codes.{kind_from}
 use Rattle.answerwords.proofs.kind_from.Statement.{statement}
 use Rattle.answerwords.proofs.kind_from.Tie as tie
 
 returns : tie.Need-returns
-unfolding kindFrom
+unfolding kind_from
 returns c = rw (eq-eqb _ 1 c.if1.true)
 
 returns-2 : tie.Need-returns-2
-unfolding kindFrom
+unfolding kind_from
 returns-2 c = rw (ne_eqb _ 1 c.before.if1.false, eq-eqb _ 2 c.if2.true)
 
 returns-3 : tie.Need-returns-3
-unfolding kindFrom
+unfolding kind_from
 returns-3 c = rw (ne_eqb _ 1 c.before.before.if1.false, ne_eqb _ 2 c.before.if2.false, eq-eqb _ 4 c.if3.true)
 
 returns-4 : tie.Need-returns-4
-unfolding kindFrom
+unfolding kind_from
 returns-4 c = rw (ne_eqb _ 1 c.before.before.before.if1.false, ne_eqb _ 2 c.before.before.if2.false, ne_eqb _ 4 c.before.if3.false, eq-eqb _ 5 c.if4.true)
 
 returns-5 : tie.Need-returns-5
-unfolding kindFrom
+unfolding kind_from
 returns-5 c =
     rw (
       ne_eqb _ 1 c.before.before.before.before.if1.false,
@@ -32,7 +32,7 @@ returns-5 c =
     )
 
 returns-6 : tie.Need-returns-6
-unfolding kindFrom
+unfolding kind_from
 returns-6 c =
     rw (
       ne_eqb _ 1 c.before.before.before.before.before.if1.false,
@@ -44,7 +44,7 @@ returns-6 c =
     )
 
 returns-7 : tie.Need-returns-7
-unfolding kindFrom
+unfolding kind_from
 returns-7 c =
     rw (
       ne_eqb _ 1 c.before.before.before.before.before.if1.false,
@@ -55,8 +55,8 @@ returns-7 c =
       ne_eqb _ 7 c.if6.false,
     )
 
-pub kind-from-spec : {M : Type 1} → statement M
-kind-from-spec =
+pub kind_from_spec : {M : Type 1} → statement M
+kind_from_spec =
     tie.close
     (tie.spec
     returns

@@ -3,16 +3,16 @@ use borrow.Author.Rules.{rules}
 use mathlib.Core.Path.{refl}
 use Prim.Native.Nat.{◌-◌, ◌≤◌}
 use native.Mathlib.Omega.{arith}
-use Rattle.answerwords.specs.Codes.{wordCount}
-use Rattle.answerwords.proofs.Words.{Coded, code-more, all_coded}
+use Rattle.answerwords.specs.Codes.{word_count}
+use Rattle.answerwords.proofs.Words.{Coded, code_more, all_coded}
 use Rattle.answerwords.proofs.outcome_words.Statement.{statement}
 use Rattle.answerwords.proofs.outcome_words.Tie as tie
 
 abbrev invariant-loop : tie.invariant-loop
-invariant-loop values words₀ i₀ words i = (i ≤ wordCount) × Coded values i words
+invariant-loop values words₀ i₀ words i = (i ≤ word_count) × Coded values i words
 
 abbrev decreases-loop : tie.decreases-loop
-decreases-loop values words₀ i₀ words i = wordCount - i
+decreases-loop values words₀ i₀ words i = word_count - i
 
 loop-holds : tie.Need-loop-init invariant-loop decreases-loop
 loop-holds c = (search rules, record { whole = refl; each = λ k h. absurd (omega arith) })
@@ -38,7 +38,7 @@ loop-less c = omega arith
 loop-again : tie.Need-loop-preserved invariant-loop decreases-loop
 loop-again c =
     let turn = c.before.before.before.loop in
-    (omega arith, code-more _ turn.i turn.words _ turn.invariant.1 c.before.before.loop-test.true c.value-code.ensures)
+    (omega arith, code_more _ turn.i turn.words _ turn.invariant.1 c.before.before.loop-test.true c.value-code.ensures)
 
 returns : tie.Need-returns invariant-loop decreases-loop
 returns c =
@@ -46,8 +46,8 @@ returns c =
     let args = c.before.before.before.args.outcome in
     all_coded args _ turn.i turn.words turn.invariant.1 (omega arith) c.before.before.run-values.ensures
 
-pub outcome-words-spec : {M : Type 1} → statement M
-outcome-words-spec =
+pub outcome_words_spec : {M : Type 1} → statement M
+outcome_words_spec =
     tie.close
     (tie.spec
     invariant-loop

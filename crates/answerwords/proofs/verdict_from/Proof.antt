@@ -1,30 +1,30 @@
 -- `answerwords::verdict_from` meets its contract. Assumes nothing.
 use borrow.Author.Tests.{eq-eqb, ne_eqb}
-use Rattle.answerwords.specs.Codes.{verdictFrom}
+use Rattle.answerwords.specs.Codes.{verdict_from}
 use borrow.Author.Rules.{rules}
 use Rattle.answerwords.proofs.verdict_from.Statement.{statement}
 use Rattle.answerwords.proofs.verdict_from.Tie as tie
 
 returns : tie.Need-returns
-unfolding verdictFrom
+unfolding verdict_from
 returns c = rw (eq-eqb _ 1 c.if1.true)
 
 returns-2 : tie.Need-returns-2
-unfolding verdictFrom
+unfolding verdict_from
 returns-2 c = rw (ne_eqb _ 1 c.before.before.if1.false, eq-eqb _ 2 c.before.if2.true, c.kind-from.ensures)
 
 returns-3 : tie.Need-returns-3
-unfolding verdictFrom
+unfolding verdict_from
 returns-3 c = rw (ne_eqb _ 1 c.before.before.if1.false, ne_eqb _ 2 c.before.if2.false, eq-eqb _ 3 c.if3.true)
 
 returns-4 : tie.Need-returns-4
-unfolding verdictFrom
+unfolding verdict_from
 returns-4 c =
     let test = c.before.before.before.if1 in
     rw (ne_eqb _ 1 test.false, ne_eqb _ 2 c.before.before.if2.false, ne_eqb _ 3 c.before.if3.false, eq-eqb _ 4 c.if4.true)
 
 returns-5 : tie.Need-returns-5
-unfolding verdictFrom
+unfolding verdict_from
 returns-5 c =
     let test2 = c.before.before.before.before.if2 in
     let test = c.before.before.before.before.before.if1 in
@@ -38,7 +38,7 @@ returns-5 c =
     )
 
 returns-6 : tie.Need-returns-6
-unfolding verdictFrom
+unfolding verdict_from
 returns-6 c =
     let test = c.before.before.before.before.before.if1 in
     rw (
@@ -51,7 +51,7 @@ returns-6 c =
     )
 
 returns-7 : tie.Need-returns-7
-unfolding verdictFrom
+unfolding verdict_from
 returns-7 c =
     let test = c.before.before.before.before.before.if1 in
     rw (
@@ -63,8 +63,8 @@ returns-7 c =
       ne_eqb _ 7 c.if6.false,
     )
 
-pub verdict-from-spec : {M : Type 1} → statement M
-verdict-from-spec =
+pub verdict_from_spec : {M : Type 1} → statement M
+verdict_from_spec =
     tie.close
     (tie.spec
     returns

@@ -3,14 +3,14 @@ use borrow.Author.Rules.{rules}
 use mathlib.Core.Logic.{⊎_elim}
 use Prim.Native.Nat.{◌-◌, ◌<◌}
 use native.Mathlib.Omega.{arith}
-use Rattle.masks.proofs.Bits.{left-some}
-use Rattle.banks.specs.Counting.{numbersIn}
-use Rattle.banks.proofs.Costing.{tracking-fit, Going, going_start, going-in, going-far, going-out, going-same, going-small, going-whole}
+use Rattle.masks.proofs.Bits.{left_some}
+use Rattle.banks.specs.Counting.{numbers_in}
+use Rattle.banks.proofs.Costing.{tracking_fit, Going, going_start, going_in, going_far, going_out, going_same, going_small, going_whole}
 use Rattle.banks.proofs.count_row.Statement.{statement}
 use Rattle.banks.proofs.count_row.Tie as tie
 
 abbrev invariant-loop : tie.invariant-loop
-invariant-loop regs r mask stamps₀ stamp m₀ t₀ counts₀ most₀ far₀ stamps m t counts most far = Going (numbersIn regs r) mask stamp t m stamps counts most far
+invariant-loop regs r mask stamps₀ stamp m₀ t₀ counts₀ most₀ far₀ stamps m t counts most far = Going (numbers_in regs r) mask stamp t m stamps counts most far
 
 abbrev decreases-loop : tie.decreases-loop
 decreases-loop regs r mask stamps₀ stamp m₀ t₀ counts₀ most₀ far₀ stamps m t counts most far = m
@@ -20,7 +20,7 @@ loop-holds c = going_start _ _ _ _ (omega arith) c.requires.2
 
 -- There are 32 threads at most.
 come : (c : tie.In-loop invariant-loop decreases-loop) → c.before.loop.t < 32
-come c = left-some 32 c.before.loop.t c.before.loop.m c.before.loop.invariant.left c.loop-test.true
+come c = left_some 32 c.before.loop.t c.before.loop.m c.before.loop.invariant.left c.loop-test.true
 
 mul-index : tie.Need-overflow-mul-index invariant-loop decreases-loop
 mul-index c = omega (arith, c.before.before.before.requires.1)
@@ -35,7 +35,7 @@ count-requires : tie.Need-count-requires invariant-loop decreases-loop
 count-requires c κs =
     let at_test = c.before.before.before.before.before.before in
     let turn = at_test.before.loop in
-    (omega (arith, c.before.before.if2.true), tracking-fit _ _ _ _ _ turn.invariant.tracking (come at_test))
+    (omega (arith, c.before.before.if2.true), tracking_fit _ _ _ _ _ turn.invariant.tracking (come at_test))
 
 next-thread : tie.Need-overflow-add-t invariant-loop decreases-loop
 next-thread c = omega (arith, come c.before)
@@ -49,23 +49,23 @@ loop-again c =
     let some = c.before.loop-test.true in
     ⊎_elim
     (λ w.
-    going-same _ _ _ _ _ _ _ _ _
-    (going-in _ _ _ _ _ _ _ _ _ turn.invariant some w.0.taken _ _ _ _ w.2.ensures w.3.taken w.6.ensures) _ _ _ _ w.7 w.8 w.9 w.10)
+    going_same _ _ _ _ _ _ _ _ _
+    (going_in _ _ _ _ _ _ _ _ _ turn.invariant some w.0.taken _ _ _ _ w.2.ensures w.3.taken w.6.ensures) _ _ _ _ w.7 w.8 w.9 w.10)
     (⊎_elim
     (λ w.
-    going-same _ _ _ _ _ _ _ _ _
-    (going-far _ _ _ _ _ _ _ _ _ turn.invariant some w.0.taken (omega (arith, w.2.ensures, w.3.left))) _ _ _ _ w.4 w.5 w.6 w.7)
-    (λ w. going-same _ _ _ _ _ _ _ _ _ (going-out _ _ _ _ _ _ _ _ _ turn.invariant some w.0.left) _ _ _ _ w.1 w.2 w.3 w.4))
+    going_same _ _ _ _ _ _ _ _ _
+    (going_far _ _ _ _ _ _ _ _ _ turn.invariant some w.0.taken (omega (arith, w.2.ensures, w.3.left))) _ _ _ _ w.4 w.5 w.6 w.7)
+    (λ w. going_same _ _ _ _ _ _ _ _ _ (going_out _ _ _ _ _ _ _ _ _ turn.invariant some w.0.left) _ _ _ _ w.1 w.2 w.3 w.4))
     c.if1.branch
 
 add-result : tie.Need-overflow-add-result invariant-loop decreases-loop
-add-result c = omega (arith, going-small _ _ _ _ _ _ _ _ _ c.before.before.loop.invariant, c.cost.ensures)
+add-result c = omega (arith, going_small _ _ _ _ _ _ _ _ _ c.before.before.loop.invariant, c.cost.ensures)
 
 returns : tie.Need-returns invariant-loop decreases-loop
-returns c = going-whole _ _ _ _ _ _ _ _ _ c.before.before.loop.invariant c.before.loop-test.false _ (omega (arith, c.cost.ensures))
+returns c = going_whole _ _ _ _ _ _ _ _ _ c.before.before.loop.invariant c.before.loop-test.false _ (omega (arith, c.cost.ensures))
 
-pub count-row-spec : {M : Type 1} → statement M
-count-row-spec =
+pub count_row_spec : {M : Type 1} → statement M
+count_row_spec =
     tie.close
     (tie.spec
     invariant-loop

@@ -3,19 +3,19 @@ use borrow.Author.Rules.{rules}
 use Prim.Native.Nat.{◌+◌, ◌-◌}
 use native.Mathlib.Omega.{arith}
 use lib.ListN.{length-set}
-use Rattle.banks.specs.Counting.{numbersIn}
-use Rattle.banks.proofs.Memory.{Writing, writing-none, writing_more, writing-all}
+use Rattle.banks.specs.Counting.{numbers_in}
+use Rattle.banks.proofs.Memory.{Writing, writing_none, writing_more, writing_all}
 use Rattle.banks.proofs.remember.Statement.{statement}
 use Rattle.banks.proofs.remember.Tie as tie
 
 abbrev invariant-loop : tie.invariant-loop
-invariant-loop regs r mask cost memo₀ at t₀ memo t = Writing (numbersIn regs r) at memo₀ memo t
+invariant-loop regs r mask cost memo₀ at t₀ memo t = Writing (numbers_in regs r) at memo₀ memo t
 
 abbrev decreases-loop : tie.decreases-loop
 decreases-loop regs r mask cost memo₀ at t₀ memo t = 32 - t
 
 loop-holds : tie.Need-loop-init invariant-loop decreases-loop
-loop-holds c = writing-none _ _ _
+loop-holds c = writing_none _ _ _
 
 loop-again : tie.Need-loop-preserved invariant-loop decreases-loop
 loop-again c =
@@ -25,7 +25,7 @@ loop-again c =
 returns : tie.Need-returns invariant-loop decreases-loop
 returns c =
     let start = c.before.before in
-    writing-all _ _ _ _ _ c.before.loop.invariant (omega (arith, start.requires.1, start.requires.3)) c.loop-test.false _ _
+    writing_all _ _ _ _ _ c.before.loop.invariant (omega (arith, start.requires.1, start.requires.3)) c.loop-test.false _ _
 
 element : tie.Need-element-write-memo invariant-loop decreases-loop
 element c =
@@ -45,8 +45,8 @@ cost-word c =
     let start = c.before.before in
     omega (arith, length-set turn.memo (start.args.at + 32) start.args.mask, turn.invariant.size, start.requires.1, start.requires.3)
 
-pub remember-spec : {M : Type 1} → statement M
-remember-spec =
+pub remember_spec : {M : Type 1} → statement M
+remember_spec =
     tie.close
     (tie.spec
     invariant-loop

@@ -20,8 +20,8 @@ array-share-prefix-output c = c.report-file.ensures.1.1.0
 slice-aggregate-print : tie.Need-slice-aggregate-print
 slice-aggregate-print c = sym (length-take-le _ _ c.before.report-file.ensures.1.1.0)
 
-pub report-input-spec : {M : Type 1} → statement M
-report-input-spec =
+pub report_input_spec : {M : Type 1} → statement M
+report_input_spec =
     tie.close
     (tie.spec
     (λ c. search rules) (λ c κs. search rules) (λ c. search rules) (λ c. search rules) (λ c. search rules)

@@ -11,8 +11,8 @@ invariant-loop mask v₀ t₀ v t = Filled (λ j. mask / 2 ^ j % 2) v t
 abbrev decreases-loop : tie.decreases-loop
 decreases-loop mask v₀ t₀ v t = 32 - t
 
-pub bits-of-spec : {M : Type 1} → statement M
-bits-of-spec =
+pub bits_of_spec : {M : Type 1} → statement M
+bits_of_spec =
     tie.close
     (tie.spec
     invariant-loop

@@ -12,8 +12,8 @@ invariant-loop regs r v₀ t₀ v t = Filled (lane r regs) v t
 abbrev decreases-loop : tie.decreases-loop
 decreases-loop regs r v₀ t₀ v t = 32 - t
 
-pub lanes-of-spec : {M : Type 1} → statement M
-lanes-of-spec =
+pub lanes_of_spec : {M : Type 1} → statement M
+lanes_of_spec =
     tie.close
     (tie.spec
     invariant-loop

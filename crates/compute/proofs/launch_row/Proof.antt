@@ -1,7 +1,7 @@
 -- `compute::launch_row` leaves the launch numbers in the lanes that it stores to. Assumes nothing.
 use mathlib.Core.Logic.{⊎_elim}
 use borrow.Author.Rules.{rules}
-use Rattle.compute.proofs.Stored.{all-numbered, some-numbered}
+use Rattle.compute.proofs.Stored.{all_numbered, some_numbered}
 use Rattle.compute.proofs.launch_row.Statement.{statement}
 use Rattle.compute.proofs.launch_row.Tie as tie
 
@@ -11,9 +11,9 @@ returns c =
     let if1 = c.before.before.if1 in
     let all = c.before.before.before.all in
     ⊎_elim
-    (λ w. all-numbered args.group args.n args.mask args.d if1.on args.regs.now all.ensures c.put-numbers.ensures w.0.taken w.1)
-    (λ w. some-numbered args.group args.n args.mask args.d if1.on args.regs.now all.ensures c.put-numbers.ensures w.0.left w.1)
+    (λ w. all_numbered args.group args.n args.mask args.d if1.on args.regs.now all.ensures c.put-numbers.ensures w.0.taken w.1)
+    (λ w. some_numbered args.group args.n args.mask args.d if1.on args.regs.now all.ensures c.put-numbers.ensures w.0.left w.1)
     if1.branch
 
-pub launch-row-spec : {M : Type 1} → statement M
-launch-row-spec = tie.close (tie.spec (λ c κs. search rules) (λ c κs. search rules) returns)
+pub launch_row_spec : {M : Type 1} → statement M
+launch_row_spec = tie.close (tie.spec (λ c κs. search rules) (λ c κs. search rules) returns)

@@ -4,7 +4,7 @@ use mathlib.Core.Logic.{⊎_elim}
 use Prim.Native.Nat.{◌-◌}
 use Rattle.layout.specs.Memory.{Puts}
 use Rattle.compute.specs.RowLanes.{picked}
-use Rattle.compute.proofs.Putting.{putting, puts-more, puts-old, given-on, given-off}
+use Rattle.compute.proofs.Putting.{putting, puts_more, puts_old, given_on, given_off}
 use Rattle.compute.proofs.put.Statement.{statement}
 use Rattle.compute.proofs.put.Tie as tie
 
@@ -20,10 +20,10 @@ loop-again c =
     let args = c.before.before.before.before.args in
     let regs = args.regs.now in
     let F = picked args.t3 args.t4 args.d regs in
-    puts-more args.d F regs turn.regs turn.t turn.invariant c.if1.regs (search putting) (search putting) (search putting)
+    puts_more args.d F regs turn.regs turn.t turn.invariant c.if1.regs (search putting) (search putting) (search putting)
     (⊎_elim
-    (λ w. w.1 ∙ given-on _ _ args.d regs turn.t w.0.taken)
-    (λ w. w.1 ∙ puts-old args.d F regs turn.regs turn.t turn.invariant ∙ given-off _ _ args.d regs turn.t w.0.left)
+    (λ w. w.1 ∙ given_on _ _ args.d regs turn.t w.0.taken)
+    (λ w. w.1 ∙ puts_old args.d F regs turn.regs turn.t turn.invariant ∙ given_off _ _ args.d regs turn.t w.0.left)
     c.if1.branch)
 
 pub put_spec : {M : Type 1} → statement M

@@ -12,8 +12,8 @@ invariant-loop regs₀ d v t₀ regs t = Puts d (λ j. get_or v j 0) regs₀ reg
 abbrev decreases-loop : tie.decreases-loop
 decreases-loop regs₀ d v t₀ regs t = 32 - t
 
-pub put-all-spec : {M : Type 1} → statement M
-put-all-spec =
+pub put_all_spec : {M : Type 1} → statement M
+put_all_spec =
     tie.close
     (tie.spec
     invariant-loop

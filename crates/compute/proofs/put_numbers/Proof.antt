@@ -4,7 +4,7 @@ use mathlib.Core.Logic.{⊎_elim}
 use Prim.Native.Nat.{◌-◌}
 use Rattle.layout.specs.Memory.{Puts}
 use Rattle.compute.specs.RowLanes.{numbered}
-use Rattle.compute.proofs.Putting.{putting, puts-more, puts-old, given-on, given-off}
+use Rattle.compute.proofs.Putting.{putting, puts_more, puts_old, given_on, given_off}
 use Rattle.compute.proofs.put_numbers.Statement.{statement}
 use Rattle.compute.proofs.put_numbers.Tie as tie
 
@@ -20,14 +20,14 @@ loop-again c =
     let args = c.before.before.before.before.before.args in
     let regs = args.regs.now in
     let F = numbered args.group args.n args.on args.d regs in
-    puts-more args.d F regs turn.regs turn.t turn.invariant c.if1.regs (search putting) (search putting) (search putting)
+    puts_more args.d F regs turn.regs turn.t turn.invariant c.if1.regs (search putting) (search putting) (search putting)
     (⊎_elim
-    (λ w. w.1 ∙ c.before.before.in-launch.ensures.0 ∙ given-on _ _ args.d regs turn.t w.0.taken)
-    (λ w. w.1 ∙ puts-old args.d F regs turn.regs turn.t turn.invariant ∙ given-off _ _ args.d regs turn.t w.0.left)
+    (λ w. w.1 ∙ c.before.before.in_launch.ensures.0 ∙ given_on _ _ args.d regs turn.t w.0.taken)
+    (λ w. w.1 ∙ puts_old args.d F regs turn.regs turn.t turn.invariant ∙ given_off _ _ args.d regs turn.t w.0.left)
     c.if1.branch)
 
-pub put-numbers-spec : {M : Type 1} → statement M
-put-numbers-spec =
+pub put_numbers_spec : {M : Type 1} → statement M
+put_numbers_spec =
     tie.close
     (tie.spec
     invariant-loop

@@ -11,8 +11,8 @@ invariant-loop v₀ t₀ v t = Filled (λ j. j) v t
 abbrev decreases-loop : tie.decreases-loop
 decreases-loop v₀ t₀ v t = 32 - t
 
-pub threads-spec : {M : Type 1} → statement M
-threads-spec =
+pub threads_spec : {M : Type 1} → statement M
+threads_spec =
     tie.close
     (tie.spec
     invariant-loop

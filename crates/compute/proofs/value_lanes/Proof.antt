@@ -3,8 +3,8 @@ use mathlib.Core.Path.{refl}
 use Prim.Native.Nat.{◌<◌, ◌≤◌}
 use native.Mathlib.Omega.{arith}
 use borrow.Author.Rules.{rules}
-use Rattle.lanes.proofs.Ops.{ops-are, past_three, last-op}
-use Rattle.compute.proofs.Values.{by-set, by-tid, by_count, by-registers}
+use Rattle.lanes.proofs.Ops.{ops_are, past_three, last_op}
+use Rattle.compute.proofs.Values.{by_set, by_tid, by_count, by_registers}
 use Rattle.compute.proofs.value_lanes.Statement.{statement}
 use Rattle.compute.proofs.value_lanes.Tie as tie
 
@@ -15,8 +15,8 @@ left c h = c.requires.2.left h
 right : (c : tie.Start) → 4 ≤ c.args.op → c.args.b < 16
 right c h = c.requires.2.right h
 
-pub value-lanes-spec : {M : Type 1} → statement M
-value-lanes-spec =
+pub value_lanes_spec : {M : Type 1} → statement M
+value_lanes_spec =
     tie.close
     (tie.spec
     (λ c. search rules) (λ c. search rules) (λ c. search rules) (λ c κs. search rules)
@@ -42,27 +42,27 @@ value-lanes-spec =
     (λ c κs. search rules)
     (λ c κs. left c.before (search (past_three, rules))) (λ c κs. right c.before.before (search (past_three, rules)))
     (λ c κs. search rules)
-    (λ c. by-set c.match.keys1 refl)
-    (λ c. by-tid c.before.match.keys2 c.threads.ensures)
+    (λ c. by_set c.match.keys1 refl)
+    (λ c. by_tid c.before.match.keys2 c.threads.ensures)
     (λ c. by_count c.match.keys3)
-    (λ c. by-registers c.before.before.before.match.keys4 ops-are.0 c.before.before.lanes-of.ensures c.before.lanes-of2.ensures
+    (λ c. by_registers c.before.before.before.match.keys4 ops_are.0 c.before.before.lanes-of.ensures c.before.lanes-of2.ensures
     c.add-lanes.ensures)
-    (λ c. by-registers c.before.before.before.match.keys5 ops-are.1 c.before.before.lanes-of3.ensures c.before.lanes-of4.ensures
+    (λ c. by_registers c.before.before.before.match.keys5 ops_are.1 c.before.before.lanes-of3.ensures c.before.lanes-of4.ensures
     c.sub-lanes.ensures)
-    (λ c. by-registers c.before.before.before.match.keys6 ops-are.2 c.before.before.lanes-of5.ensures c.before.lanes-of6.ensures
+    (λ c. by_registers c.before.before.before.match.keys6 ops_are.2 c.before.before.lanes-of5.ensures c.before.lanes-of6.ensures
     c.mul-lanes.ensures)
-    (λ c. by-registers c.before.before.before.match.keys7 ops-are.3 c.before.before.lanes-of7.ensures c.before.lanes-of8.ensures
+    (λ c. by_registers c.before.before.before.match.keys7 ops_are.3 c.before.before.lanes-of7.ensures c.before.lanes-of8.ensures
     c.and-lanes.ensures)
-    (λ c. by-registers c.before.before.before.match.keys8 ops-are.4 c.before.before.lanes-of9.ensures c.before.lanes-of10.ensures
+    (λ c. by_registers c.before.before.before.match.keys8 ops_are.4 c.before.before.lanes-of9.ensures c.before.lanes-of10.ensures
     c.or-lanes.ensures)
-    (λ c. by-registers c.before.before.before.match.keys9 ops-are.5 c.before.before.lanes-of11.ensures c.before.lanes-of12.ensures
+    (λ c. by_registers c.before.before.before.match.keys9 ops_are.5 c.before.before.lanes-of11.ensures c.before.lanes-of12.ensures
     c.xor-lanes.ensures)
-    (λ c. by-registers c.before.before.before.match.keys10 ops-are.6 c.before.before.lanes-of13.ensures c.before.lanes-of14.ensures
+    (λ c. by_registers c.before.before.before.match.keys10 ops_are.6 c.before.before.lanes-of13.ensures c.before.lanes-of14.ensures
     c.shr_lanes.ensures)
-    (λ c. by-registers c.before.before.before.match.keys11 ops-are.7 c.before.before.lanes-of15.ensures c.before.lanes-of16.ensures
+    (λ c. by_registers c.before.before.before.match.keys11 ops_are.7 c.before.before.lanes-of15.ensures c.before.lanes-of16.ensures
     c.sar_lanes.ensures)
-    (λ c. by-registers c.before.before.before.match.keys12 ops-are.8 c.before.before.lanes-of17.ensures c.before.lanes-of18.ensures
+    (λ c. by_registers c.before.before.before.match.keys12 ops_are.8 c.before.before.lanes-of17.ensures c.before.lanes-of18.ensures
     c.eq-lanes.ensures)
-    (λ c. by-registers c.before.before.before.match.keys13 ops-are.9 c.before.before.lanes-of19.ensures c.before.lanes-of20.ensures
+    (λ c. by_registers c.before.before.before.match.keys13 ops_are.9 c.before.before.lanes-of19.ensures c.before.lanes-of20.ensures
     c.lt-lanes.ensures)
-    (λ c. by-registers (search (last-op, rules)) ops-are.10 c.before.before.lanes-of21.ensures c.before.lanes-of22.ensures c.slt-lanes.ensures))
+    (λ c. by_registers (search (last_op, rules)) ops_are.10 c.before.before.lanes-of21.ensures c.before.lanes-of22.ensures c.slt-lanes.ensures))

@@ -2,7 +2,7 @@
 use mathlib.Core.Path.{◌≡◌}
 use Prim.Native.Nat.{ℕ, ◌≤◌}
 use native.Mathlib.Omega.{arith}
-use Rattle.constructs.proofs.Words.{by-if, by-else, by-endif, by-while, by-endwhile}
+use Rattle.constructs.proofs.Words.{by_if, by_else, by_endif, by_while, by_endwhile}
 use Rattle.constructs.proofs.construct_row.Statement.{statement}
 use Rattle.constructs.proofs.construct_row.Tie as tie
 
@@ -16,7 +16,7 @@ if-row-requires : tie.Need-if-row-requires
 if-row-requires c κs =
     let arm = c.before.before.match in
     let pre = c.before.before.before.requires in
-    (pre.0, pre.4.0 arm.keys1, pre.5.opens-if arm.keys1)
+    (pre.0, pre.4.0 arm.keys1, pre.5.opens_if arm.keys1)
 
 else-row-requires : tie.Need-else-row-requires
 else-row-requires c κs =
@@ -32,7 +32,7 @@ while-row-requires : tie.Need-while-row-requires
 while-row-requires c κs =
     let arm = c.before.before.match in
     let pre = c.before.before.before.requires in
-    (pre.0, pre.4.1 arm.keys4, pre.1, pre.5.opens-while arm.keys4)
+    (pre.0, pre.4.1 arm.keys4, pre.1, pre.5.opens_while arm.keys4)
 
 endwhile-row-requires : tie.Need-endwhile-row-requires
 endwhile-row-requires c κs =
@@ -43,26 +43,26 @@ endwhile-row-requires c κs =
 returns : tie.Need-returns
 returns c =
     let args = c.before.before.before.before.args in
-    by-if args.op args.a args.end args.regs.now args.s args.saved.now args.openers.now c.before.before.before.match.keys1
-    c.if-row.ensures
+    by_if args.op args.a args.end args.regs.now args.s args.saved.now args.openers.now c.before.before.before.match.keys1
+    c.if_row_lem.ensures
 
 returns-2 : tie.Need-returns-2
 returns-2 c =
     let args = c.before.before.before.before.args in
-    by-else args.op args.a args.end args.regs.now args.s args.saved.now args.openers.now c.before.before.before.match.keys2
-    c.else-row.ensures
+    by_else args.op args.a args.end args.regs.now args.s args.saved.now args.openers.now c.before.before.before.match.keys2
+    c.else_row_lem.ensures
 
 returns-3 : tie.Need-returns-3
 returns-3 c =
     let args = c.before.before.before.args in
-    by-endif args.op args.a args.end args.regs.now args.s args.saved.now args.openers.now c.before.before.match.keys3
-    c.endif-row.ensures
+    by_endif args.op args.a args.end args.regs.now args.s args.saved.now args.openers.now c.before.before.match.keys3
+    c.endif_row_lem.ensures
 
 returns-4 : tie.Need-returns-4
 returns-4 c =
     let args = c.before.before.before.before.args in
-    by-while args.op args.a args.end args.regs.now args.s args.saved.now args.openers.now c.before.before.before.match.keys4
-    c.while-row.ensures
+    by_while args.op args.a args.end args.regs.now args.s args.saved.now args.openers.now c.before.before.before.match.keys4
+    c.while_row_lem.ensures
 
 returns-5 : tie.Need-returns-5
 returns-5 c =
@@ -71,10 +71,10 @@ returns-5 c =
     let pre = start.requires in
     let r = c.before.before.match.rest in
     let e : args.op ≡ 36 = last args.op pre.2 pre.3 r.0.0.0.1 r.0.0.1 r.0.1 r.1 in
-    by-endwhile args.op args.a args.end args.regs.now args.s args.saved.now args.openers.now e c.endwhile-row.ensures
+    by_endwhile args.op args.a args.end args.regs.now args.s args.saved.now args.openers.now e c.endwhile_row_lem.ensures
 
-pub construct-row-spec : {M : Type 1} → statement M
-construct-row-spec =
+pub construct_row_spec : {M : Type 1} → statement M
+construct_row_spec =
     tie.close
     (tie.spec
     if-row-requires

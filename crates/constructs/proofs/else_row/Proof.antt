@@ -1,8 +1,8 @@
 -- `constructs::else_row` meets its contract. Assumes nothing.
 use mathlib.Core.Path.{refl, ap}
 use Prim.Native.Nat.{◌+◌}
-use Rattle.layout.specs.Represents.{goneOn}
-use Rattle.layout.proofs.PlainRows.{counted-gone}
+use Rattle.layout.specs.Represents.{gone_on}
+use Rattle.layout.proofs.PlainRows.{counted_gone}
 use borrow.Author.Rules.{rules}
 use Rattle.constructs.proofs.else_row.Statement.{statement}
 use Rattle.constructs.proofs.else_row.Tie as tie
@@ -10,10 +10,10 @@ use Rattle.constructs.proofs.else_row.Tie as tie
 returns : tie.Need-returns
 returns c =
     let s = c.before.before.before.before.args.s in
-    (counted-gone s _ _ _, ap (λ h. goneOn s (s.row + 1) h s.depth) c.before.before.minus.ensures, refl)
+    (counted_gone s _ _ _, ap (λ h. gone_on s (s.row + 1) h s.depth) c.before.before.minus.ensures, refl)
 
-pub else-row-spec : {M : Type 1} → statement M
-else-row-spec =
+pub else_row_spec : {M : Type 1} → statement M
+else_row_spec =
     tie.close
     (tie.spec
     (λ c. search rules) (λ c. search rules) (λ c. search rules) (λ c. search rules) (λ c. search rules)

@@ -3,7 +3,7 @@ use mathlib.Core.Path.{◌≡◌}
 use Prim.Native.Nat.{◌<◌, ◌-◌}
 use native.Mathlib.Omega.{arith}
 use mathlib.Core.Logic.{⊎_elim}
-use Rattle.layout.proofs.Saving.{enter-old, enter-new, atmost, room-new}
+use Rattle.layout.proofs.Saving.{enter_old, enter_new, atmost, room_new}
 use lib.ListN.{get_or}
 use borrow.Author.Rules.{rules}
 use Rattle.constructs.proofs.enter_while.Statement.{statement}
@@ -14,8 +14,8 @@ apart : (c : tie.Joined1)
     0 < args.s.depth → get_or args.openers.now (args.s.depth - 1) 0 ≡ args.s.row → ⊥
 apart c h e = ⊎_elim (λ w. w.2.left e) (λ w. omega (arith, w.left)) c.if1.branch
 
-new-room : (c : tie.Joined1) → c.before.args.s.depth < 8
-new-room c = room-new c.before.args.s c.before.args.openers.now c.before.requires (apart c)
+new_room : (c : tie.Joined1) → c.before.args.s.depth < 8
+new_room c = room_new c.before.args.s c.before.args.openers.now c.before.requires (apart c)
 
 mul-if2 : tie.Need-overflow-mul-if2
 mul-if2 c = let l = atmost c.before.args.s c.before.args.openers.now c.before.requires in omega arith
@@ -28,30 +28,30 @@ returns c =
     let start = c.before.before.before in
     let args = start.args in
     let openers = args.openers.now in
-    enter-old args.s args.saved.now openers c.before.before.if1.true (atmost args.s openers start.requires) c.if2.true
+    enter_old args.s args.saved.now openers c.before.before.if1.true (atmost args.s openers start.requires) c.if2.true
 
 mul-saved : tie.Need-overflow-mul-saved
-mul-saved c = let l = new-room c in omega arith
+mul-saved c = let l = new_room c in omega arith
 
 element-write-saved : tie.Need-element-write-saved
-element-write-saved c = let l = new-room c in omega arith
+element-write-saved c = let l = new_room c in omega arith
 
 mul-openers : tie.Need-overflow-mul-openers
-mul-openers c = let l = new-room c in omega arith
+mul-openers c = let l = new_room c in omega arith
 
 element-write-openers : tie.Need-element-write-openers
-element-write-openers c = let l = new-room c in omega arith
+element-write-openers c = let l = new_room c in omega arith
 
 add-result : tie.Need-overflow-add-result
-add-result c = let l = new-room c in omega arith
+add-result c = let l = new_room c in omega arith
 
 returns-2 : tie.Need-returns-2
 returns-2 c =
     let args = c.before.args in
-    enter-new args.s args.saved.now args.openers.now (new-room c) (apart c)
+    enter_new args.s args.saved.now args.openers.now (new_room c) (apart c)
 
-pub enter-while-spec : {M : Type 1} → statement M
-enter-while-spec =
+pub enter_while_spec : {M : Type 1} → statement M
+enter_while_spec =
     tie.close
     (tie.spec
     (λ c. search rules)

@@ -1,8 +1,8 @@
 -- `constructs::if_row` meets its contract. Assumes nothing.
 use mathlib.Core.Path.{refl, ap}
 use Prim.Native.Nat.{◌+◌}
-use Rattle.layout.specs.Represents.{goneOn}
-use Rattle.layout.proofs.PlainRows.{counted-gone}
+use Rattle.layout.specs.Represents.{gone_on}
+use Rattle.layout.proofs.PlainRows.{counted_gone}
 use borrow.Author.Rules.{rules}
 use Rattle.constructs.proofs.if_row.Statement.{statement}
 use Rattle.constructs.proofs.if_row.Tie as tie
@@ -10,10 +10,10 @@ use Rattle.constructs.proofs.if_row.Tie as tie
 returns : tie.Need-returns
 returns c =
     let s = c.before.before.before.args.s in
-    (counted-gone s _ _ _, ap (λ h. goneOn s (s.row + 1) h (s.depth + 1)) c.before.before.holding.ensures, refl, refl)
+    (counted_gone s _ _ _, ap (λ h. gone_on s (s.row + 1) h (s.depth + 1)) c.before.before.holding.ensures, refl, refl)
 
-pub if-row-spec : {M : Type 1} → statement M
-if-row-spec =
+pub if_row_spec : {M : Type 1} → statement M
+if_row_spec =
     tie.close
     (tie.spec
     (λ c. search rules) (λ c. search rules) (λ c. search rules) (λ c. search rules) (λ c κs. search rules)

@@ -1,6 +1,6 @@
 -- `constructs::while_row` meets its contract. Assumes nothing.
-use Rattle.layout.proofs.PlainRows.{counted-gone}
-use Rattle.constructs.proofs.Words.{while-left, while-stayed}
+use Rattle.layout.proofs.PlainRows.{counted_gone}
+use Rattle.constructs.proofs.Words.{while_left, while_stayed}
 use borrow.Author.Rules.{rules}
 use Rattle.constructs.proofs.while_row.Statement.{statement}
 use Rattle.constructs.proofs.while_row.Tie as tie
@@ -11,10 +11,10 @@ returns c =
     let holding = c.before.before.before.before.holding in
     let E = c.before.before.before.before.before.enter-while.ensures in
     let args = c.before.before.before.before.before.before.before.before.args in (
-      counted-gone args.s _ _ _,
-      while-left args.s args.saved.now args.openers.now E args.a args.end args.regs.now holding.result holding.ensures none-stay,
-      E.saved-are,
-      E.openers-are,
+      counted_gone args.s _ _ _,
+      while_left args.s args.saved.now args.openers.now E args.a args.end args.regs.now holding.result holding.ensures none-stay,
+      E.saved_are,
+      E.openers_are,
     )
 
 returns-2 : tie.Need-returns-2
@@ -23,14 +23,14 @@ returns-2 c =
     let holding = c.before.before.before.holding in
     let E = c.before.before.before.before.enter-while.ensures in
     let args = c.before.before.before.before.before.before.before.args in (
-      counted-gone args.s _ _ _,
-      while-stayed args.s args.saved.now args.openers.now E args.a args.end args.regs.now holding.result holding.ensures some_stay,
-      E.saved-are,
-      E.openers-are,
+      counted_gone args.s _ _ _,
+      while_stayed args.s args.saved.now args.openers.now E args.a args.end args.regs.now holding.result holding.ensures some_stay,
+      E.saved_are,
+      E.openers_are,
     )
 
-pub while-row-spec : {M : Type 1} → statement M
-while-row-spec =
+pub while_row_spec : {M : Type 1} → statement M
+while_row_spec =
     tie.close
     (tie.spec
     (λ c κs. search rules) (λ c κs. search rules) (λ c. search rules) (λ c. search rules) (λ c. search rules)

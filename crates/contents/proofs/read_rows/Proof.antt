@@ -3,8 +3,8 @@ use mathlib.Core.Path.{◌∙◌, ap}
 use Prim.Native.Nat.{◌-◌}
 use native.Mathlib.Omega.{arith}
 use borrow.Author.Rules.{rules}
-use Rattle.filelines.specs.Values.{bytesIn}
-use Rattle.contents.proofs.RowLoop.{RowsGoing, rows_start, rows_more, rows-stop, rows_end}
+use Rattle.filelines.specs.Values.{bytes_in}
+use Rattle.contents.proofs.RowLoop.{RowsGoing, rows_start, rows_more, rows_stop, rows_end}
 use Rattle.contents.proofs.read_rows.Statement.{statement}
 use Rattle.contents.proofs.read_rows.Tie as tie
 
@@ -20,9 +20,9 @@ loop-holds c = rows_start _ _ _ c.before.requires.1
 returns : tie.Need-returns invariant-loop decreases-loop
 returns c =
     let at-row-line = c.before.before in
-    let in-loop = at-row-line.before in
-    let at-loop = in-loop.before in
-    rows-stop at-loop.loop.invariant in-loop.loop-test.true (at-row-line.row_Line.ensures ∙ ap bytesIn c.enum_told.given.1)
+    let in_loop_lem = at-row-line.before in
+    let at-loop = in_loop_lem.before in
+    rows_stop at-loop.loop.invariant in_loop_lem.loop-test.true (at-row-line.row_Line.ensures ∙ ap bytes_in c.enum_told.given.1)
 
 put-row-requires : tie.Need-put-row-requires invariant-loop decreases-loop
 put-row-requires c κs = omega arith
@@ -38,17 +38,17 @@ loop-again c =
     let at-put-row = c.before in
     let at_op = at-put-row.before.before.before in
     let at-row-line = at_op.before.before in
-    let in-loop = at-row-line.before in
-    let at-loop = in-loop.before in
+    let in_loop_lem = at-row-line.before in
+    let at-loop = in_loop_lem.before in
     let start = at-loop.before.before in
-    rows_more at-loop.loop.invariant start.requires.0 in-loop.loop-test.true _ _ _ _
-    (at-row-line.row_Line.ensures ∙ ap bytesIn at_op.op.given.1) at-put-row.put-row.ensures c.next.ensures
+    rows_more at-loop.loop.invariant start.requires.0 in_loop_lem.loop-test.true _ _ _ _
+    (at-row-line.row_Line.ensures ∙ ap bytes_in at_op.op.given.1) at-put-row.put-row.ensures c.next.ensures
 
 returns-2 : tie.Need-returns-2 invariant-loop decreases-loop
 returns-2 c = rows_end c.before.loop.invariant c.loop-test.false
 
-pub read-rows-spec : {M : Type 1} → statement M
-read-rows-spec =
+pub read_rows_spec : {M : Type 1} → statement M
+read_rows_spec =
     tie.close
     (tie.spec
     invariant-loop

@@ -8,8 +8,8 @@ use Rattle.examples.proofs.compare.Tie as tie
 written-shared : tie.Need-slice-aggregate-compare-with
 written-shared c = sym (length-take-le _ _ c.before.report-file.ensures.1.1.0)
 
-pub compare-spec : {M : Type 1} → statement M
-compare-spec =
+pub compare_spec : {M : Type 1} → statement M
+compare_spec =
     tie.close
     (tie.spec
     (λ c κs. search rules) (λ c κs. search rules) (λ c. search rules) (λ c κs. search rules) (λ c. search rules)

@@ -8,8 +8,8 @@ use Rattle.examples.proofs.compare_pair.Tie as tie
 written-shared : tie.Need-slice-aggregate-compare-with
 written-shared c = sym (length-take-le _ _ c.before.report-pair.ensures.1.1.0)
 
-pub compare-pair-spec : {M : Type 1} → statement M
-compare-pair-spec =
+pub compare_pair_spec : {M : Type 1} → statement M
+compare_pair_spec =
     tie.close
     (tie.spec
     (λ c κs. search rules) (λ c κs. search rules) (λ c κs. search rules) (λ c κs. search rules) (λ c. search rules)

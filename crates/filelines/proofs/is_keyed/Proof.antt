@@ -2,14 +2,14 @@
 use mathlib.Core.Path.{◌∙◌}
 use native.Mathlib.Omega.{arith}
 use borrow.Author.Rules.{rules}
-use Rattle.filelines.proofs.Keys.{no_line, no_name, named}
+use Rattle.filelines.proofs.Keys.{no_line_lem, no_name, named}
 use Rattle.filelines.proofs.is_keyed.Statement.{statement}
 use Rattle.filelines.proofs.is_keyed.Tie as tie
 
 returns : tie.Need-returns
 returns c =
     let at-line = c.before in
-    no_line _ at-line.before2.ensures (omega arith)
+    no_line_lem _ at-line.before2.ensures (omega arith)
 
 returns-2 : tie.Need-returns-2
 returns-2 c =
@@ -24,8 +24,8 @@ returns-3 c =
     c.same.ensures
     ∙ named _ at-line.before2.ensures (omega arith) at_name.before3.ensures (omega arith)
 
-pub is-keyed-spec : {M : Type 1} → statement M
-is-keyed-spec =
+pub is_keyed_spec : {M : Type 1} → statement M
+is_keyed_spec =
     tie.close
     (tie.spec
     (λ c κs. search rules)

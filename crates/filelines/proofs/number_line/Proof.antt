@@ -2,7 +2,7 @@
 use mathlib.Core.Path.{◌∙◌}
 use borrow.Author.Rules.{rules}
 use Rattle.spec.specs.LaunchFile.{number}
-use Rattle.filelines.proofs.Keys.{has_value, has-none}
+use Rattle.filelines.proofs.Keys.{has_value, has_none}
 use Rattle.filelines.proofs.number_line.Statement.{statement}
 use Rattle.filelines.proofs.number_line.Tie as tie
 
@@ -18,10 +18,10 @@ returns c =
 returns-2 : tie.Need-returns-2
 returns-2 c =
     let at-keyed = c.before in
-    has-none _ number _ at-keyed.is-keyed.ensures c.if1.false
+    has_none _ number _ at-keyed.is-keyed.ensures c.if1.false
 
-pub number-line-spec : {M : Type 1} → statement M
-number-line-spec =
+pub number_line_spec : {M : Type 1} → statement M
+number_line_spec =
     tie.close
     (tie.spec
     (λ c κs. search rules) (λ c κs. search rules) (λ c κs. search rules)

@@ -1,14 +1,14 @@
 -- `filelines::row` meets its contract, comma by comma. Assumes nothing.
 use mathlib.Core.Path.{◌∙◌}
 use borrow.Author.Rules.{rules}
-use Rattle.filelines.proofs.Rows.{no-first, no_second, no_third, parts}
+use Rattle.filelines.proofs.Rows.{no_first, no_second, no_third, parts}
 use Rattle.filelines.proofs.row.Statement.{statement}
 use Rattle.filelines.proofs.row.Tie as tie
 
 returns : tie.Need-returns
 returns c =
     let at_op = c.before in
-    no-first at_op.before2.ensures c.if1.true
+    no_first at_op.before2.ensures c.if1.true
 
 returns-2 : tie.Need-returns-2
 returns-2 c =
@@ -46,8 +46,8 @@ returns-4 c =
     at_b.behind3.ensures
     ∙ c.four.ensures
 
-pub row-spec : {M : Type 1} → statement M
-row-spec =
+pub row_spec : {M : Type 1} → statement M
+row_spec =
     tie.close
     (tie.spec
     (λ c κs. search rules)

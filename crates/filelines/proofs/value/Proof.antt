@@ -1,6 +1,6 @@
 -- `filelines::value` meets its contract. Assumes nothing.
 use borrow.Author.Rules.{rules}
-use Rattle.filelines.proofs.Keys.{behind-name}
+use Rattle.filelines.proofs.Keys.{behind_name}
 use Rattle.filelines.proofs.value.Statement.{statement}
 use Rattle.filelines.proofs.value.Tie as tie
 
@@ -8,7 +8,7 @@ returns : tie.Need-returns
 returns c =
     let at_name = c.before in
     let at-line = at_name.before in
-    behind-name at-line.before2.ensures at_name.before3.ensures c.behind.ensures
+    behind_name at-line.before2.ensures at_name.before3.ensures c.behind.ensures
 
 pub value_spec : {M : Type 1} → statement M
 value_spec =

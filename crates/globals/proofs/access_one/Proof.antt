@@ -4,11 +4,11 @@ use mathlib.Core.List.{[]}
 use Prim.Native.Nat.{ℕ}
 use native.Mathlib.Omega.{arith}
 use lib.ListN.{length}
-use Rattle.layout.specs.Logging.{maskEntered}
-use Rattle.layout.specs.Views.{view_of, globalFrom}
-use Rattle.layout.specs.Shared.{rivalsWord}
-use Rattle.access.proofs.Accesses.{halts, none-common, passes}
-use Rattle.globals.proofs.GlobalAccesses.{group-asks, stopped-did, race-did, made-did}
+use Rattle.layout.specs.Logging.{mask_entered}
+use Rattle.layout.specs.Views.{view_of, global_from}
+use Rattle.layout.specs.Shared.{rivals_word}
+use Rattle.access.proofs.Accesses.{halts, none_common, passes}
+use Rattle.globals.proofs.GlobalAccesses.{group_asks, stopped_did, race_did, made_did}
 use borrow.Author.Rules.{rules}
 use Rattle.globals.proofs.access_one.Statement.{statement}
 use Rattle.globals.proofs.access_one.Tie as tie
@@ -16,7 +16,7 @@ use Rattle.globals.proofs.access_one.Tie as tie
 verdict-requires : tie.Need-verdict-requires
 verdict-requires c κs =
     let pre = c.before.before.before.before.before.before.before.before.before.before.before.requires in
-    (pre.0, pre.3.access, pre.1, pre.2, halts _ _ c.before.before.before.before.goes_on.ensures c.before.before.before.if1.true)
+    (pre.0, pre.3.access, pre.1, pre.2, halts _ _ c.before.before.before.before.goes_on_lem.ensures c.before.before.before.if1.true)
 
 returns : tie.Need-returns
 returns c =
@@ -24,9 +24,9 @@ returns c =
     let args = start.args in
     let pre = start.requires in (
       λ L z m x o ed ea h eo M.
-          stopped-did L z args.regs.now args.cells.now args.log.now args.masks.now M args.t h args.op args.d args.a args.own args.x
+          stopped_did L z args.regs.now args.cells.now args.log.now args.masks.now M args.t h args.op args.d args.a args.own args.x
           m x o ed ea pre.3.access pre.2 eo c.verdict.result
-          (c.verdict.ensures [] (none-common _) L.threads m x o h ed ea (view_of (globalFrom L) L.global z) M.memory),
+          (c.verdict.ensures [] (none_common _) L.threads m x o h ed ea (view_of (global_from L) L.global z) M.memory),
       λ i off. refl,
       λ j f. refl,
     )
@@ -35,14 +35,14 @@ returns c =
 rivals-requires : tie.Need-rivals-requires
 rivals-requires c κs =
     let found = c.before in
-    let goes = (passes _ _ found.before.before.goes_on.ensures found.before.if1.false) in
-    group-asks _ _ _ _ _ _ _ _ _ _ found.before.before.before.before.before.before.before.before.before.requires.3 goes found.index.ensures
+    let goes = (passes _ _ found.before.before.goes_on_lem.ensures found.before.if1.false) in
+    group_asks _ _ _ _ _ _ _ _ _ _ found.before.before.before.before.before.before.before.before.before.requires.3 goes found.index.ensures
 
 group-race-requires : tie.Need-group-race-requires
 group-race-requires c κs =
     let found = c.before.before.before.before in
-    let goes = passes _ _ found.before.before.goes_on.ensures found.before.if1.false in
-    (omega (arith, c.before.if2.true), group-asks _ _ _ _ _ _ _ _ _ _ found.before.before.before.before.before.before.before.before.before.requires.3 goes refl)
+    let goes = passes _ _ found.before.before.goes_on_lem.ensures found.before.if1.false in
+    (omega (arith, c.before.if2.true), group_asks _ _ _ _ _ _ _ _ _ _ found.before.before.before.before.before.before.before.before.before.requires.3 goes refl)
 
 returns-2 : tie.Need-returns-2
 returns-2 c =
@@ -50,13 +50,13 @@ returns-2 c =
     let start = found.before.before.before.before.before.before.before.before.before in
     let args = start.args in
     let pre = start.requires in
-    let goes = passes _ _ found.before.before.goes_on.ensures found.before.if1.false in
+    let goes = passes _ _ found.before.before.goes_on_lem.ensures found.before.if1.false in
     let others = c.before.before.before.rivals in
     let count = length args.cells.now in (
       λ L z m x o ed ea h eo M.
-          race-did L z args.regs.now args.cells.now args.log.now args.masks.now M args.t h args.op args.d args.a args.own args.x
+          race_did L z args.regs.now args.cells.now args.log.now args.masks.now M args.t h args.op args.d args.a args.own args.x
           m x o ed ea pre.3.access pre.2 eo args.bit pre.1 goes others.result c.group-race.result
-          (others.ensures ∙ ap (λ (i : ℕ). rivalsWord args.op count i args.own args.masks.now) found.index.ensures)
+          (others.ensures ∙ ap (λ (i : ℕ). rivals_word args.op count i args.own args.masks.now) found.index.ensures)
           (λ e. omega (arith, e, c.before.before.if2.true)) c.group-race.ensures,
       λ i off. refl,
       λ j f. refl,
@@ -66,38 +66,38 @@ make-requires : tie.Need-make-requires
 make-requires c κs =
     let found = c.before.before.before.before.before.before in
     let pre = found.before.before.before.before.before.before.before.before.before.requires in
-    (pre.0, pre.3.access, pre.1, pre.2, passes _ _ found.before.before.goes_on.ensures found.before.if1.false)
+    (pre.0, pre.3.access, pre.1, pre.2, passes _ _ found.before.before.goes_on_lem.ensures found.before.if1.false)
 
 enter-requires : tie.Need-enter-requires
 enter-requires c κs =
     let found = c.before.before.before.before.before.before.before.before.before.before.before.before in
-    let goes = (passes _ _ found.before.before.goes_on.ensures found.before.if1.false) in
-    group-asks _ _ _ _ _ _ _ _ _ _ found.before.before.before.before.before.before.before.before.before.requires.3 goes found.index.ensures
+    let goes = (passes _ _ found.before.before.goes_on_lem.ensures found.before.if1.false) in
+    group_asks _ _ _ _ _ _ _ _ _ _ found.before.before.before.before.before.before.before.before.before.requires.3 goes found.index.ensures
 
 returns-3 : tie.Need-returns-3
 returns-3 c =
     let make = c.before.before.before.before.before.before.before.before.make in
-    let none-met = c.before.before.before.before.before.before.before.before.before.before.before.before in
+    let none_met = c.before.before.before.before.before.before.before.before.before.before.before.before in
     let others = c.before.before.before.before.before.before.before.before.before.before.before.before.before.rivals in
     let found = c.before.before.before.before.before.before.before.before.before.before.before.before.before.before.before in
     let index = found.index.ensures in
-    let goes = passes _ _ found.before.before.goes_on.ensures found.before.if1.false in
+    let goes = passes _ _ found.before.before.goes_on_lem.ensures found.before.if1.false in
     let start = found.before.before.before.before.before.before.before.before.before in
     let args = start.args in
     let pre = start.requires in
     let count = length args.cells.now in (
       λ L z m x o ed ea h eo M.
-          made-did L z args.regs.now args.cells.now args.log.now args.masks.now M args.t h args.op args.d args.a args.own args.x
+          made_did L z args.regs.now args.cells.now args.log.now args.masks.now M args.t h args.op args.d args.a args.own args.x
           m x o ed ea pre.3.access pre.2 eo args.bit pre.1 goes make.new.0 make.new.1.0 make.new.1.1.0 _
-          (ap (λ (i : ℕ). rivalsWord args.op count i args.own args.masks.now) (sym index) ∙ sym others.ensures ∙ none-met.if2.false)
-          (make.ensures.0 [] L.threads m x o h ed ea (view_of (globalFrom L) L.global z) M.memory) make.auto.1.0
-          (c.before.before.enter.ensures ∙ ap (λ (i : ℕ). maskEntered args.op count i args.own args.masks.now) index),
+          (ap (λ (i : ℕ). rivals_word args.op count i args.own args.masks.now) (sym index) ∙ sym others.ensures ∙ none_met.if2.false)
+          (make.ensures.0 [] L.threads m x o h ed ea (view_of (global_from L) L.global z) M.memory) make.auto.1.0
+          (c.before.before.enter.ensures ∙ ap (λ (i : ℕ). mask_entered args.op count i args.own args.masks.now) index),
       make.ensures.1,
       make.ensures.2,
     )
 
-pub access-one-spec : {M : Type 1} → statement M
-access-one-spec =
+pub access_one_spec : {M : Type 1} → statement M
+access_one_spec =
     tie.close
     (tie.spec
     (λ c κs. search rules)

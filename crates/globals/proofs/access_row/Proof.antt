@@ -6,9 +6,9 @@ use lib.ListN.{length}
 use Rattle.layout.specs.Memory.{KeptBut}
 use Rattle.layout.specs.Logging.{SameAbove}
 use Rattle.layout.proofs.Reach.{same_more}
-use Rattle.masks.proofs.Bits.{one_bit, next_bit, left-some, left-half}
-use Rattle.access.proofs.Accesses.{asks-still, keeps_on}
-use Rattle.globals.proofs.GlobalRows.{Turns, turns-start, turns-whole, turns-on, turns-stop}
+use Rattle.masks.proofs.Bits.{one_bit, next_bit, left_some, left_half}
+use Rattle.access.proofs.Accesses.{asks_still, keeps_on}
+use Rattle.globals.proofs.GlobalRows.{Turns, turns_start, turns_whole, turns_on, turns_stop}
 use borrow.Author.Rules.{rules}
 use Rattle.globals.proofs.access_row.Statement.{statement}
 use Rattle.globals.proofs.access_row.Tie as tie
@@ -33,7 +33,7 @@ loop-holds c =
       refl,
       refl,
       λ h. refl,
-      turns-start args.op args.n args.mask args.d args.a args.group args.regs.now args.cells.now args.log.now args.masks.now,
+      turns_start args.op args.n args.mask args.d args.a args.group args.regs.now args.cells.now args.log.now args.masks.now,
       λ i off. refl,
       λ j h. refl,
     )
@@ -46,11 +46,11 @@ turn-requires c κs =
     let turn = c.before.before.before.before.before.loop in
     let start = c.before.before.before.before.before.before.before.before.before in
     let pre = start.requires in
-    let some_left = left-some start.args.n turn.t turn.left turn.invariant.1 c.before.before.before.before.loop-test.true in
+    let some_left = left_some start.args.n turn.t turn.left turn.invariant.1 c.before.before.before.before.loop-test.true in
     let few : turn.t < 32 = omega (arith, some_left, pre.0) in (
       few,
       turn.invariant.5 few,
-      record { access = asks-still _ _ _ _ _ _ _ pre.3.access turn.invariant.2 turn.invariant.3; sized = omega (arith, pre.3.sized, turn.invariant.2, turn.invariant.4) },
+      record { access = asks_still _ _ _ _ _ _ _ pre.3.access turn.invariant.2 turn.invariant.3; sized = omega (arith, pre.3.sized, turn.invariant.2, turn.invariant.4) },
     )
 
 same_length : tie.Need-same-length invariant-loop decreases-loop
@@ -78,14 +78,14 @@ returns c =
     let start = tested.before.before.before.before.before in
     let args = start.args in
     let own-bit = one_bit args.group (omega (arith, start.requires.2)) in
-    let some_left = left-some args.n turn.t turn.left turn.invariant.1 tested.loop-test.true in
+    let some_left = left_some args.n turn.t turn.left turn.invariant.1 tested.loop-test.true in
     record {
-      done = turns-stop args.op args.n args.mask args.d args.a args.group args.regs.now args.cells.now args.log.now args.masks.now
+      done = turns_stop args.op args.n args.mask args.d args.a args.group args.regs.now args.cells.now args.log.now args.masks.now
           turn.t turn.left turn.regs turn.cells turn.log turn.masks turn.invariant.6 _ made.result _ _ _ _ made.ensures own-bit some_left
           stopped.0.0 stopped.1;
-      regs-kept = keeps_on args.d args.n turn.t args.regs.now turn.regs made.new.0 some_left turn.invariant.7 made.ensures.regs-kept;
-      log-same = same_more turn.reach _ (length args.cells.now) (length turn.cells) args.log.now turn.log made.new.1.1.0 turn.invariant.8
-          turn.invariant.2 made.ensures.log-same;
+      regs_kept = keeps_on args.d args.n turn.t args.regs.now turn.regs made.new.0 some_left turn.invariant.7 made.ensures.regs_kept;
+      log_same = same_more turn.reach _ (length args.cells.now) (length turn.cells) args.log.now turn.log made.new.1.1.0 turn.invariant.8
+          turn.invariant.2 made.ensures.log_same;
     }
 
 next-thread : tie.Need-overflow-add-t invariant-loop decreases-loop
@@ -93,7 +93,7 @@ next-thread c =
     let tested = c.before.before.before.before.before.before.before.before.before.before.before.before.before.before in
     let turn = tested.before.loop in
     let start = tested.before.before.before.before.before in
-    let some_left = left-some start.args.n turn.t turn.left turn.invariant.1 tested.loop-test.true in
+    let some_left = left_some start.args.n turn.t turn.left turn.invariant.1 tested.loop-test.true in
     omega (arith, some_left, start.requires.0)
 
 loop-less : tie.Need-loop-smaller invariant-loop decreases-loop
@@ -108,19 +108,19 @@ loop-again c =
     let start = tested.before.before.before.before.before in
     let args = start.args in
     let own-bit = one_bit args.group (omega (arith, start.requires.2)) in
-    let some_left = left-some args.n turn.t turn.left turn.invariant.1 tested.loop-test.true in (
+    let some_left = left_some args.n turn.t turn.left turn.invariant.1 tested.loop-test.true in (
       omega (arith, some_left),
-      left-half args.n turn.t turn.left some_left turn.invariant.1,
+      left_half args.n turn.t turn.left some_left turn.invariant.1,
       made.auto.1.0 ∙ turn.invariant.2,
       made.auto.1.1.0 ∙ turn.invariant.3,
       made.auto.1.1.1.0 ∙ turn.invariant.4,
       next_bit turn.t turn.bit turn.invariant.5,
-      turns-on args.op args.n args.mask args.d args.a args.group args.regs.now args.cells.now args.log.now args.masks.now
+      turns_on args.op args.n args.mask args.d args.a args.group args.regs.now args.cells.now args.log.now args.masks.now
           turn.t turn.left turn.regs turn.cells turn.log turn.masks turn.invariant.6 _ made.result _ _ _ _ made.ensures own-bit some_left
           c.enum_told.given.1,
-      keeps_on args.d args.n turn.t args.regs.now turn.regs made.new.0 some_left turn.invariant.7 made.ensures.regs-kept,
+      keeps_on args.d args.n turn.t args.regs.now turn.regs made.new.0 some_left turn.invariant.7 made.ensures.regs_kept,
       same_more turn.reach _ (length args.cells.now) (length turn.cells) args.log.now turn.log made.new.1.1.0 turn.invariant.8
-          turn.invariant.2 made.ensures.log-same,
+          turn.invariant.2 made.ensures.log_same,
     )
 
 same-length-4 : tie.Need-same-length-4 invariant-loop decreases-loop
@@ -137,14 +137,14 @@ returns-2 c =
     let turn = c.before.loop in
     let args = c.before.before.before.before.before.args in
     record {
-      done = turns-whole args.op args.n args.mask args.d args.a args.group args.regs.now args.cells.now args.log.now args.masks.now
+      done = turns_whole args.op args.n args.mask args.d args.a args.group args.regs.now args.cells.now args.log.now args.masks.now
           turn.t turn.left turn.regs turn.cells turn.log turn.masks turn.invariant.6 c.loop-test.false;
-      regs-kept = turn.invariant.7;
-      log-same = turn.invariant.8;
+      regs_kept = turn.invariant.7;
+      log_same = turn.invariant.8;
     }
 
-pub access-row-spec : {M : Type 1} → statement M
-access-row-spec =
+pub access_row_spec : {M : Type 1} → statement M
+access_row_spec =
     tie.close
     (tie.spec
     invariant-loop

@@ -2,7 +2,7 @@
 use mathlib.Core.Path.{sym, ap, ◌∙◌, subst}
 use Prim.Native.Nat.{ℕ}
 use Rattle.spec.specs.declared.Verdict.TheVariants.{GroupRace}
-use Rattle.layout.specs.Shared.{GroupAsks, groupKindWord}
+use Rattle.layout.specs.Shared.{GroupAsks, group_kind_word}
 use borrow.Author.Rules.{rules}
 use Rattle.globals.proofs.group_race.Statement.{statement}
 use Rattle.globals.proofs.group_race.Tie as tie
@@ -18,11 +18,11 @@ returns c =
     let args = c.before.before.before.before.args in
     let other = c.before.before.lowest in
     ap (λ k. GroupRace args.t other.result k args.x)
-    (c.race-kind.ensures ∙ ap (λ (i : ℕ). groupKindWord args.op args.cells i other.result args.masks.now) c.before.index.ensures)
-    ∙ ap (λ (u : ℕ). GroupRace args.t u (groupKindWord args.op args.cells args.x u args.masks.now) args.x) other.ensures.0
+    (c.race-kind.ensures ∙ ap (λ (i : ℕ). group_kind_word args.op args.cells i other.result args.masks.now) c.before.index.ensures)
+    ∙ ap (λ (u : ℕ). GroupRace args.t u (group_kind_word args.op args.cells args.x u args.masks.now) args.x) other.ensures.0
 
-pub group-race-spec : {M : Type 1} → statement M
-group-race-spec =
+pub group_race_spec : {M : Type 1} → statement M
+group_race_spec =
     tie.close
     (tie.spec
     (λ c κs. search rules) (λ c κs. search rules)

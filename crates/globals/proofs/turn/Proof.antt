@@ -10,19 +10,19 @@ returns c =
     record {
       enabled = λ e. absurd (omega (arith, e, c.if1.true));
       disabled = λ f. (refl, refl, refl, refl, refl);
-      regs-kept = λ i off. refl;
-      log-same = λ j f. refl;
+      regs_kept = λ i off. refl;
+      log_same = λ j f. refl;
     }
 
 returns-2 : tie.Need-returns-2
 returns-2 c =
-    let one = c.before.before.before.before.before.before.access-one.ensures in
+    let one = c.before.before.before.before.before.before.access_one.ensures in
     let some = c.before.before.before.before.before.before.before.before.before.before.before.before.before.if1.false in
     record {
       enabled = λ e. one.0;
       disabled = λ f. absurd (f (omega (arith, some)));
-      regs-kept = one.1;
-      log-same = one.2;
+      regs_kept = one.1;
+      log_same = one.2;
     }
 
 pub turn_spec : {M : Type 1} → statement M

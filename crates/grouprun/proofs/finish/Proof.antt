@@ -1,14 +1,14 @@
 -- `grouprun::finish` meets its contract: what was stepped under the last mask is added. Assumes nothing.
 use mathlib.Core.Path.{refl}
 use native.Mathlib.Omega.{arith}
-use Rattle.stepcounts.proofs.Adding.{roomy-fewer}
+use Rattle.stepcounts.proofs.Adding.{roomy_fewer}
 use Rattle.grouprun.proofs.finish.Statement.{statement}
 use Rattle.grouprun.proofs.finish.Tie as tie
 
 add-requires : tie.Need-add-requires
 add-requires c κs =
     let start = c.before in
-    roomy-fewer start.args.s.mask _ start.args.s.since start.args.counts.now (omega arith) start.requires
+    roomy_fewer start.args.s.mask _ start.args.s.since start.args.counts.now (omega arith) start.requires
 
 returns : tie.Need-returns
 returns c = (refl, c.add.ensures)

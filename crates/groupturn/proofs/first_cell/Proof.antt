@@ -11,5 +11,5 @@ mul-result c =
     let h : c.args.group * c.args.k ≤ 8 * c.args.k = mul-le-mul_right c.args.k (omega (arith, c.requires.0)) in
     omega (arith, h, c.requires.1)
 
-pub first-cell-spec : {M : Type 1} → statement M
-first-cell-spec = tie.close (tie.spec mul-result (λ c. search rules))
+pub first_cell_spec : {M : Type 1} → statement M
+first_cell_spec = tie.close (tie.spec mul-result (λ c. search rules))

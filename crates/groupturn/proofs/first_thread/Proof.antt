@@ -10,7 +10,7 @@ returns : tie.Need-returns
 returns c =
     let args = c.before.before.args in
     let first : args.group * args.n + 0 ≡ args.group * args.n = omega arith in
-    c.before.in-launch.ensures.0 ∙ first
+    c.before.in_launch.ensures.0 ∙ first
 
-pub first-thread-spec : {M : Type 1} → statement M
-first-thread-spec = tie.close (tie.spec (λ c κs. search rules) (λ c. search rules) returns)
+pub first_thread_spec : {M : Type 1} → statement M
+first_thread_spec = tie.close (tie.spec (λ c κs. search rules) (λ c. search rules) returns)

@@ -4,12 +4,12 @@ use Prim.Native.Nat.{◌+◌, ◌-◌, ◌*◌, ◌≤◌}
 use native.Mathlib.Omega.{arith}
 use lib.ListN.{length, take}
 use borrow.Rule.Slice.PartMut.{mid_of}
-use Rattle.layout.specs.Views.{part, putPart}
-use Rattle.layout.proofs.Parts.{part-size, part-put}
+use Rattle.layout.specs.Views.{part, put_part}
+use Rattle.layout.proofs.Parts.{part_size, part_put}
 use Rattle.grouprow.specs.Rows.{BufferSizes}
 use Rattle.grouprun.specs.Groups.{SomeStart, GroupRan}
-use Rattle.placing.specs.Kinds.{kindsPlaced}
-use Rattle.groupturn.proofs.Lent.{lent-part, given_back}
+use Rattle.placing.specs.Kinds.{kinds_placed}
+use Rattle.groupturn.proofs.Lent.{lent_part, given_back}
 use borrow.Author.Rules.{rules}
 use Rattle.groupturn.proofs.turn.Statement.{statement}
 use Rattle.groupturn.proofs.turn.Tie as tie
@@ -21,18 +21,18 @@ start_of c = c.before.before.before.before.before.before.before.before.before.be
 place_is : (c : tie.After-first-thread) → c.before.first_Cell.result ≡ (start_of c).args.group * (start_of c).args.k
 place_is c = c.before.first_Cell.ensures
 
-by-is : (c : tie.After-first-thread) → c.first-thread.result ≡ (start_of c).args.group * (start_of c).args.n
-by-is c = c.first-thread.ensures
+by_is : (c : tie.After-first-thread) → c.first-thread.result ≡ (start_of c).args.group * (start_of c).args.n
+by_is c = c.first-thread.ensures
 
-own-count : (c : tie.Start) → length (part (c.args.group * c.args.k) c.args.k c.args.cells.now) ≡ c.args.k
-own-count c = part-size (c.args.group * c.args.k) c.args.k c.args.cells.now c.requires.cells_in
+own_count : (c : tie.Start) → length (part (c.args.group * c.args.k) c.args.k c.args.cells.now) ≡ c.args.k
+own_count c = part_size (c.args.group * c.args.k) c.args.k c.args.cells.now c.requires.cells_in
 
 -- The part of the cells that is lent to the group's run.
 lent : (c : tie.After-first-thread) → let at = c.before.first_Cell.result in let args = (start_of c).args in
     mid_of at (at + args.k - at) args.cells.now ≡ part (args.group * args.k) args.k args.cells.now
 lent c =
     let args = (start_of c).args in
-    lent-part c.before.first_Cell.result args.k args.cells.now ∙ ap (λ p. part p args.k args.cells.now) (place_is c)
+    lent_part c.before.first_Cell.result args.k args.cells.now ∙ ap (λ p. part p args.k args.cells.now) (place_is c)
 
 run-group-requires : tie.Need-run-group-requires
 run-group-requires c κs =
@@ -41,23 +41,23 @@ run-group-requires c κs =
     let args = start.args in
     let P = start.pre in
     let same = sym (lent at_place) in
-    let count = own-count start in (
+    let count = own_count start in (
       P.runnable,
-      P.some-threads,
-      P.few-threads,
-      P.few-groups,
-      P.few-rows,
-      P.rows-most,
-      P.barriers-few,
+      P.some_threads,
+      P.few_threads_lem,
+      P.few_groups_lem,
+      P.few_rows_lem,
+      P.rows_most,
+      P.barriers_few,
       subst (λ own. BufferSizes own args.own.now args.global.now args.shared.now args.masks.now) same
           (record {
-            log-sized = P.own-sized ∙ ap (λ j. 5 * j) (sym count);
-            cells-few = omega (arith, count, P.cells_in, P.cells-few, P.total-few);
-            shared-sized = P.shared-sized;
-            masks-sized = P.masks-sized;
-            global-few = omega (arith, P.cells-few, P.total-few);
+            log_sized_lem = P.own_sized ∙ ap (λ j. 5 * j) (sym count);
+            cells_few = omega (arith, count, P.cells_in, P.cells_few, P.total_few);
+            shared_sized = P.shared_sized;
+            masks_sized = P.masks_sized;
+            global_few = omega (arith, P.cells_few, P.total_few);
           }),
-      P.common-few,
+      P.common_few,
       P.lent,
       P.older,
       P.remembered,
@@ -74,19 +74,19 @@ place-kinds-requires c κs =
     let at_place = place_of at-run in
     let P = (start_of at_place).pre in
     record {
-      words_are = at-run.run-group.auto.1.1.1.1.1.1.1.1.0 ∙ P.own-sized;
-      within = omega (arith, place_is at_place, P.cells_in, P.cells-few);
-      room = omega (arith, P.log-sized);
-      kinds-few = omega arith;
-      first-few = omega arith;
-      total-few = P.total-few;
+      words_are = at-run.run-group.auto.1.1.1.1.1.1.1.1.0 ∙ P.own_sized;
+      within = omega (arith, place_is at_place, P.cells_in, P.cells_few);
+      room = omega (arith, P.log_sized_lem);
+      kinds_few = omega arith;
+      first_few = omega arith;
+      total_few = P.total_few;
     }
 
 copy-counts-requires : tie.Need-copy-counts-requires
 copy-counts-requires c κs =
     let at_place = place_of c.before.before.before.before.before.before.before.before.before.before.before.before.before.before.before.before.before.before.before in
     let P = (start_of at_place).pre in
-    (P.few-threads, omega (arith, by-is at_place, P.threads-in))
+    (P.few_threads_lem, omega (arith, by_is at_place, P.threads_in))
 
 returns : tie.Need-returns
 returns c =
@@ -100,16 +100,16 @@ returns c =
     let at = args.group * args.k in
     let ys = run.new.1.1.1.1.1.1.1.0 in
     let left = run.new.1.1.1.1.1.1.1.1 in
-    let count : length ys ≡ args.k = run.auto.1.1.1.1.1.1.1.0 ∙ ap length (lent at_place) ∙ own-count start in
-    let back = given_back at_place.before.first_Cell.result args.k args.cells.now ys count ∙ ap (λ p. putPart p ys args.cells.now) (place_is at_place) in
-    let found = ap (part at args.k) back ∙ part-put at args.k ys args.cells.now (omega (arith, start.pre.cells_in)) count in
+    let count : length ys ≡ args.k = run.auto.1.1.1.1.1.1.1.0 ∙ ap length (lent at_place) ∙ own_count start in
+    let back = given_back at_place.before.first_Cell.result args.k args.cells.now ys count ∙ ap (λ p. put_part p ys args.cells.now) (place_is at_place) in
+    let found = ap (part at args.k) back ∙ part_put at args.k ys args.cells.now (omega (arith, start.pre.cells_in)) count in
     record {
       ran = subst₂ (λ before after. GroupRan args.table.now args.n args.group args.limit args.rows args.barriers args.common.now before args.global.now
           args.masks.now args.records.now run.result after left.0 left.1.1.0 left.1.1.1.0 left.1.1.1.1.0 left.1.1.1.1.1.0 left.1.1.1.1.1.1.0
           left.1.1.1.1.1.1.1.0 left.1.1.1.1.1.1.1.1.0) (lent at_place) (sym found) run.ensures;
-      cells_are = back ∙ ap (λ own. putPart at own args.cells.now) (sym found);
-      log_is = placed.ensures ∙ ap (λ p. kindsPlaced 0 args.total p args.k 5 left.0 args.log.now) (place_is at_place);
-      steps-are = steps.ensures ∙ ap (λ p. putPart p (take args.n left.1.1.1.1.1.1.0) args.steps.now) (by-is at_place);
+      cells_are = back ∙ ap (λ own. put_part at own args.cells.now) (sym found);
+      log_is = placed.ensures ∙ ap (λ p. kinds_placed 0 args.total p args.k 5 left.0 args.log.now) (place_is at_place);
+      steps_are = steps.ensures ∙ ap (λ p. put_part p (take args.n left.1.1.1.1.1.1.0) args.steps.now) (by_is at_place);
     }
 
 pub turn_spec : {M : Type 1} → statement M

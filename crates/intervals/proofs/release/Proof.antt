@@ -5,16 +5,16 @@ use Prim.Native.Nat.{ℕ, ◌+◌, ◌*◌, ◌≤◌}
 use native.Mathlib.Omega.{arith}
 use borrow.Author.Tests.{lt-ltb, le-ltb}
 use lib.ListN.{get_or}
-use Rattle.intervals.specs.Records.{inUse, begun, released}
+use Rattle.intervals.specs.Records.{in_use, begun, released}
 use Rattle.intervals.proofs.release.Statement.{statement}
 use Rattle.intervals.proofs.release.Tie as tie
 
 end-requires : tie.Need-end-requires
-unfolding inUse
+unfolding in_use
 end-requires c κs =
     let start = c.before.before.before in
     let args = start.args in
-    let used : inUse args.earlier ≡ args.earlier = omega (arith, c.before.if1.true) in
+    let used : in_use args.earlier ≡ args.earlier = omega (arith, c.before.if1.true) in
     (start.requires.0, omega (arith, c.before.if1.true), subst (λ (k : ℕ). get_or args.records.now (k * 3 + 1) 0 ≤ args.rows) used start.requires.1)
 
 returns : tie.Need-returns

@@ -12,8 +12,8 @@ invariant-loop p q v₀ t₀ v t = Filled (zip add p q) v t
 abbrev decreases-loop : tie.decreases-loop
 decreases-loop p q v₀ t₀ v t = 32 - t
 
-pub add-lanes-spec : {M : Type 1} → statement M
-add-lanes-spec =
+pub add_lanes_spec : {M : Type 1} → statement M
+add_lanes_spec =
     tie.close
     (tie.spec
     invariant-loop

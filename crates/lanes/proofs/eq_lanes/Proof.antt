@@ -12,8 +12,8 @@ invariant-loop p q v₀ t₀ v t = Filled (zip equal p q) v t
 abbrev decreases-loop : tie.decreases-loop
 decreases-loop p q v₀ t₀ v t = 32 - t
 
-pub eq-lanes-spec : {M : Type 1} → statement M
-eq-lanes-spec =
+pub eq_lanes_spec : {M : Type 1} → statement M
+eq_lanes_spec =
     tie.close
     (tie.spec
     invariant-loop

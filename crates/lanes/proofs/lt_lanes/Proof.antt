@@ -12,8 +12,8 @@ invariant-loop p q v₀ t₀ v t = Filled (zip less p q) v t
 abbrev decreases-loop : tie.decreases-loop
 decreases-loop p q v₀ t₀ v t = 32 - t
 
-pub lt-lanes-spec : {M : Type 1} → statement M
-lt-lanes-spec =
+pub lt_lanes_spec : {M : Type 1} → statement M
+lt_lanes_spec =
     tie.close
     (tie.spec
     invariant-loop

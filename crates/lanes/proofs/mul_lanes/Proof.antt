@@ -12,8 +12,8 @@ invariant-loop p q v₀ t₀ v t = Filled (zip mul p q) v t
 abbrev decreases-loop : tie.decreases-loop
 decreases-loop p q v₀ t₀ v t = 32 - t
 
-pub mul-lanes-spec : {M : Type 1} → statement M
-mul-lanes-spec =
+pub mul_lanes_spec : {M : Type 1} → statement M
+mul_lanes_spec =
     tie.close
     (tie.spec
     invariant-loop

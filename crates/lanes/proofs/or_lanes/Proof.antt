@@ -12,8 +12,8 @@ invariant-loop p q v₀ t₀ v t = Filled (zip bit_or p q) v t
 abbrev decreases-loop : tie.decreases-loop
 decreases-loop p q v₀ t₀ v t = 32 - t
 
-pub or-lanes-spec : {M : Type 1} → statement M
-or-lanes-spec =
+pub or_lanes_spec : {M : Type 1} → statement M
+or_lanes_spec =
     tie.close
     (tie.spec
     invariant-loop

@@ -12,8 +12,8 @@ invariant-loop p q v₀ t₀ v t = Filled (zip shr p q) v t
 abbrev decreases-loop : tie.decreases-loop
 decreases-loop p q v₀ t₀ v t = 32 - t
 
-pub shr-lanes-spec : {M : Type 1} → statement M
-shr-lanes-spec =
+pub shr_lanes_spec : {M : Type 1} → statement M
+shr_lanes_spec =
     tie.close
     (tie.spec
     invariant-loop

@@ -1,19 +1,19 @@
 -- `lanes::slt_lanes` gives the lanes of SLT. Assumes nothing.
 use Prim.Native.Nat.{◌-◌}
-use Rattle.spec.specs.Word.{signedLess}
+use Rattle.spec.specs.Word.{signed_less}
 use Rattle.lanes.specs.Lanes.{Filled, zip}
 use Rattle.lanes.proofs.Filling.{filling}
 use Rattle.lanes.proofs.slt_lanes.Statement.{statement}
 use Rattle.lanes.proofs.slt_lanes.Tie as tie
 
 abbrev invariant-loop : tie.invariant-loop
-invariant-loop p q v₀ t₀ v t = Filled (zip signedLess p q) v t
+invariant-loop p q v₀ t₀ v t = Filled (zip signed_less p q) v t
 
 abbrev decreases-loop : tie.decreases-loop
 decreases-loop p q v₀ t₀ v t = 32 - t
 
-pub slt-lanes-spec : {M : Type 1} → statement M
-slt-lanes-spec =
+pub slt_lanes_spec : {M : Type 1} → statement M
+slt_lanes_spec =
     tie.close
     (tie.spec
     invariant-loop

@@ -12,8 +12,8 @@ invariant-loop p q v₀ t₀ v t = Filled (zip sub p q) v t
 abbrev decreases-loop : tie.decreases-loop
 decreases-loop p q v₀ t₀ v t = 32 - t
 
-pub sub-lanes-spec : {M : Type 1} → statement M
-sub-lanes-spec =
+pub sub_lanes_spec : {M : Type 1} → statement M
+sub_lanes_spec =
     tie.close
     (tie.spec
     invariant-loop

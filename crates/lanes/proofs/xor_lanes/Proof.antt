@@ -12,8 +12,8 @@ invariant-loop p q v₀ t₀ v t = Filled (zip bit_xor p q) v t
 abbrev decreases-loop : tie.decreases-loop
 decreases-loop p q v₀ t₀ v t = 32 - t
 
-pub xor-lanes-spec : {M : Type 1} → statement M
-xor-lanes-spec =
+pub xor_lanes_spec : {M : Type 1} → statement M
+xor_lanes_spec =
     tie.close
     (tie.spec
     invariant-loop

@@ -5,9 +5,9 @@ use Prim.Native.Nat.{◌*◌}
 use native.Mathlib.Omega.{arith}
 use lib.ListN.{length}
 use Rattle.spec.specs.Shape.{Sizes, sizes}
-use Rattle.spec.specs.Entries.{bareNumbers}
-use Rattle.admission.specs.Refusing.{refusalOf}
-use Rattle.launch.proofs.Bare.{fine, readable, lent_is, numbers-refuse, table-refuses, state-refuses, ran}
+use Rattle.spec.specs.Entries.{bare_numbers}
+use Rattle.admission.specs.Refusing.{refusal_of}
+use Rattle.launch.proofs.Bare.{fine, readable, lent_is, numbers_refuse, table_refuses, state_refuses, ran}
 use Rattle.reader.proofs.Ready.{runnable}
 use borrow.Author.Rules.{rules}
 use Rattle.launch.proofs.bare_launch.Statement.{statement}
@@ -22,13 +22,13 @@ returns c =
     let numbers = c.before.before.before.numbers in
     let start = c.before.before.before.before.before.before.before.before.before in
     let args = start.args in
-    numbers-refuse args.table.now (given start) args.limit args.cells.now args.global.now args.log.now args.records.now args.steps.now _
-    (sym numbers.ensures ∙ ap refusalOf c.before.why.given.1)
+    numbers_refuse args.table.now (given start) args.limit args.cells.now args.global.now args.log.now args.records.now args.steps.now _
+    (sym numbers.ensures ∙ ap refusal_of c.before.why.given.1)
 
 read-table-requires : tie.Need-read-table-requires
 read-table-requires c κs =
     let start = c.before.before.before.before.before.before.before.before in
-    readable start.args.table.now (given start) start.args.limit (sym c.before.before.numbers.ensures ∙ ap refusalOf c.enum_told.given.1)
+    readable start.args.table.now (given start) start.args.limit (sym c.before.before.numbers.ensures ∙ ap refusal_of c.enum_told.given.1)
 
 returns-2 : tie.Need-returns-2
 returns-2 c =
@@ -37,8 +37,8 @@ returns-2 c =
     let numbers = c.before.before.before.before.before.before.before.numbers in
     let start = c.before.before.before.before.before.before.before.before.before.before.before.before.before in
     let args = start.args in
-    table-refuses args.table.now (given start) args.limit args.cells.now args.global.now args.log.now args.records.now args.steps.now _
-    (sym numbers.ensures ∙ ap refusalOf accepted.given.1) (sym read_table.ensures.0 ∙ ap refusalOf c.before.answer.given.1)
+    table_refuses args.table.now (given start) args.limit args.cells.now args.global.now args.log.now args.records.now args.steps.now _
+    (sym numbers.ensures ∙ ap refusal_of accepted.given.1) (sym read_table.ensures.0 ∙ ap refusal_of c.before.answer.given.1)
 
 returns-3 : tie.Need-returns-3
 returns-3 c =
@@ -49,9 +49,9 @@ returns-3 c =
     let numbers = c.before.before.before.before.before.before.before.before.before.before.numbers in
     let start = c.before.before.before.before.before.before.before.before.before.before.before.before.before.before.before.before in
     let args = start.args in
-    state-refuses args.table.now (given start) args.limit args.cells.now args.global.now args.log.now args.records.now args.steps.now _
-    (sym numbers.ensures ∙ ap refusalOf accepted.given.1) (sym read_table.ensures.0 ∙ ap refusalOf checked.given.1)
-    (sym (lent.ensures args.threads) ∙ ap refusalOf c.before.why2.given.1)
+    state_refuses args.table.now (given start) args.limit args.cells.now args.global.now args.log.now args.records.now args.steps.now _
+    (sym numbers.ensures ∙ ap refusal_of accepted.given.1) (sym read_table.ensures.0 ∙ ap refusal_of checked.given.1)
+    (sym (lent.ensures args.threads) ∙ ap refusal_of c.before.why2.given.1)
 
 run-launch-requires : tie.Need-run-launch-requires
 run-launch-requires c κs =
@@ -66,21 +66,21 @@ run-launch-requires c κs =
     let start = at-numbers.before.before.before.before.before.before in
     let args = start.args in
     let table = args.table.now in
-    let n : bareNumbers (length table) (given start) args.limit ≡ none = sym numbers.ensures ∙ ap refusalOf accepted.given.1 in
+    let n : bare_numbers (length table) (given start) args.limit ≡ none = sym numbers.ensures ∙ ap refusal_of accepted.given.1 in
     let f = fine _ (given start) args.limit n in
-    let l = lent_is (given start) _ _ _ _ (sym (lent.ensures args.threads) ∙ ap refusalOf suited.given.1) in
+    let l = lent_is (given start) _ _ _ _ (sym (lent.ensures args.threads) ∙ ap refusal_of suited.given.1) in
     let own = ap (λ k. args.groups * k) each in
     record {
-      runnable = runnable table _ (readable table (given start) args.limit n).1 (sym read_table.ensures.0 ∙ ap refusalOf checked.given.1) read_table.ensures.1;
-      some-threads = f.some-threads;
-      few-threads = f.few-threads;
-      some-groups = f.some-groups;
-      few-groups = f.few-groups;
-      few-rows = f.few-rows;
+      runnable = runnable table _ (readable table (given start) args.limit n).1 (sym read_table.ensures.0 ∙ ap refusal_of checked.given.1) read_table.ensures.1;
+      some_threads = f.some_threads;
+      few_threads_lem = f.few_threads_lem;
+      some_groups = f.some_groups;
+      few_groups_lem = f.few_groups_lem;
+      few_rows_lem = f.few_rows_lem;
       cells_are = l.0 ∙ sym own;
-      common-few = omega arith;
-      total-few = omega (arith, own, l.1, f.few-cells);
-      log-sized = omega (arith, own, l.1, l.2);
+      common_few = omega arith;
+      total_few = omega (arith, own, l.1, f.few_cells_lem);
+      log_sized_lem = omega (arith, own, l.1, l.2);
       lent = l.3;
     }
 
@@ -98,14 +98,14 @@ returns-4 c =
     let numbers = at-lent.before.before.before.before.before.before.before.numbers in
     let start = at-lent.before.before.before.before.before.before.before.before.before.before.before.before.before in
     let args = start.args in
-    let l = lent_is (given start) _ _ _ _ (sym (lent.ensures args.threads) ∙ ap refusalOf suited.given.1) in
+    let l = lent_is (given start) _ _ _ _ (sym (lent.ensures args.threads) ∙ ap refusal_of suited.given.1) in
     ran args.table.now (given start) args.limit args.cells.now args.global.now args.log.now args.records.now args.steps.now _
     (λ i. sizes args.threads (each i) args.groups (l.1 i)) _ _ _ _ _ _
-    (sym numbers.ensures ∙ ap refusalOf accepted.given.1) (sym read_table.ensures.0 ∙ ap refusalOf checked.given.1)
-    (sym (lent.ensures args.threads) ∙ ap refusalOf suited.given.1) run.ensures
+    (sym numbers.ensures ∙ ap refusal_of accepted.given.1) (sym read_table.ensures.0 ∙ ap refusal_of checked.given.1)
+    (sym (lent.ensures args.threads) ∙ ap refusal_of suited.given.1) run.ensures
 
-pub bare-launch-spec : {M : Type 1} → statement M
-bare-launch-spec =
+pub bare_launch_spec : {M : Type 1} → statement M
+bare_launch_spec =
     tie.close
     (tie.spec
     (λ c κs. search rules) (λ c. search rules)

@@ -3,8 +3,8 @@ use mathlib.Core.Path.{◌≡◌, refl, sym, ap, ◌∙◌}
 use Prim.Native.Nat.{◌+◌, ◌*◌, ◌≤◌}
 use native.Mathlib.Omega.{arith}
 use lib.ListN.{length}
-use Rattle.placing.specs.Kinds.{kindsPlaced}
-use Rattle.placing.proofs.KindLaws.{kinds-size}
+use Rattle.placing.specs.Kinds.{kinds_placed}
+use Rattle.placing.proofs.KindLaws.{kinds_size}
 use borrow.Author.Rules.{rules}
 use Rattle.launchend.proofs.close.Statement.{statement}
 use Rattle.launchend.proofs.close.Tie as tie
@@ -16,9 +16,9 @@ returns c =
     let shared = c.before.before.before.before.before.before.before.before.before.before.before.before.place-kinds in
     let args = c.before.before.before.before.before.before.before.before.before.before.before.before.before.before.before.before.before.before.args in
     record {
-      log_is = masks.ensures ∙ ap (kindsPlaced 5 args.total args.at args.k 3 args.masks.now) shared.ensures;
-      records-are = finish.ensures.0;
-      outcome-is = λ i. record {
+      log_is = masks.ensures ∙ ap (kinds_placed 5 args.total args.at args.k 3 args.masks.now) shared.ensures;
+      records_are = finish.ensures.0;
+      outcome_is = λ i. record {
         verdict = args.r.verdict;
         row = args.r.row;
         group = args.group;

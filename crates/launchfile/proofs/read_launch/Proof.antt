@@ -4,26 +4,26 @@ use native.Mathlib.Omega.{arith}
 use borrow.Author.Tests.{not-true, not-false}
 use borrow.Author.Rules.{rules}
 use Rattle.spec.specs.Text.{text}
-use Rattle.numberlines.specs.Answered.{lineCount, linesBehind}
+use Rattle.numberlines.specs.Answered.{line_count, lines_behind}
 use Rattle.launchfile.specs.Parsed.{BytesFrom}
-use Rattle.launchfile.proofs.Answered.{answers, refused-is}
-use Rattle.launchfile.proofs.Whole.{too_long, no-kernel, size-refused, too_many, length-refused, numbers-read, within}
+use Rattle.launchfile.proofs.Answered.{answers, refused_is}
+use Rattle.launchfile.proofs.Whole.{too_long, no_kernel, size_refused, too_many, length_refused, numbers_read, within}
 use Rattle.launchfile.proofs.read_launch.Statement.{statement}
 use Rattle.launchfile.proofs.read_launch.Tie as tie
 
 returns : tie.Need-returns
-returns c = refused-is (too_long _ (omega arith)) c.refused.ensures
+returns c = refused_is (too_long _ (omega arith)) c.refused.ensures
 
 returns-2 : tie.Need-returns-2
 unfolding text
 returns-2 c =
-    let at-word = c.before.before in
-    refused-is
-    (no-kernel _ (omega arith) at-word.word_line.result at-word.word_line.ensures (not-true _ c.before.if2.true))
+    let at_word = c.before.before in
+    refused_is
+    (no_kernel _ (omega arith) at_word.word_line.result at_word.word_line.ensures (not-true _ c.before.if2.true))
     c.refused2.ensures
 
 read-numbers-requires : tie.Need-read-numbers-requires
-unfolding lineCount
+unfolding line_count
 read-numbers-requires c κs = omega arith
 
 returns-3 : tie.Need-returns-3
@@ -32,9 +32,9 @@ returns-3 c =
     let at-why = c.before.before in
     let at-sizes = at-why.before.before.before in
     let at_next = at-sizes.before.before in
-    let at-word = at_next.before.before in
-    refused-is
-    (size-refused _ at-word.before.before.before.if1.false at-word.word_line.result at-word.word_line.ensures (not-false _ at_next.before.if2.false)
+    let at_word = at_next.before.before in
+    refused_is
+    (size_refused _ at_word.before.before.before.if1.false at_word.word_line.result at_word.word_line.ensures (not-false _ at_next.before.if2.false)
     at_next.next.ensures _ _ _ at-sizes.read-numbers.ensures at-why.why.given.1)
     c.refused3.ensures
 
@@ -45,15 +45,15 @@ returns-4 c =
     let sized = at-total.before in
     let at-sizes = sized.before.before.before in
     let at_next = at-sizes.before.before in
-    let at-word = at_next.before.before in
-    refused-is
-    (too_many _ at-word.before.before.before.if1.false at-word.word_line.result at-word.word_line.ensures (not-false _ at_next.before.if2.false)
+    let at_word = at_next.before.before in
+    refused_is
+    (too_many _ at_word.before.before.before.if1.false at_word.word_line.result at_word.word_line.ensures (not-false _ at_next.before.if2.false)
     at_next.next.ensures _ _ _ at-sizes.read-numbers.ensures
-    sized.enum_told.given.1 _ at-total.all-cells.ensures c.before.if3.true)
+    sized.enum_told.given.1 _ at-total.all_cells_lem.ensures c.before.if3.true)
     c.refused4.ensures
 
 read-numbers-requires-2 : tie.Need-read-numbers-requires-2
-unfolding lineCount
+unfolding line_count
 read-numbers-requires-2 c κs = omega arith
 
 returns-5 : tie.Need-returns-5
@@ -67,11 +67,11 @@ returns-5 c =
     let sized = at-total.before in
     let at-sizes = sized.before.before.before in
     let at_next = at-sizes.before.before in
-    let at-word = at_next.before.before in
-    refused-is
-    (length-refused _ at-word.before.before.before.if1.false at-word.word_line.result at-word.word_line.ensures (not-false _ at_next.before.if2.false)
+    let at_word = at_next.before.before in
+    refused_is
+    (length_refused _ at_word.before.before.before.if1.false at_word.word_line.result at_word.word_line.ensures (not-false _ at_next.before.if2.false)
     at_next.next.ensures _ _ _ at-sizes.read-numbers.ensures
-    sized.enum_told.given.1 _ at-total.all-cells.ensures few.if3.false
+    sized.enum_told.given.1 _ at-total.all_cells_lem.ensures few.if3.false
     at-behind.behind-lines.ensures _ _ _ at-lengths.read-numbers2.ensures at-why.why2.given.1)
     c.refused5.ensures
 
@@ -86,14 +86,14 @@ read-contents-requires c κs =
     let sized = at-total.before in
     let at-sizes = sized.before.before.before in
     let at_next = at-sizes.before.before in
-    let at-word = at_next.before.before in
-    within _ at-word.before.before.before.if1.false at-word.word_line.result at-word.word_line.ensures (not-false _ at_next.before.if2.false)
+    let at_word = at_next.before.before in
+    within _ at_word.before.before.before.if1.false at_word.word_line.result at_word.word_line.ensures (not-false _ at_next.before.if2.false)
     at_next.next.ensures _ _ _ at-sizes.read-numbers.ensures
-    sized.enum_told.given.1 _ at-total.all-cells.ensures few.if3.false
+    sized.enum_told.given.1 _ at-total.all_cells_lem.ensures few.if3.false
     at-behind.behind-lines.ensures _ _ _ at-lengths.read-numbers2.ensures accepted.enum-told2.given.1
 
 returns-6 : tie.Need-returns-6
-unfolding text lineCount linesBehind
+unfolding text line_count lines_behind
 returns-6 c =
     let at_rest = c.before.before.before in
     let accepted = at_rest.before in
@@ -104,22 +104,22 @@ returns-6 c =
     let sized = at-total.before in
     let at-sizes = sized.before.before.before in
     let at_next = at-sizes.before.before in
-    let at-word = at_next.before.before in
+    let at_word = at_next.before.before in
     record {
       read_as = answers _
-          (numbers-read _ at-word.before.before.before.if1.false at-word.word_line.result at-word.word_line.ensures (not-false _ at_next.before.if2.false)
+          (numbers_read _ at_word.before.before.before.if1.false at_word.word_line.result at_word.word_line.ensures (not-false _ at_next.before.if2.false)
           at_next.next.ensures _ _ _ at-sizes.read-numbers.ensures
-          sized.enum_told.given.1 _ at-total.all-cells.ensures few.if3.false
+          sized.enum_told.given.1 _ at-total.all_cells_lem.ensures few.if3.false
           at-behind.behind-lines.ensures _ _ _ at-lengths.read-numbers2.ensures accepted.enum-told2.given.1
           at_rest.behind-lines2.ensures)
           c.read-contents.ensures.0;
       bytes = λ e. subst (λ rows. BytesFrom rows c.read-contents.result.launch)
-          (at_rest.behind-lines2.ensures ∙ ap (linesBehind 2) (at-behind.behind-lines.ensures ∙ ap (linesBehind 4) at_next.next.ensures))
+          (at_rest.behind-lines2.ensures ∙ ap (lines_behind 2) (at-behind.behind-lines.ensures ∙ ap (lines_behind 4) at_next.next.ensures))
           (c.read-contents.ensures.1 e);
     }
 
-pub read-launch-spec : {M : Type 1} → statement M
-read-launch-spec =
+pub read_launch_spec : {M : Type 1} → statement M
+read_launch_spec =
     tie.close
     (tie.spec
     (λ c κs. search rules)

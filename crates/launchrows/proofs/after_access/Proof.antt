@@ -16,5 +16,5 @@ returns-2 c =
     let args = c.before.before.before.args in
     sym (ap (accessed args.s) c.before.c.given.1)
 
-pub after-access-spec : {M : Type 1} → statement M
-after-access-spec = tie.close (tie.spec (λ c. search rules) (λ c κs. search rules) (λ c. search rules) returns returns-2)
+pub after_access_spec : {M : Type 1} → statement M
+after_access_spec = tie.close (tie.spec (λ c. search rules) (λ c κs. search rules) (λ c. search rules) returns returns-2)

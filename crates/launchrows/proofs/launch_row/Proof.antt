@@ -8,5 +8,5 @@ use Rattle.launchrows.proofs.launch_row.Tie as tie
 returns : tie.Need-returns
 returns c = (ap next.Go c.moved.ensures, c.before.launch-row.ensures)
 
-pub launch-row-spec : {M : Type 1} → statement M
-launch-row-spec = tie.close (tie.spec (λ c κs. search rules) (λ c κs. search rules) returns)
+pub launch_row_spec : {M : Type 1} → statement M
+launch_row_spec = tie.close (tie.spec (λ c κs. search rules) (λ c κs. search rules) returns)

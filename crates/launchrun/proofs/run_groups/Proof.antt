@@ -6,11 +6,11 @@ use mathlib.Core.Bool.{Bool, true, false, not, true≢false}
 use Prim.Native.Nat.{ℕ, ◌+◌, ◌-◌, ◌≤◌, ◌<◌}
 use native.Mathlib.Omega.{arith}
 use lib.ListN.{replicate}
-use Rattle.launchrun.specs.Launches.{sizesBy}
+use Rattle.launchrun.specs.Launches.{sizes_by}
 use Rattle.launchrun.proofs.Buffers.{Buffers, Kept}
 use Rattle.launchrun.proofs.Launching.{Launched}
-use Rattle.launchrun.proofs.LaunchStart.{launched-start}
-use Rattle.launchrun.proofs.Turns.{Between, Turned, few-groups, turn-asks, barriers-fit, close-asks, closed_is, next-is, release-asks}
+use Rattle.launchrun.proofs.LaunchStart.{launched_start}
+use Rattle.launchrun.proofs.Turns.{Between, Turned, few_groups_lem, turn_asks, barriers_fit, close_asks, closed_is, next_is, release_asks}
 use borrow.Author.Rules.{rules}
 use Rattle.launchrun.proofs.run_groups.Statement.{statement}
 use Rattle.launchrun.proofs.run_groups.Tie as tie
@@ -44,7 +44,7 @@ invariant-loop table ends n groups k limit common cells₀ global₀ log₀ own�
       stamps = stamps;
       memo = memo;
     } in
-    Kept W₀ W × Launched table (sizesBy n groups k common global₀) limit (cells₀ ++ global₀) records₀ (groups - 1 - g) g rows barriers W
+    Kept W₀ W × Launched table (sizes_by n groups k common global₀) limit (cells₀ ++ global₀) records₀ (groups - 1 - g) g rows barriers W
 
 abbrev decreases-loop : tie.decreases-loop
 decreases-loop table ends n groups k limit common cells₀ global₀ log₀ own₀ shared₀ masks₀ records₀ counts₀ steps₀ stamps₀ memo₀ m at total g₀ rows₀ barriers₀ cells global log
@@ -106,7 +106,7 @@ between c =
     }
 
 add_total : tie.Need-overflow-add-total invariant-loop decreases-loop
-add_total c = let A = c.before.before.before.before.before.before.before.before.before.requires.0 in omega (arith, A.cells_are, A.total-few)
+add_total c = let A = c.before.before.before.before.before.before.before.before.before.requires.0 in omega (arith, A.cells_are, A.total_few)
 
 loop-holds : tie.Need-loop-init invariant-loop decreases-loop
 loop-holds c =
@@ -116,23 +116,23 @@ loop-holds c =
     let F = start.requires.1 in
     let j : args.groups - 1 ≡ args.groups - 1 - 0 = omega arith in (
       record {
-        cells-long = refl;
-        global-long = refl;
-        log-long = refl;
-        own-long = refl;
+        cells_long_lem = refl;
+        global_long_lem = refl;
+        log_long = refl;
+        own_long = refl;
         shared_long = refl;
-        masks-long = refl;
-        records-long = refl;
+        masks_long = refl;
+        records_long = refl;
       },
-      subst (λ i. Launched args.table.now (sizesBy args.n args.groups args.k args.common.now args.global.now) args.limit (args.cells.now ++ args.global.now)
+      subst (λ i. Launched args.table.now (sizes_by args.n args.groups args.k args.common.now args.global.now) args.limit (args.cells.now ++ args.global.now)
           args.records.now i 0 0 0 (lent_at start)) j
-          (launched-start args.table.now (sizesBy args.n args.groups args.k args.common.now args.global.now) args.limit (lent_at start)
-          A.some-groups A.few-groups A.cells_are refl args.records.now A.lent (F.log-empty ∙ ap (λ i. replicate i 0) A.log-sized)
-          (F.masks-empty ∙ ap (λ i. replicate i 0) F.masks-sized) F.begun-once F.steps-empty F.older F.remembered),
+          (launched_start args.table.now (sizes_by args.n args.groups args.k args.common.now args.global.now) args.limit (lent_at start)
+          A.some_groups A.few_groups_lem A.cells_are refl args.records.now A.lent (F.log_empty ∙ ap (λ i. replicate i 0) A.log_sized_lem)
+          (F.masks_empty ∙ ap (λ i. replicate i 0) F.masks_sized) F.begun_once F.steps_empty F.older F.remembered),
     )
 
 turn-requires : tie.Need-turn-requires invariant-loop decreases-loop
-turn-requires c κs = turn-asks (between c.before.before.before.before.before.before.before.before.before.before.before)
+turn-requires c κs = turn_asks (between c.before.before.before.before.before.before.before.before.before.before.before)
 
 -- The start of the turn that has been made, and what it has left.
 abbrev due : tie.After-turn invariant-loop decreases-loop → Between
@@ -160,109 +160,109 @@ kept c =
     let N = (due c).kept in
     let k = c.turn.auto.1.1.1.1.1.1.1.1.1.1 in
     record {
-      cells-long = k.0 ∙ N.cells-long;
-      global-long = k.1.0 ∙ N.global-long;
-      log-long = k.1.1.0 ∙ N.log-long;
-      own-long = k.1.1.1.0 ∙ N.own-long;
+      cells_long_lem = k.0 ∙ N.cells_long_lem;
+      global_long_lem = k.1.0 ∙ N.global_long_lem;
+      log_long = k.1.1.0 ∙ N.log_long;
+      own_long = k.1.1.1.0 ∙ N.own_long;
       shared_long = k.1.1.1.1.0 ∙ N.shared_long;
-      masks-long = k.1.1.1.1.1.0 ∙ N.masks-long;
-      records-long = k.1.1.1.1.1.1.0 ∙ N.records-long;
+      masks_long = k.1.1.1.1.1.0 ∙ N.masks_long;
+      records_long = k.1.1.1.1.1.1.0 ∙ N.records_long;
     }
 
 abbrev turned : (c : tie.After-turn invariant-loop decreases-loop) → Turned (due c)
 turned c = record { ended = c.turn.result; after = left_by c; done = c.turn.ensures; kept = kept c }
 
-abbrev turn-of : tie.After-goes-on invariant-loop decreases-loop → tie.After-turn invariant-loop decreases-loop
-turn-of c = c.before.before.before.before.before.before.before.before.before.before.before.before.before.before.before
+abbrev turn_of : tie.After-goes-on invariant-loop decreases-loop → tie.After-turn invariant-loop decreases-loop
+turn_of c = c.before.before.before.before.before.before.before.before.before.before.before.before.before.before.before
 
 abbrev closed_of : tie.After-close invariant-loop decreases-loop → tie.After-turn invariant-loop decreases-loop
-closed_of c = turn-of c.before.before.before.before.before.before
+closed_of c = turn_of c.before.before.before.before.before.before
 
 -- The test of the verdict, as it is asked.
-was-false : {b : Bool} → not b ≡ true → b ≡ false
-was-false {b = true} e = absurd (true≢false (sym e))
-was-false {b = false} e = refl
+was_false : {b : Bool} → not b ≡ true → b ≡ false
+was_false {b = true} e = absurd (true≢false (sym e))
+was_false {b = false} e = refl
 
-was-true : {b : Bool} → not b ≡ false → b ≡ true
-was-true {b = true} e = refl
-was-true {b = false} e = absurd (true≢false e)
+was_true : {b : Bool} → not b ≡ false → b ≡ true
+was_true {b = true} e = refl
+was_true {b = false} e = absurd (true≢false e)
 
 goes-on-requires : tie.Need-goes-on-requires invariant-loop decreases-loop
-goes-on-requires c κs = few-groups (due c.before.before.before.before.before.before.before.before.before.before.before.before.before.before)
+goes-on-requires c κs = few_groups_lem (due c.before.before.before.before.before.before.before.before.before.before.before.before.before.before)
 
 close-requires : tie.Need-close-requires invariant-loop decreases-loop
 close-requires c κs =
     let at_test = c.before.before.before.before.before in
-    let at_turn = turn-of at_test in
-    let over = at_test.goes_on.ensures.over (was-false c.before.before.before.before.if1.true) in
-    close-asks (due at_turn) (turned at_turn) over
+    let at_turn = turn_of at_test in
+    let over = at_test.goes_on_lem.ensures.over (was_false c.before.before.before.before.if1.true) in
+    close_asks (due at_turn) (turned at_turn) over
 
 same_length : tie.Need-same-length invariant-loop decreases-loop
-same_length c = (kept (closed_of c.before.before.before.before)).cells-long
+same_length c = (kept (closed_of c.before.before.before.before)).cells_long_lem
 
 same-length-2 : tie.Need-same-length-2 invariant-loop decreases-loop
-same-length-2 c = (kept (closed_of c.before.before.before.before)).global-long
+same-length-2 c = (kept (closed_of c.before.before.before.before)).global_long_lem
 
 same-length-3 : tie.Need-same-length-3 invariant-loop decreases-loop
-same-length-3 c = c.before.before.before.before.close.auto.0 ∙ (kept (closed_of c.before.before.before.before)).log-long
+same-length-3 c = c.before.before.before.before.close.auto.0 ∙ (kept (closed_of c.before.before.before.before)).log_long
 
 same-length-4 : tie.Need-same-length-4 invariant-loop decreases-loop
-same-length-4 c = (kept (closed_of c.before.before.before.before)).own-long
+same-length-4 c = (kept (closed_of c.before.before.before.before)).own_long
 
 same-length-5 : tie.Need-same-length-5 invariant-loop decreases-loop
 same-length-5 c = (kept (closed_of c.before.before.before.before)).shared_long
 
 same-length-6 : tie.Need-same-length-6 invariant-loop decreases-loop
-same-length-6 c = (kept (closed_of c.before.before.before.before)).masks-long
+same-length-6 c = (kept (closed_of c.before.before.before.before)).masks_long
 
 same-length-7 : tie.Need-same-length-7 invariant-loop decreases-loop
-same-length-7 c = c.before.before.before.before.close.auto.1.1.1.0 ∙ (kept (closed_of c.before.before.before.before)).records-long
+same-length-7 c = c.before.before.before.before.close.auto.1.1.1.0 ∙ (kept (closed_of c.before.before.before.before)).records_long
 
 returns : tie.Need-returns invariant-loop decreases-loop
 returns c =
     let at_test = c.before.before.before.before.before.before.before.before.before.before in
-    let at_turn = turn-of at_test in
-    let over = at_test.goes_on.ensures.over (was-false c.before.before.before.before.before.before.before.before.before.if1.true) in
+    let at_turn = turn_of at_test in
+    let over = at_test.goes_on_lem.ensures.over (was_false c.before.before.before.before.before.before.before.before.before.if1.true) in
     let close = c.before.before.before.before.close in
     closed_is (due at_turn) (turned at_turn) over close.result close.new.0 close.new.1.1.1.0 close.ensures
 
 add-release : tie.Need-overflow-add-release invariant-loop decreases-loop
 add-release c =
-    let at_turn = turn-of c.before.before in
-    omega (arith, few-groups (due at_turn), barriers-fit (due at_turn) (turned at_turn))
+    let at_turn = turn_of c.before.before in
+    omega (arith, few_groups_lem (due at_turn), barriers_fit (due at_turn) (turned at_turn))
 
 release-requires : tie.Need-release-requires invariant-loop decreases-loop
 release-requires c κs =
-    let at_turn = turn-of c.before.before in
-    (omega (arith, (kept at_turn).records-long, (due at_turn).asks.lent), release-asks (due at_turn) (turned at_turn))
+    let at_turn = turn_of c.before.before in
+    (omega (arith, (kept at_turn).records_long, (due at_turn).asks.lent), release_asks (due at_turn) (turned at_turn))
 
 add-g : tie.Need-overflow-add-g invariant-loop decreases-loop
-add-g c = omega (arith, few-groups (due (turn-of c.before.before.before.before.before)))
+add-g c = omega (arith, few_groups_lem (due (turn_of c.before.before.before.before.before)))
 
 loop-less : tie.Need-loop-smaller invariant-loop decreases-loop
-loop-less c = omega (arith, (due (turn-of c.before.before.before.before.before)).launched.behind)
+loop-less c = omega (arith, (due (turn_of c.before.before.before.before.before)).launched.behind)
 
 loop-again : tie.Need-loop-preserved invariant-loop decreases-loop
 loop-again c =
     let at_test = c.before.before.before.before.before in
-    let at_turn = turn-of at_test in
+    let at_turn = turn_of at_test in
     let release = c.before.before.release in
-    let more = at_test.goes_on.ensures.more (was-true c.before.before.before.before.if1.false) in
+    let more = at_test.goes_on_lem.ensures.more (was_true c.before.before.before.before.if1.false) in
     let N = kept at_turn in (
       record {
-        cells-long = N.cells-long;
-        global-long = N.global-long;
-        log-long = N.log-long;
-        own-long = N.own-long;
+        cells_long_lem = N.cells_long_lem;
+        global_long_lem = N.global_long_lem;
+        log_long = N.log_long;
+        own_long = N.own_long;
         shared_long = N.shared_long;
-        masks-long = N.masks-long;
-        records-long = release.auto.0 ∙ N.records-long;
+        masks_long = N.masks_long;
+        records_long = release.auto.0 ∙ N.records_long;
       },
-      next-is (due at_turn) (turned at_turn) more.0 more.1 release.new.0 release.ensures,
+      next_is (due at_turn) (turned at_turn) more.0 more.1 release.new.0 release.ensures,
     )
 
-pub run-groups-spec : {M : Type 1} → statement M
-run-groups-spec =
+pub run_groups_spec : {M : Type 1} → statement M
+run_groups_spec =
     tie.close
     (tie.spec
     invariant-loop

@@ -1,7 +1,7 @@
--- `logclear::clear_cell` meets its contract: one `turn-put` for each word of a cell. Assumes nothing.
+-- `logclear::clear_cell` meets its contract: one `turn_put` for each word of a cell. Assumes nothing.
 use native.Mathlib.Omega.{arith}
 use lib.ListN.{length-set}
-use Rattle.spec.proofs.ClearingLaws.{turn-start, turn-put, turn_end}
+use Rattle.spec.proofs.ClearingLaws.{turn_start, turn_put, turn_end}
 use borrow.Author.Rules.{rules}
 use Rattle.logclear.proofs.clear_cell.Statement.{statement}
 use Rattle.logclear.proofs.clear_cell.Tie as tie
@@ -22,14 +22,14 @@ returns : tie.Need-returns
 returns c =
     let start = c in
     let args = start.args in
-    let put = turn-put args.cells args.i args.log.now in
+    let put = turn_put args.cells args.i args.log.now in
     turn_end args.cells args.i args.log.now 5 _ (omega arith)
     (put 4 _ _ start.requires.1 (omega arith) (put 3 _ _ start.requires.1 (omega arith)
     (put 2 _ _ start.requires.1 (omega arith) (put 1 _ _ start.requires.1 (omega arith) (put 0 _ _ start.requires.1 (omega arith)
-    (turn-start args.cells args.i args.log.now))))))
+    (turn_start args.cells args.i args.log.now))))))
 
-pub clear-cell-spec : {M : Type 1} → statement M
-clear-cell-spec =
+pub clear_cell_spec : {M : Type 1} → statement M
+clear_cell_spec =
     tie.close
     (tie.spec
     (λ c. search rules) (λ c. search rules) (λ c. search rules) (λ c. search rules)

@@ -5,7 +5,7 @@ use native.Mathlib.Omega.{arith}
 use lib.Bits.{bit_or, or_self}
 use lib.ListN.{length-set}
 use lib.Pow.{pow_pos}
-use Rattle.layout.proofs.LogTests.{stored-among, stored-first}
+use Rattle.layout.proofs.LogTests.{stored_among, stored_first}
 use borrow.Author.Rules.{rules}
 use Rattle.logentry.proofs.enter_store.Statement.{statement}
 use Rattle.logentry.proofs.enter_store.Tie as tie
@@ -16,7 +16,7 @@ returns c =
     let args = start.args in
     let alone = c.before.before.before.before.if1.true in
     c.before.before.enter-mark.ensures
-    ∙ stored-among args.cells args.i args.log.now args.bit args.v start.requires.0.inside
+    ∙ stored_among args.cells args.i args.log.now args.bit args.v start.requires.0.inside
     (omega (arith, alone, start.requires.1.1, pow_pos start.requires.1.0)) (ap (λ (z : ℕ). bit_or z args.bit) alone ∙ or_self args.bit ∙ sym alone)
 
 slice-write-log-2 : tie.Need-slice-write-log-2
@@ -28,7 +28,7 @@ returns-2 : tie.Need-returns-2
 returns-2 c =
     let start = c.before.before.before.before in
     let args = start.args in
-    stored-first args.cells args.i args.log.now args.bit args.v start.requires.0.inside c.if2.true
+    stored_first args.cells args.i args.log.now args.bit args.v start.requires.0.inside c.if2.true
 
 enter-later-store-requires : tie.Need-enter-later-store-requires
 enter-later-store-requires c κs =
@@ -39,8 +39,8 @@ enter-later-store-requires c κs =
 returns-3 : tie.Need-returns-3
 returns-3 c = c.before.before.enter-later-store.ensures
 
-pub enter-store-spec : {M : Type 1} → statement M
-enter-store-spec =
+pub enter_store_spec : {M : Type 1} → statement M
+enter_store_spec =
     tie.close
     (tie.spec
     (λ c. search rules) (λ c. search rules) (λ c. search rules) (λ c κs. search rules) (λ c. search rules)

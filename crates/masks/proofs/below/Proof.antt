@@ -13,5 +13,5 @@ sub-result c = omega (arith, one_bit c.args.t c.requires, pow_pos c.args.t)
 returns : tie.Need-returns
 returns c = simp (one_bit c.args.t c.requires, and_mask c.args.m c.args.t)
 
-pub below-spec : {M : Type 1} → statement M
-below-spec = tie.close (tie.spec (λ c. search rules) sub-result returns)
+pub below_spec : {M : Type 1} → statement M
+below_spec = tie.close (tie.spec (λ c. search rules) sub-result returns)

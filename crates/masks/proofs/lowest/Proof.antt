@@ -7,5 +7,5 @@ use Rattle.masks.proofs.lowest.Tie as tie
 returns : tie.Need-returns
 returns c = (refl, λ p. trailing_lt 32 c.args.m c.ranges.m.fits p)
 
-pub lowest-spec : {M : Type 1} → statement M
-lowest-spec = tie.close (tie.spec returns)
+pub lowest_spec : {M : Type 1} → statement M
+lowest_spec = tie.close (tie.spec returns)

@@ -5,14 +5,14 @@ use native.Mathlib.Omega.{arith}
 use lib.ListN.{length}
 use Rattle.spec.specs.Op.{OWN, Mem, MEM, op_of}
 use Rattle.spec.specs.Table.{Row}
-use Rattle.spec.specs.LockStep.{accessTurn}
+use Rattle.spec.specs.LockStep.{access_turn}
 use Rattle.layout.specs.Memory.{KeptBut, shape_by}
 use Rattle.layout.specs.Logging.{SameAbove}
-use Rattle.spec.specs.Limits.{commonFrom}
-use Rattle.layout.proofs.Reach.{same-below}
-use Rattle.layout.proofs.Turning.{Turning, Turns, turn-start, turn-whole, turn_in}
-use Rattle.masks.proofs.Bits.{next_bit, left-odd, left_less}
-use Rattle.access.proofs.Accesses.{asks-still, turn-still, passes, halted-turn, keeps_on}
+use Rattle.spec.specs.Limits.{common_from}
+use Rattle.layout.proofs.Reach.{same_below}
+use Rattle.layout.proofs.Turning.{Turning, Turns, turn_start, turn_whole, turn_in}
+use Rattle.masks.proofs.Bits.{next_bit, left_odd, left_less}
+use Rattle.access.proofs.Accesses.{asks_still, turn_still, passes, halted_turn, keeps_on}
 use Rattle.memory.proofs.access_all.Statement.{statement}
 use Rattle.memory.proofs.access_all.Tie as tie
 
@@ -21,8 +21,8 @@ abbrev invariant-loop : tie.invariant-loop
 invariant-loop regs₀ cells₀ log₀ common n op d a t₀ bit₀ reach₀ regs cells log t bit reach =
     (t ≤ n) × (length cells ≡ length cells₀) × (length log ≡ length log₀)
     × ((y : Mem) (x : Row) → op_of op ≡ MEM OWN y → x.d ≡ d → x.a ≡ a
-    → Turns (accessTurn (shape_by n cells₀ common) OWN y x) n (2 ^ n - 1) regs₀ cells₀ log₀ t (2 ^ (n - t) - 1) regs cells log)
-    × (t < 32 → bit ≡ 2 ^ t) × KeptBut d n regs₀ regs × SameAbove (reach % commonFrom) (length cells₀) log₀ log
+    → Turns (access_turn (shape_by n cells₀ common) OWN y x) n (2 ^ n - 1) regs₀ cells₀ log₀ t (2 ^ (n - t) - 1) regs cells log)
+    × (t < 32 → bit ≡ 2 ^ t) × KeptBut d n regs₀ regs × SameAbove (reach % common_from) (length cells₀) log₀ log
 
 abbrev decreases-loop : tie.decreases-loop
 decreases-loop regs₀ cells₀ log₀ common n op d a t₀ bit₀ reach₀ regs cells log t bit reach = n - t
@@ -36,7 +36,7 @@ loop-holds c =
       refl,
       λ y x o ed ea s e l M.
           let whole : args.n ≡ args.n - 0 = omega arith in
-          turn-start (accessTurn (shape_by args.n memory args.common.now) OWN y x) args.n s (2 ^ (args.n - 0) - 1) args.regs.now memory args.log.now
+          turn_start (access_turn (shape_by args.n memory args.common.now) OWN y x) args.n s (2 ^ (args.n - 0) - 1) args.regs.now memory args.log.now
           (ap (λ (k : ℕ). 2 ^ k - 1) (sym whole) ∙ e) l M,
       λ h. refl,
       λ i off. refl,
@@ -54,7 +54,7 @@ turn-requires c κs =
     let pre = c.before.before.before.before.before.before.before.before.before.before.requires in
     let some_left = c.before.before.before.before.before.loop-test.true in (
       omega (arith, some_left, pre.1.memory.few),
-      asks-still _ _ _ _ _ _ _ pre.0 turn.invariant.1 turn.invariant.2,
+      asks_still _ _ _ _ _ _ _ pre.0 turn.invariant.1 turn.invariant.2,
       turn.invariant.4 (omega (arith, some_left, pre.1.memory.few)),
       c.before.before.before.cell-number.ensures,
     )
@@ -76,14 +76,14 @@ returns c =
     let memory = args.cells.now in
     let bit = turn.invariant.4 (omega (arith, some_left, start.requires.1.memory.few)) in (
       λ e. absurd (omega (arith, some_left, e)),
-      λ e. halted-turn args.op args.n _ args.d args.a args.common.now args.regs.now memory args.log.now _ (2 ^ (args.n - turn.t) - 1)
-          turn.regs turn.cells turn.log made.result _ _ _ some_left (left-odd args.n turn.t some_left) turn.invariant.1 bit number.ensures
+      λ e. halted_turn args.op args.n _ args.d args.a args.common.now args.regs.now memory args.log.now _ (2 ^ (args.n - turn.t) - 1)
+          turn.regs turn.cells turn.log made.result _ _ _ some_left (left_odd args.n turn.t some_left) turn.invariant.1 bit number.ensures
           made.ensures c.if1.true turn.invariant.3,
       made.auto.1.0 ∙ turn.invariant.1,
       made.auto.1.1.0 ∙ turn.invariant.2,
-      keeps_on args.d args.n turn.t args.regs.now turn.regs made.new.0 some_left turn.invariant.5 made.ensures.regs-kept,
-      same-below turn.reach _ (length memory) (length turn.cells) args.log.now turn.log made.new.1.1.0 turn.invariant.6 turn.invariant.1
-          made.ensures.log-same,
+      keeps_on args.d args.n turn.t args.regs.now turn.regs made.new.0 some_left turn.invariant.5 made.ensures.regs_kept,
+      same_below turn.reach _ (length memory) (length turn.cells) args.log.now turn.log made.new.1.1.0 turn.invariant.6 turn.invariant.1
+          made.ensures.log_same,
     )
 
 next-thread : tie.Need-overflow-add-t invariant-loop decreases-loop
@@ -105,16 +105,16 @@ loop-again c =
       made.auto.1.0 ∙ turn.invariant.1,
       made.auto.1.1.0 ∙ turn.invariant.2,
       λ y x o ed ea s e q M.
-          subst (λ m. Turning (accessTurn (shape_by args.n memory args.common.now) OWN y x) args.n s (turn.t + 1) m made.new.0 made.new.1.0
+          subst (λ m. Turning (access_turn (shape_by args.n memory args.common.now) OWN y x) args.n s (turn.t + 1) m made.new.0 made.new.1.0
           made.new.1.1.0) (left_less args.n turn.t some_left)
-          (turn_in (accessTurn (shape_by args.n memory args.common.now) OWN y x) args.n s turn.t (2 ^ (args.n - turn.t) - 1) turn.regs turn.cells turn.log
-          (turn.invariant.3 y x o ed ea s e q M) made.new.0 made.new.1.0 made.new.1.1.0 some_left (left-odd args.n turn.t some_left)
-          (turn-still args.n turn.t y x args.common.now memory _ _ _ _ _ _ _ turn.invariant.1
+          (turn_in (access_turn (shape_by args.n memory args.common.now) OWN y x) args.n s turn.t (2 ^ (args.n - turn.t) - 1) turn.regs turn.cells turn.log
+          (turn.invariant.3 y x o ed ea s e q M) made.new.0 made.new.1.0 made.new.1.1.0 some_left (left_odd args.n turn.t some_left)
+          (turn_still args.n turn.t y x args.common.now memory _ _ _ _ _ _ _ turn.invariant.1
           (made.ensures.went (passes _ _ refl c.if1.false) args.n y x o some_left ed ea))),
       next_bit turn.t turn.bit turn.invariant.4,
-      keeps_on args.d args.n turn.t args.regs.now turn.regs made.new.0 some_left turn.invariant.5 made.ensures.regs-kept,
-      same-below turn.reach _ (length memory) (length turn.cells) args.log.now turn.log made.new.1.1.0 turn.invariant.6 turn.invariant.1
-          made.ensures.log-same,
+      keeps_on args.d args.n turn.t args.regs.now turn.regs made.new.0 some_left turn.invariant.5 made.ensures.regs_kept,
+      same_below turn.reach _ (length memory) (length turn.cells) args.log.now turn.log made.new.1.1.0 turn.invariant.6 turn.invariant.1
+          made.ensures.log_same,
     )
 
 same-length-3 : tie.Need-same-length-3 invariant-loop decreases-loop
@@ -131,7 +131,7 @@ returns-2 c =
     let memory = args.cells.now in
     let none_left : 2 ^ (args.n - turn.t) - 1 ≡ 0 = ap (λ (k : ℕ). 2 ^ k - 1) (let z : args.n - turn.t ≡ 0 = omega (arith, c.loop-test.false) in z) in (
       λ all y x o ed ea s e q M.
-          turn-whole (accessTurn (shape_by args.n memory args.common.now) OWN y x) args.n s turn.t (2 ^ (args.n - turn.t) - 1) turn.regs turn.cells turn.log
+          turn_whole (access_turn (shape_by args.n memory args.common.now) OWN y x) args.n s turn.t (2 ^ (args.n - turn.t) - 1) turn.regs turn.cells turn.log
           (turn.invariant.3 y x o ed ea s e q M) none_left,
       λ some. absurd (some refl),
       turn.invariant.1,
@@ -140,8 +140,8 @@ returns-2 c =
       turn.invariant.6,
     )
 
-pub access-all-spec : {M : Type 1} → statement M
-access-all-spec =
+pub access_all_spec : {M : Type 1} → statement M
+access_all_spec =
     tie.close
     (tie.spec
     invariant-loop

@@ -4,7 +4,7 @@ use native.Mathlib.Omega.{arith}
 use Rattle.spec.specs.declared.Verdict.TheVariants.{Common}
 use lib.ListN.{length}
 use Rattle.layout.specs.Logging.{SameAbove}
-use Rattle.access.proofs.Accesses.{asks-still, common-stops}
+use Rattle.access.proofs.Accesses.{asks_still, common_stops}
 use borrow.Author.Rules.{rules}
 use Rattle.memory.proofs.access_row.Statement.{statement}
 use Rattle.memory.proofs.access_row.Tie as tie
@@ -24,7 +24,7 @@ returns-2 c =
     let start = c.before.before.before.before.before.before.before.before.before.before.before.before.before.before.before.before in
     let halted = made.1 c.before.before.before.if1.false in (
       halted.stops _
-          (common-stops _ _ _ _ _ _ _ _ _ (asks-still _ _ _ _ _ _ _ start.requires.1.0 made.2 made.3) halted.number
+          (common_stops _ _ _ _ _ _ _ _ _ (asks_still _ _ _ _ _ _ _ start.requires.1.0 made.2 made.3) halted.number
           (sym c.before.before.is-common.ensures ∙ c.before.if2.true) halted.untaken),
       made.4,
       subst (λ h. SameAbove h (length start.args.cells.now) start.args.log.now row.new.1.1.0) (sym c.own-reach2.ensures) made.5,
@@ -36,7 +36,7 @@ verdict-requires c κs =
     let start = c.before.before.before.before.before.before.before.before.before.before.before.before.before.before.before.before.before.before in
     let pre = start.requires.1 in
     let halted = made.1 c.before.before.before.before.before.if1.false in
-    (omega (arith, halted.inside, pre.1.memory.few), asks-still _ _ _ _ _ _ _ pre.0 made.2 made.3, halted.bit_is, halted.number, halted.refused)
+    (omega (arith, halted.inside, pre.1.memory.few), asks_still _ _ _ _ _ _ _ pre.0 made.2 made.3, halted.bit_is, halted.number, halted.refused)
 
 returns-3 : tie.Need-returns-3
 returns-3 c =
@@ -50,8 +50,8 @@ returns-3 c =
       subst (λ h. SameAbove h (length args.cells.now) args.log.now row.new.1.1.0) (sym c.own-reach3.ensures) made.5,
     )
 
-pub access-row-spec : {M : Type 1} → statement M
-access-row-spec =
+pub access_row_spec : {M : Type 1} → statement M
+access_row_spec =
     tie.close
     (tie.spec
     (λ c κs. search rules) (λ c κs. search rules) (λ c. search rules) (λ c. search rules)

@@ -9,8 +9,8 @@ returns c =
     let all-enabled = c.before.before.before.before.before.before.before.before in
     rw (all-enabled.if1.true ∙ all-enabled.before.all.ensures) c.before.before.before.before.full-row.ensures
 
-pub enabled-row-spec : {M : Type 1} → statement M
-enabled-row-spec =
+pub enabled_row_spec : {M : Type 1} → statement M
+enabled_row_spec =
     tie.close
     (tie.spec
     (λ c κs. search rules) (λ c κs. search rules) (λ c. search rules) (λ c. search rules)

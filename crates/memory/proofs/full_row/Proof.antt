@@ -19,8 +19,8 @@ returns-3 c =
     let add : start.args.op ≡ 18 = omega (arith, pre.known, pre.small, at_op.if2.false, at_op.before.if1.false) in
     rw add c.before.before.before.before.access-all3.ensures
 
-pub full-row-spec : {M : Type 1} → statement M
-full-row-spec =
+pub full_row_spec : {M : Type 1} → statement M
+full_row_spec =
     tie.close
     (tie.spec
     (λ c κs. search rules) (λ c. search rules) (λ c. search rules)

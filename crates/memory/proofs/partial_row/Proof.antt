@@ -19,8 +19,8 @@ returns-3 c =
     let add : start.args.op ≡ 18 = omega (arith, pre.known, pre.small, at_op.if2.false, at_op.before.if1.false) in
     rw add c.before.before.before.before.access-enabled3.ensures
 
-pub partial-row-spec : {M : Type 1} → statement M
-partial-row-spec =
+pub partial_row_spec : {M : Type 1} → statement M
+partial_row_spec =
     tie.close
     (tie.spec
     (λ c κs. search rules) (λ c. search rules) (λ c. search rules)

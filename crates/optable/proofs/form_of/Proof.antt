@@ -7,7 +7,7 @@ use borrow.Author.Rules.{rules}
 use borrow.Author.Tests.{eqb-true, ne_eqb}
 use lib.Dec.{eqb}
 use lib.ListN.{get_or, replicate}
-use Rattle.spec.specs.Op.{Form, setForm, dForm, dabForm, daForm, aForm, noForm, unknownForm, opTable, op_of, form, formOf}
+use Rattle.spec.specs.Op.{Form, set_form, d_form, dab_form, da_form, a_form, no_form, unknown_form, op_table, op_of, form, form_of}
 use Rattle.spec.proofs.Laws.{all_below, below}
 use Rattle.optable.proofs.form_of.Statement.{statement}
 use Rattle.optable.proofs.form_of.Tie as tie
@@ -20,46 +20,46 @@ forms =
     ++ (5 ∷ 6 ∷ 6 ∷ 5 ∷ 6 ∷ 6 ∷ replicate 218 0)
 
 code_of : Form → ℕ
-code_of unknownForm = 0
-code_of setForm = 1
-code_of dForm = 2
-code_of dabForm = 3
-code_of daForm = 4
-code_of aForm = 5
-code_of noForm = 6
+code_of unknown_form = 0
+code_of set_form = 1
+code_of d_form = 2
+code_of dab_form = 3
+code_of da_form = 4
+code_of a_form = 5
+code_of no_form = 6
 
 abbrev of_code : ℕ → Form
 of_code n =
-    cond (eqb n 1) setForm
-    (cond (eqb n 2) dForm
-    (cond (eqb n 3) dabForm
-    (cond (eqb n 4) daForm
-    (cond (eqb n 5) aForm
-    (cond (eqb n 6) noForm unknownForm)))))
+    cond (eqb n 1) set_form
+    (cond (eqb n 2) d_form
+    (cond (eqb n 3) dab_form
+    (cond (eqb n 4) da_form
+    (cond (eqb n 5) a_form
+    (cond (eqb n 6) no_form unknown_form)))))
 
 back : (f : Form) → of_code (code_of f) ≡ f
 unfolding code_of
-back unknownForm = refl
-back setForm = refl
-back dForm = refl
-back dabForm = refl
-back daForm = refl
-back aForm = refl
-back noForm = refl
+back unknown_form = refl
+back set_form = refl
+back d_form = refl
+back dab_form = refl
+back da_form = refl
+back a_form = refl
+back no_form = refl
 
 right : ℕ → Bool
-right op = eqb (get_or forms op 0) (code_of (formOf op))
+right op = eqb (get_or forms op 0) (code_of (form_of op))
 
 all_right : all_below right 256 ≡ true
-unfolding right code_of formOf form op_of opTable
+unfolding right code_of form_of form op_of op_table
 all_right = refl
 
-rule : (op : ℕ) → op < 256 → of_code (get_or forms op 0) ≡ formOf op
+rule : (op : ℕ) → op < 256 → of_code (get_or forms op 0) ≡ form_of op
 unfolding right
-rule op l = ap of_code (eqb-true (get_or forms op 0) (code_of (formOf op)) (below right 256 all_right op l)) ∙ back (formOf op)
+rule op l = ap of_code (eqb-true (get_or forms op 0) (code_of (form_of op)) (below right 256 all_right op l)) ∙ back (form_of op)
 
 -- The entry is the number of an arm, or none of them.
-named : (op n : ℕ) → op < 256 → get_or forms op 0 ≡ n → of_code n ≡ formOf op
+named : (op n : ℕ) → op < 256 → get_or forms op 0 ≡ n → of_code n ≡ form_of op
 named op n l e = ap of_code (sym e) ∙ rule op l
 
 returns : tie.Need-returns
@@ -83,12 +83,12 @@ returns-6 c = named c.before.args.op 6 (search rules) c.match.keys6
 returns-7 : tie.Need-returns-7
 returns-7 c =
     let r = c.match.rest in
-    let u : of_code (get_or forms c.before.args.op 0) ≡ unknownForm =
+    let u : of_code (get_or forms c.before.args.op 0) ≡ unknown_form =
     simp (ne_eqb _ _ r.0.0.0.0.0.1, ne_eqb _ _ r.0.0.0.0.1, ne_eqb _ _ r.0.0.0.1, ne_eqb _ _ r.0.0.1, ne_eqb _ _ r.0.1, ne_eqb _ _ r.1) in
     sym u ∙ rule c.before.args.op (search rules)
 
-pub form-of-spec : {M : Type 1} → statement M
-form-of-spec =
+pub form_of_spec : {M : Type 1} → statement M
+form_of_spec =
     tie.close
     (tie.spec
     (λ c. search rules)

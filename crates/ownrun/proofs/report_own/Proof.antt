@@ -2,23 +2,23 @@
 use mathlib.Core.Path.{refl}
 use native.Mathlib.Omega.{arith}
 use borrow.Author.Rules.{rules}
-use Rattle.ownrun.proofs.Answers.{wrote-is, never-refused}
+use Rattle.ownrun.proofs.Answers.{wrote_is, never_refused}
 use Rattle.ownrun.proofs.report_own.Statement.{statement}
 use Rattle.ownrun.proofs.report_own.Tie as tie
 
 report-launch-requires : tie.Need-report-launch-requires
 report-launch-requires c κs =
     let pre = c.before.before.before.before.before.before.before.before.before.before.requires in
-    (pre.0, record { cellsLent = refl; globalLent = refl; logLent = refl; recordsLent = omega arith }, pre.1)
+    (pre.0, record { cells_lent = refl; global_lent = refl; log_lent = refl; records_lent = omega arith }, pre.1)
 
 returns : tie.Need-returns
-returns c = wrote-is _ _ _ _ _ _ _ _ _ _ _ _ c.before.before.before.before.before.before.before.before.before.report-launch.ensures _ c.before.size.given.1
+returns c = wrote_is _ _ _ _ _ _ _ _ _ _ _ _ c.before.before.before.before.before.before.before.before.before.report-launch.ensures _ c.before.size.given.1
 
 returns-2 : tie.Need-returns-2
-returns-2 c = never-refused _ _ _ _ _ _ _ _ _ _ _ _ c.before.before.before.before.before.before.before.before.before.report-launch.ensures _ c.before.why.given.1
+returns-2 c = never_refused _ _ _ _ _ _ _ _ _ _ _ _ c.before.before.before.before.before.before.before.before.before.report-launch.ensures _ c.before.why.given.1
 
-pub report-own-spec : {M : Type 1} → statement M
-report-own-spec =
+pub report_own_spec : {M : Type 1} → statement M
+report_own_spec =
     tie.close
     (tie.spec
     (λ c. search rules) (λ c. search rules) (λ c. search rules) (λ c. search rules)

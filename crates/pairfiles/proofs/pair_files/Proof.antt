@@ -14,5 +14,5 @@ returns-2 c =
     let args = c.before.before.before.before.before.before.before.before.before.args in
     reported args.filter.now args.trigger.now args.common.now args.output.now c.before.before.before.before.if1.false _ _ c.before.before.report-both.ensures
 
-pub pair-files-spec : {M : Type 1} → statement M
-pair-files-spec = tie.close (tie.spec returns (λ c κs. search rules) (λ c. search rules) returns-2)
+pub pair_files_spec : {M : Type 1} → statement M
+pair_files_spec = tie.close (tie.spec returns (λ c κs. search rules) (λ c. search rules) returns-2)

@@ -2,7 +2,7 @@
 use Prim.Native.Nat.{◌≤◌}
 use native.Mathlib.Omega.{arith}
 use lib.ListN.{length}
-use Rattle.spec.specs.Limits.{pairOutput}
+use Rattle.spec.specs.Limits.{pair_output}
 use borrow.Author.Rules.{rules}
 use Rattle.pairfiles.proofs.Both.{said, cut_short}
 use Rattle.pairfiles.proofs.report_pair.Statement.{statement}
@@ -12,7 +12,7 @@ returns : tie.Need-returns
 returns c =
     let args = c.before.before.before.before.before.args in
     let both = c.report-both.ensures in
-    let room : pairOutput ≤ length args.output.now = search rules in (
+    let room : pair_output ≤ length args.output.now = search rules in (
       both.long,
       (
         both.written,
@@ -26,5 +26,5 @@ returns c =
       ),
     )
 
-pub report-pair-spec : {M : Type 1} → statement M
-report-pair-spec = tie.close (tie.spec (λ c κs. search rules) returns)
+pub report_pair_spec : {M : Type 1} → statement M
+report_pair_spec = tie.close (tie.spec (λ c κs. search rules) returns)

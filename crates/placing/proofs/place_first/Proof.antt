@@ -65,8 +65,8 @@ returns c =
     turn.invariant.1 ∙ ap (paste args.to.now args.at args.words.now) (let e : turn.i ≡ args.n = omega (arith, c.loop-test.false, turn.invariant.0) in e)
     ∙ put_first args.at args.n args.words.now args.to.now c.before.before.requires.0
 
-pub place-first-spec : {M : Type 1} → statement M
-place-first-spec =
+pub place_first_spec : {M : Type 1} → statement M
+place_first_spec =
     tie.close
     (tie.spec
     invariant-loop

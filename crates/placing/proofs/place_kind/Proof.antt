@@ -4,22 +4,22 @@ use Prim.Native.Nat.{ℕ, ◌+◌, ◌-◌, ◌*◌}
 use native.Mathlib.Omega.{arith}
 use lib.ListN.{take, drop}
 use borrow.Author.Rules.{rules}
-use Rattle.layout.specs.Views.{part, putPart}
-use Rattle.placing.specs.Kinds.{kindPlaced}
+use Rattle.layout.specs.Views.{part, put_part}
+use Rattle.placing.specs.Kinds.{kind_placed}
 use Rattle.placing.proofs.place_kind.Statement.{statement}
 use Rattle.placing.proofs.place_kind.Tie as tie
 
 returns : tie.Need-returns
-unfolding kindPlaced part
+unfolding kind_placed part
 returns c =
     let args = c.before.before.before.before.before.before.before.args in
     let from = args.j * args.k in
     c.before.before.place.ensures
-    ∙ ap (λ (i : ℕ). putPart ((args.first + args.j) * args.total + args.at) (take i (drop from args.words.now)) args.to.now)
+    ∙ ap (λ (i : ℕ). put_part ((args.first + args.j) * args.total + args.at) (take i (drop from args.words.now)) args.to.now)
     (let e : from + args.k - from ≡ args.k = omega arith in e)
 
-pub place-kind-spec : {M : Type 1} → statement M
-place-kind-spec =
+pub place_kind_spec : {M : Type 1} → statement M
+place_kind_spec =
     tie.close
     (tie.spec
     (λ c. search rules) (λ c. search rules) (λ c. search rules) (λ c. search rules) (λ c. search rules) (λ c. search rules) (λ c. search rules)

@@ -5,7 +5,7 @@ use Prim.Native.Nat.{◌-◌, ◌<◌, ◌≤◌}
 use native.Mathlib.Omega.{arith}
 use lib.ListN.{length, drop, replicate, length-set}
 use borrow.Author.Rules.{rules}
-use Rattle.placing.proofs.Stretches.{zeros-more, zeros-all}
+use Rattle.placing.proofs.Stretches.{zeros_more, zeros_all}
 use Rattle.placing.proofs.zero.Statement.{statement}
 use Rattle.placing.proofs.zero.Tie as tie
 
@@ -35,7 +35,7 @@ loop-again c =
     let turn = c.before.loop in
     let xs = c.before.before.args.to.now in
     let left : turn.i < length xs = omega (arith, c.loop-test.true, turn.invariant.2) in
-    (omega arith, zeros-more xs turn.to turn.i left turn.invariant.1, length-set turn.to turn.i 0 ∙ turn.invariant.2)
+    (omega arith, zeros_more xs turn.to turn.i left turn.invariant.1, length-set turn.to turn.i 0 ∙ turn.invariant.2)
 
 same_length : tie.Need-same-length invariant-loop decreases-loop
 same_length c = search rules
@@ -45,7 +45,7 @@ returns c =
     let turn = c.before.loop in
     let xs = c.before.before.args.to.now in
     let all : turn.i ≡ length xs = omega (arith, c.loop-test.false, turn.invariant.0, turn.invariant.2) in
-    turn.invariant.1 ∙ zeros-all xs turn.i all
+    turn.invariant.1 ∙ zeros_all xs turn.i all
 
-pub zero-spec : {M : Type 1} → statement M
-zero-spec = tie.close (tie.spec invariant-loop decreases-loop loop-holds mul-to slice-write-to add-i loop-less loop-again same_length returns)
+pub zero_spec : {M : Type 1} → statement M
+zero_spec = tie.close (tie.spec invariant-loop decreases-loop loop-holds mul-to slice-write-to add-i loop-less loop-again same_length returns)

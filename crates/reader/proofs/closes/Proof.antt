@@ -11,8 +11,8 @@ returns c = inl (refl, c.if1.true)
 returns-3 : tie.Need-returns-3
 returns-3 c = inr (refl, search rules, c.if2.false)
 
-pub closes-spec : {M : Type 1} → statement M
-closes-spec =
+pub closes_spec : {M : Type 1} → statement M
+closes_spec =
     tie.close
     (tie.spec
     (λ c. search rules) (λ c. search rules)

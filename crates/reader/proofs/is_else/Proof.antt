@@ -10,8 +10,8 @@ returns c = rw (lt-ltb _ _ c.before.if1.true)
 returns-2 : tie.Need-returns-2
 returns-2 c = rw (le-ltb _ _ c.if1.false)
 
-pub is-else-spec : {M : Type 1} → statement M
-is-else-spec =
+pub is_else_spec : {M : Type 1} → statement M
+is_else_spec =
     tie.close
     (tie.spec
     (λ c. search rules) (λ c. search rules) (λ c. search rules)

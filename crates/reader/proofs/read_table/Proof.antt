@@ -4,7 +4,7 @@ use native.Mathlib.Omega.{arith}
 use lib.ListN.{replicate}
 use Rattle.spec.specs.declared.Refusal.TheVariants.{Misplaced}
 use Rattle.reader.specs.Parts.{Body, BodyIs}
-use Rattle.reader.proofs.Whole.{refused-whole, stray, accepted, ends-are}
+use Rattle.reader.proofs.Whole.{refused_whole, stray, accepted, ends_are}
 use borrow.Author.Rules.{rules}
 use Rattle.reader.proofs.read_table.Statement.{statement}
 use Rattle.reader.proofs.read_table.Tie as tie
@@ -29,7 +29,7 @@ returns c =
     let start = c.before.before.before.before.before.before.before.before in
     let args = start.args in
     let table = args.table.now in
-    refused-whole table (Misplaced row.given.0.0) c.refused.result
+    refused_whole table (Misplaced row.given.0.0) c.refused.result
     (stray table start.requires row.given.0.0 inner.new.1.1.1.0 (whole c.before.before) c.before.if1.true) c.refused.ensures
 
 returns-2 : tie.Need-returns-2
@@ -41,7 +41,7 @@ returns-2 c =
     let table = args.table.now in
     let pre = start.requires in (
       sym (accepted table pre row.given.0.0 inner.new.1.1.1.0 (whole c.before) c.if1.false),
-      ends-are table pre row.given.0.0 inner.new.1.1.1.0 (whole c.before) c.if1.false,
+      ends_are table pre row.given.0.0 inner.new.1.1.1.0 (whole c.before) c.if1.false,
     )
 
 returns-3 : tie.Need-returns-3
@@ -51,10 +51,10 @@ returns-3 c =
     let args = c.before.before.before.before.before.before.before.args in
     let table = args.table.now in
     let f = subst (BodyIs table 0 0 (replicate 256 0) inner.new.1.1.1.0) why.given.1 inner.ensures in
-    refused-whole table why.given.0.0 c.refused2.result f c.refused2.ensures
+    refused_whole table why.given.0.0 c.refused2.result f c.refused2.ensures
 
-pub read-table-spec : {M : Type 1} → statement M
-read-table-spec =
+pub read_table_spec : {M : Type 1} → statement M
+read_table_spec =
     tie.close
     (tie.spec
     (λ c κs. search rules) (λ c. search rules)

@@ -4,7 +4,7 @@ use Prim.Native.Nat.{◌+◌}
 use native.Mathlib.Omega.{arith}
 use lib.ListN.{length}
 use Rattle.spec.specs.Text.{decimal}
-use Rattle.reportlines.proofs.Decimal.{length-one, length_more, some-digit, word-digits}
+use Rattle.reportlines.proofs.Decimal.{length_one, length_more, some_digit, word_digits}
 use Rattle.reportlines.proofs.digits.Statement.{statement}
 use Rattle.reportlines.proofs.digits.Tie as tie
 
@@ -18,7 +18,7 @@ loop-holds : tie.Need-loop-init invariant-loop decreases-loop
 loop-holds c = omega arith
 
 add-count : tie.Need-overflow-add-count invariant-loop decreases-loop
-add-count c = omega (arith, some-digit c.before.loop.rest, word-digits c.before.before.args.n c.before.before.ranges.n.fits)
+add-count c = omega (arith, some_digit c.before.loop.rest, word_digits c.before.before.args.n c.before.before.ranges.n.fits)
 
 loop-less : tie.Need-loop-smaller invariant-loop decreases-loop
 loop-less c = omega arith
@@ -27,10 +27,10 @@ loop-again : tie.Need-loop-preserved invariant-loop decreases-loop
 loop-again c = omega (arith, length_more c.before.loop.rest c.loop-test.true)
 
 returns : tie.Need-returns invariant-loop decreases-loop
-returns c = omega (arith, length-one c.before.loop.rest c.loop-test.false, word-digits c.before.before.args.n c.before.before.ranges.n.fits)
+returns c = omega (arith, length_one c.before.loop.rest c.loop-test.false, word_digits c.before.before.args.n c.before.before.ranges.n.fits)
 
-pub digits-spec : {M : Type 1} → statement M
-digits-spec =
+pub digits_spec : {M : Type 1} → statement M
+digits_spec =
     tie.close
     (tie.spec
     invariant-loop

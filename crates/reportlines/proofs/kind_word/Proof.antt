@@ -2,15 +2,15 @@
 use mathlib.Core.Path.{refl}
 use native.Mathlib.Omega.{arith}
 use Rattle.spec.specs.Text.{text}
-use Rattle.spec.specs.Report.{kindText}
+use Rattle.spec.specs.Report.{kind_text}
 use Rattle.reportlines.specs.Words.{words}
 use borrow.Author.Rules.{rules}
 use Rattle.reportlines.proofs.kind_word.Statement.{statement}
 use Rattle.reportlines.proofs.kind_word.Tie as tie
 
-pub kind-word-spec : {M : Type 1} → statement M
-unfolding kindText words text
-kind-word-spec =
+pub kind_word_spec : {M : Type 1} → statement M
+unfolding kind_text words text
+kind_word_spec =
     tie.close
     (tie.spec
     (λ c. search rules) (λ c. search rules) (λ c. search rules) (λ c. search rules) (λ c. search rules)

@@ -3,7 +3,7 @@ use Prim.Native.Nat.{◌-◌}
 use native.Mathlib.Omega.{arith}
 use borrow.Author.Rules.{rules}
 use lib.ListN.{length}
-use Rattle.reportlines.proofs.Writing.{Copying, copy-none, copy_more, copy-all}
+use Rattle.reportlines.proofs.Writing.{Copying, copy_none, copy_more, copy_all}
 use Rattle.reportlines.proofs.put.Statement.{statement}
 use Rattle.reportlines.proofs.put.Tie as tie
 
@@ -14,7 +14,7 @@ abbrev decreases-loop : tie.decreases-loop
 decreases-loop src out₀ i₀ out i = length src - i
 
 loop-holds : tie.Need-loop-init invariant-loop decreases-loop
-loop-holds c = copy-none _ _
+loop-holds c = copy_none _ _
 
 slice-write-out : tie.Need-slice-write-out invariant-loop decreases-loop
 slice-write-out c = omega (arith, c.before.before.before.requires)
@@ -26,7 +26,7 @@ same_length : tie.Need-same-length invariant-loop decreases-loop
 same_length c = c.before.loop.invariant.long
 
 returns : tie.Need-returns invariant-loop decreases-loop
-returns c = copy-all c.before.loop.invariant c.loop-test.false
+returns c = copy_all c.before.loop.invariant c.loop-test.false
 
 pub put_spec : {M : Type 1} → statement M
 put_spec =

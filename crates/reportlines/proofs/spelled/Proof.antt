@@ -2,34 +2,34 @@
 use mathlib.Core.Path.{refl}
 use native.Mathlib.Omega.{arith}
 use Rattle.spec.specs.Text.{text}
-use Rattle.spec.specs.Report.{valueText}
+use Rattle.spec.specs.Report.{value_text}
 use Rattle.reportlines.specs.Words.{words}
 use borrow.Author.Rules.{rules}
 use Rattle.reportlines.proofs.spelled.Statement.{statement}
 use Rattle.reportlines.proofs.spelled.Tie as tie
 
 returns : tie.Need-returns
-unfolding valueText words text
+unfolding value_text words text
 returns c = rw c.enum_told.given.1 (record { listed = omega arith; word = refl })
 
 returns-2 : tie.Need-returns-2
-unfolding valueText
+unfolding value_text
 returns-2 c = rw c.before.value.given.1 refl
 
 returns-3 : tie.Need-returns-3
-unfolding valueText
+unfolding value_text
 returns-3 c = rw c.before.before.value2.given.1 c.verdict-word.ensures
 
 returns-4 : tie.Need-returns-4
-unfolding valueText
-returns-4 c = rw c.before.before.value3.given.1 c.kind-word.ensures
+unfolding value_text
+returns-4 c = rw c.before.before.value3.given.1 c.kind_word_lem.ensures
 
 returns-5 : tie.Need-returns-5
-unfolding valueText words text
+unfolding value_text words text
 returns-5 c = rw c.enum-told2.given.1 (record { listed = omega arith; word = refl })
 
-pub spelled-spec : {M : Type 1} → statement M
-spelled-spec =
+pub spelled_spec : {M : Type 1} → statement M
+spelled_spec =
     tie.close
     (tie.spec
     (λ c. search rules) (λ c. search rules) (λ c. search rules) (λ c κs. search rules) (λ c. search rules)

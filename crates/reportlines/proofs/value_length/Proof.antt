@@ -2,17 +2,17 @@
 use mathlib.Core.Path.{ap, ◌∙◌}
 use native.Mathlib.Omega.{arith}
 use lib.ListN.{length}
-use Rattle.spec.specs.Report.{valueText}
-use Rattle.stringtable.proofs.Strings.{part-size}
+use Rattle.spec.specs.Report.{value_text}
+use Rattle.stringtable.proofs.Strings.{part_size}
 use Rattle.reportlines.specs.Words.{IsWord}
-use Rattle.reportlines.proofs.Words.{starts, as-word, as-digits, few_words, word_at, word-short}
+use Rattle.reportlines.proofs.Words.{starts, as_word, as_digits, few_words, word_at, word_short}
 use borrow.Author.Rules.{rules}
 use Rattle.reportlines.proofs.value_length.Statement.{statement}
 use Rattle.reportlines.proofs.value_length.Tie as tie
 
 -- The word that the value is.
-word : (c : tie.After-known-told) → IsWord c.before.i.given.0.0 (valueText c.before.before.before.before.args.value)
-word c = as-word c.before.i.given.1 c.before.before.before.spelled.ensures
+word : (c : tie.After-known-told) → IsWord c.before.i.given.0.0 (value_text c.before.before.before.before.args.value)
+word c = as_word c.before.i.given.1 c.before.before.before.spelled.ensures
 
 add-result : tie.Need-overflow-add-result
 add-result c = omega (arith, few_words (word c))
@@ -35,16 +35,16 @@ sub-result c = (word_at (word c)).ordered
 
 returns : tie.Need-returns
 unfolding starts
-returns c = (part-size (word_at (word c)), omega (arith, part-size (word_at (word c)), word-short (word c)))
+returns c = (part_size (word_at (word c)), omega (arith, part_size (word_at (word c)), word_short (word c)))
 
 returns-2 : tie.Need-returns-2
 returns-2 c =
     let spelled = c.before.before.before.before.spelled in
-    let text = as-digits c.before.before.n.given.1 spelled.ensures in
+    let text = as_digits c.before.before.n.given.1 spelled.ensures in
     (c.digits.ensures.0 ∙ ap length text, c.digits.ensures.1)
 
-pub value-length-spec : {M : Type 1} → statement M
-value-length-spec =
+pub value_length_spec : {M : Type 1} → statement M
+value_length_spec =
     tie.close
     (tie.spec
     (λ c κs. search rules) (λ c. search rules)

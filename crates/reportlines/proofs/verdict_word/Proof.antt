@@ -2,15 +2,15 @@
 use mathlib.Core.Path.{refl}
 use native.Mathlib.Omega.{arith}
 use Rattle.spec.specs.Text.{text}
-use Rattle.spec.specs.Report.{verdictText}
+use Rattle.spec.specs.Report.{verdict_text}
 use Rattle.reportlines.specs.Words.{words}
 use borrow.Author.Rules.{rules}
 use Rattle.reportlines.proofs.verdict_word.Statement.{statement}
 use Rattle.reportlines.proofs.verdict_word.Tie as tie
 
-pub verdict-word-spec : {M : Type 1} → statement M
-unfolding verdictText words text
-verdict-word-spec =
+pub verdict_word_spec : {M : Type 1} → statement M
+unfolding verdict_text words text
+verdict_word_spec =
     tie.close
     (tie.spec
     (λ c. search rules) (λ c. search rules) (λ c. search rules) (λ c. search rules) (λ c. search rules) (λ c. search rules) (λ c. search rules)

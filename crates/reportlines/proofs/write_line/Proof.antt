@@ -4,9 +4,9 @@ use Prim.Native.Nat.{ℕ, ◌+◌, ◌<◌}
 use native.Mathlib.Omega.{arith}
 use borrow.Author.Rules.{rules}
 use lib.ListN.{length, set}
-use Rattle.spec.specs.Report.{valueText}
-use Rattle.reportlines.proofs.Lines.{parts, line-size}
-use Rattle.reportlines.proofs.Writing.{Stands, back, started, same_size, within, room, onward, byte-onward, finished}
+use Rattle.spec.specs.Report.{value_text}
+use Rattle.reportlines.proofs.Lines.{parts, line_size}
+use Rattle.reportlines.proofs.Writing.{Stands, back, started, same_size, within, room, onward, byte_onward, finished}
 use Rattle.reportlines.proofs.write_line.Statement.{statement}
 use Rattle.reportlines.proofs.write_line.Tie as tie
 
@@ -22,8 +22,8 @@ signed c =
     let start = c.before.before.before.before.before.before in
     let args = start.args in
     let pre = start.requires in
-    let size = line-size args.key.now (valueText args.value) in
-    byte-onward 61 (started (omega (arith, pre)) put.ensures.0 put.ensures.1) (omega (arith, pre, put.ensures.0))
+    let size = line_size args.key.now (value_text args.value) in
+    byte_onward 61 (started (omega (arith, pre)) put.ensures.0 put.ensures.1) (omega (arith, pre, put.ensures.0))
 
 -- The value behind them.
 valued : (c : tie.After-slice-known3)
@@ -31,37 +31,37 @@ valued : (c : tie.After-slice-known3)
     let put = at-Signed.before.before.put in
     let args = c.before.before.before.before.before.before.before.before.before.before.args in
     Stands args.out.now (back (put.result + 1) (Signed at-Signed) c.before.before.write-value.new.1.0)
-    ((args.key.now ++ (61 ∷ [])) ++ valueText args.value) (put.result + 1 + c.before.before.write-value.result)
+    ((args.key.now ++ (61 ∷ [])) ++ value_text args.value) (put.result + 1 + c.before.before.write-value.result)
 valued c =
     let at-signed = c.before.before.before.before in
     let put = at-signed.before.before.put in
     let start = c.before.before.before.before.before.before.before.before.before.before in
     let args = start.args in
-    let size = line-size args.key.now (valueText args.value) in
-    onward (valueText args.value) _ (signed at-signed) (omega (arith, start.requires, put.ensures.0)) c.before.before.write-value.ensures.0
+    let size = line_size args.key.now (value_text args.value) in
+    onward (value_text args.value) _ (signed at-signed) (omega (arith, start.requires, put.ensures.0)) c.before.before.write-value.ensures.0
     c.before.before.write-value.ensures.1
 
-room-left : (c : tie.After-slice-known3)
+room_left : (c : tie.After-slice-known3)
     → let put = c.before.before.before.before.before.before.put in
     let start = c.before.before.before.before.before.before.before.before.before.before in
     put.result + 1 + c.before.before.write-value.result < length start.args.out.now
-room-left c =
+room_left c =
     let put = c.before.before.before.before.before.before.put in
     let start = c.before.before.before.before.before.before.before.before.before.before in
     let args = start.args in
-    omega (arith, line-size args.key.now (valueText args.value), start.requires, put.ensures.0, c.before.before.write-value.ensures.0)
+    omega (arith, line_size args.key.now (value_text args.value), start.requires, put.ensures.0, c.before.before.write-value.ensures.0)
 
 put-requires : tie.Need-put-requires
 put-requires c κs =
     let start = c.before.before.before in
     let args = start.args in
-    omega (arith, line-size args.key.now (valueText args.value), start.requires)
+    omega (arith, line_size args.key.now (value_text args.value), start.requires)
 
 slice-write-out : tie.Need-slice-write-out
 slice-write-out c =
     let start = c.before.before.before.before.before.before in
     let args = start.args in
-    omega (arith, line-size args.key.now (valueText args.value), start.requires, c.before.before.put.ensures.0, c.before.before.put.auto.1.0)
+    omega (arith, line_size args.key.now (value_text args.value), start.requires, c.before.before.put.ensures.0, c.before.before.put.auto.1.0)
 
 add_start : tie.Need-overflow-add-start
 add_start c = omega (arith, within (signed c))
@@ -77,31 +77,31 @@ write-value-requires c κs =
     let put = c.before.before.before.put in
     let start = c.before.before.before.before.before.before.before in
     let args = start.args in
-    room (valueText args.value) (signed c.before) (omega (arith, line-size args.key.now (valueText args.value), start.requires, put.ensures.0))
+    room (value_text args.value) (signed c.before) (omega (arith, line_size args.key.now (value_text args.value), start.requires, put.ensures.0))
 
 add-end : tie.Need-overflow-add-end
 add-end c =
-    let good = c.before.before.before.before.before.before.before.before.before.before.well-formed in
-    omega (arith, room-left c, good)
+    let good = c.before.before.before.before.before.before.before.before.before.before.well_formed in
+    omega (arith, room_left c, good)
 
 slice-write-out-2 : tie.Need-slice-write-out-2
-slice-write-out-2 c = rw (same_size (valued c)) (room-left c)
+slice-write-out-2 c = rw (same_size (valued c)) (room_left c)
 
 add-result : tie.Need-overflow-add-result
 add-result c =
-    let good = c.before.before.before.before.before.before.before.before.before.before.well-formed in
-    omega (arith, room-left c, good)
+    let good = c.before.before.before.before.before.before.before.before.before.before.well_formed in
+    omega (arith, room_left c, good)
 
 same_length : tie.Need-same-length
-same_length c = same_size (byte-onward 10 (valued c) (room-left c))
+same_length c = same_size (byte_onward 10 (valued c) (room_left c))
 
 returns : tie.Need-returns
 returns c =
     let args = c.before.before.before.before.before.before.before.before.before.before.args in
-    finished _ (byte-onward 10 (valued c) (room-left c)) (parts args.key.now (valueText args.value))
+    finished _ (byte_onward 10 (valued c) (room_left c)) (parts args.key.now (value_text args.value))
 
-pub write-line-spec : {M : Type 1} → statement M
-write-line-spec =
+pub write_line_spec : {M : Type 1} → statement M
+write_line_spec =
     tie.close
     (tie.spec
     put-requires

@@ -1,15 +1,15 @@
 -- `reportlines::write_value` meets its contract. A word is copied from the table. Assumes nothing.
 use native.Mathlib.Omega.{arith}
-use Rattle.spec.specs.Report.{valueText}
+use Rattle.spec.specs.Report.{value_text}
 use Rattle.reportlines.specs.Words.{IsWord}
-use Rattle.reportlines.proofs.Words.{word_bytes, starts, as-word, as-digits, few_words, word_at, room_for, wrote}
+use Rattle.reportlines.proofs.Words.{word_bytes, starts, as_word, as_digits, few_words, word_at, room_for, wrote}
 use borrow.Author.Rules.{rules}
 use Rattle.reportlines.proofs.write_value.Statement.{statement}
 use Rattle.reportlines.proofs.write_value.Tie as tie
 
 -- The word that the value is.
-word : (c : tie.After-known-told) → IsWord c.before.i.given.0.0 (valueText c.before.before.before.before.before.args.value)
-word c = as-word c.before.i.given.1 c.before.before.before.spelled.ensures
+word : (c : tie.After-known-told) → IsWord c.before.i.given.0.0 (value_text c.before.before.before.before.before.args.value)
+word c = as_word c.before.i.given.1 c.before.before.before.spelled.ensures
 
 mul-from : tie.Need-overflow-mul-from
 mul-from c = omega (arith, few_words (word c))
@@ -41,30 +41,30 @@ part-put-end c = (word_at (word c.before)).inside
 put-requires : tie.Need-put-requires
 unfolding word_bytes starts
 put-requires c κs =
-    let at-word = c.before.before.before in
+    let at_word = c.before.before.before in
     let start = c.before.before.before.before.before.before.before.before in
-    room_for (word_at (word at-word)).part start.requires
+    room_for (word_at (word at_word)).part start.requires
 
 write-number-requires : tie.Need-write-number-requires
 write-number-requires c κs =
     let spelled = c.before.before.before.before.spelled in
     let start = c.before.before.before.before.before.before in
-    room_for (as-digits c.before.before.n.given.1 spelled.ensures) start.requires
+    room_for (as_digits c.before.before.n.given.1 spelled.ensures) start.requires
 
 returns : tie.Need-returns
 unfolding word_bytes starts
 returns c =
-    let at-word = c.before.before.before.before.before.before in
-    wrote _ (word_at (word at-word)).part c.before.before.put.ensures
+    let at_word = c.before.before.before.before.before.before in
+    wrote _ (word_at (word at_word)).part c.before.before.put.ensures
 
 returns-2 : tie.Need-returns-2
 returns-2 c =
     let n = c.before.before.before.before.before.n in
     let spelled = c.before.before.before.before.before.before.before.spelled in
-    wrote _ (as-digits n.given.1 spelled.ensures) c.before.before.write-number.ensures
+    wrote _ (as_digits n.given.1 spelled.ensures) c.before.before.write-number.ensures
 
-pub write-value-spec : {M : Type 1} → statement M
-write-value-spec =
+pub write_value_spec : {M : Type 1} → statement M
+write_value_spec =
     tie.close
     (tie.spec
     (λ c κs. search rules) (λ c. search rules)

@@ -5,39 +5,39 @@ use mathlib.Core.List.{List}
 use Prim.Native.Nat.{◌+◌, ◌-◌, ◌≤◌}
 use native.Mathlib.Omega.{arith}
 use lib.ListN.{length}
-use Rattle.spec.specs.Report.{Line, valueText, bytes_of}
-use Rattle.reporttable.specs.Numbered.{lines_from, numberLine}
+use Rattle.spec.specs.Report.{Line, value_text, bytes_of}
+use Rattle.reporttable.specs.Numbered.{lines_from, number_line}
 use Rattle.reportlines.proofs.Writing.{same_size}
-use Rattle.reporttable.proofs.Numbered.{Written, none_written, all-written, line-room, line-more, each-numbered, line-by-number}
+use Rattle.reporttable.proofs.Numbered.{Written, none_written, all_written, line_room, line_more, each_numbered, line_by_number}
 use Rattle.reporttable.proofs.each_at.Statement.{statement}
 use Rattle.reporttable.proofs.each_at.Tie as tie
 
 abbrev invariant-loop : tie.invariant-loop
-invariant-loop key numbers out₀ at end₀ i₀ out end i = (i ≤ length numbers) × Written (numberLine key numbers) at 0 i out₀ out end
+invariant-loop key numbers out₀ at end₀ i₀ out end i = (i ≤ length numbers) × Written (number_line key numbers) at 0 i out₀ out end
 
 abbrev decreases-loop : tie.decreases-loop
 decreases-loop key numbers out₀ at end₀ i₀ out end i = length numbers - i
 
 -- There is room for all of them.
 room : (c : tie.Start invariant-loop decreases-loop)
-    → c.args.at + length (bytes_of (lines_from (numberLine c.args.key.now c.args.numbers.now) 0 (length c.args.numbers.now))) ≤ length
+    → c.args.at + length (bytes_of (lines_from (number_line c.args.key.now c.args.numbers.now) 0 (length c.args.numbers.now))) ≤ length
     c.args.out.now
-room c = omega (arith, c.requires, ap (λ (ls : List Line). length (bytes_of ls)) (each-numbered c.args.key.now c.args.numbers.now))
+room c = omega (arith, c.requires, ap (λ (ls : List Line). length (bytes_of ls)) (each_numbered c.args.key.now c.args.numbers.now))
 
 loop-holds : tie.Need-loop-init invariant-loop decreases-loop
-loop-holds c = (search rules, none_written (numberLine _ _) _ 0 _ (omega (arith, c.before.before.before.requires)))
+loop-holds c = (search rules, none_written (number_line _ _) _ 0 _ (omega (arith, c.before.before.before.requires)))
 
 line-at-requires : tie.Need-line-at-requires invariant-loop decreases-loop
-unfolding valueText
+unfolding value_text
 line-at-requires c κs =
     let turn = c.before.before.before.loop in
     let start = c.before.before.before.before.before.before.before in
     let args = start.args in
     let key = args.key.now in
     let numbers = args.numbers.now in
-    line-room (numberLine key numbers) args.at 0 turn.i (length numbers) args.out.now (room start) c.before.before.loop-test.true
+    line_room (number_line key numbers) args.at 0 turn.i (length numbers) args.out.now (room start) c.before.before.loop-test.true
     turn.invariant.1 _
-    (line-by-number key numbers turn.i)
+    (line_by_number key numbers turn.i)
 
 add-i : tie.Need-overflow-add-i invariant-loop decreases-loop
 add-i c = omega arith
@@ -46,7 +46,7 @@ loop-less : tie.Need-loop-smaller invariant-loop decreases-loop
 loop-less c = omega arith
 
 loop-again : tie.Need-loop-preserved invariant-loop decreases-loop
-unfolding valueText
+unfolding value_text
 loop-again c =
     let line_at_lem = c.before.before.line_at_lem in
     let test = c.before.before.before.before.before.loop-test in
@@ -56,8 +56,8 @@ loop-again c =
     let key = args.key.now in
     let numbers = args.numbers.now in (
       omega arith,
-      line-more (numberLine key numbers) args.at 0 turn.i (length numbers) args.out.now (room start) test.true turn.invariant.1 _ _
-          (line-by-number key numbers turn.i) line_at_lem.ensures.0 line_at_lem.ensures.1,
+      line_more (number_line key numbers) args.at 0 turn.i (length numbers) args.out.now (room start) test.true turn.invariant.1 _ _
+          (line_by_number key numbers turn.i) line_at_lem.ensures.0 line_at_lem.ensures.1,
     )
 
 same_length : tie.Need-same-length invariant-loop decreases-loop
@@ -69,12 +69,12 @@ returns c =
     let args = start.args in
     let key = args.key.now in
     let numbers = args.numbers.now in
-    rw (each-numbered key numbers)
-    (all-written (numberLine key numbers) args.at 0 c.before.loop.i (length numbers) args.out.now (omega (arith, start.requires))
+    rw (each_numbered key numbers)
+    (all_written (number_line key numbers) args.at 0 c.before.loop.i (length numbers) args.out.now (omega (arith, start.requires))
     (omega arith) c.before.loop.invariant.1)
 
-pub each-at-spec : {M : Type 1} → statement M
-each-at-spec =
+pub each_at_spec : {M : Type 1} → statement M
+each_at_spec =
     tie.close
     (tie.spec
     invariant-loop

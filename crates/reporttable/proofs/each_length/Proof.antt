@@ -4,15 +4,15 @@ use mathlib.Core.Path.{◌≡◌, refl, ◌∙◌}
 use Prim.Native.Nat.{◌+◌, ◌*◌, ◌-◌, ◌≤◌}
 use native.Mathlib.Omega.{arith}
 use lib.ListN.{length}
-use Rattle.spec.specs.Report.{valueText, bytes_of}
-use Rattle.reporttable.specs.Numbered.{lines_from, numberLine}
-use Rattle.reporttable.proofs.Numbered.{size-more, each-numbered, size-by-number, one_more, bounded}
+use Rattle.spec.specs.Report.{value_text, bytes_of}
+use Rattle.reporttable.specs.Numbered.{lines_from, number_line}
+use Rattle.reporttable.proofs.Numbered.{size_more, each_numbered, size_by_number, one_more, bounded}
 use Rattle.reporttable.proofs.each_length.Statement.{statement}
 use Rattle.reporttable.proofs.each_length.Tie as tie
 
 abbrev invariant-loop : tie.invariant-loop
 invariant-loop key numbers total₀ i₀ total i =
-    (i ≤ length numbers) × (total ≡ length (bytes_of (lines_from (numberLine key numbers) 0 i))) × (total ≤ (length key + 12) * i)
+    (i ≤ length numbers) × (total ≡ length (bytes_of (lines_from (number_line key numbers) 0 i))) × (total ≤ (length key + 12) * i)
 
 abbrev decreases-loop : tie.decreases-loop
 decreases-loop key numbers total₀ i₀ total i = length numbers - i
@@ -38,15 +38,15 @@ loop-less : tie.Need-loop-smaller invariant-loop decreases-loop
 loop-less c = omega arith
 
 loop-again : tie.Need-loop-preserved invariant-loop decreases-loop
-unfolding valueText
+unfolding value_text
 loop-again c =
     let turn = c.before.before.before.loop in
     let args = c.before.before.before.before.before.before.args in
     let key = args.key.now in
     let numbers = args.numbers.now in
-    let size = c.line-length.ensures.0 ∙ size-by-number key numbers turn.i in (
+    let size = c.line-length.ensures.0 ∙ size_by_number key numbers turn.i in (
       omega arith,
-      omega (arith, size-more (numberLine key numbers) 0 turn.i, size, turn.invariant.1),
+      omega (arith, size_more (number_line key numbers) 0 turn.i, size, turn.invariant.1),
       one_more (length key) turn.i turn.invariant.2 c.line-length.ensures.1,
     )
 
@@ -56,10 +56,10 @@ returns c =
     let args = c.before.before.before.before.args in
     let numbers = args.numbers.now in
     let all : turn.i ≡ length numbers = omega arith in
-    rw (each-numbered args.key.now numbers, ← all) (turn.invariant.1, turn.invariant.2)
+    rw (each_numbered args.key.now numbers, ← all) (turn.invariant.1, turn.invariant.2)
 
-pub each-length-spec : {M : Type 1} → statement M
-each-length-spec =
+pub each_length_spec : {M : Type 1} → statement M
+each_length_spec =
     tie.close
     (tie.spec
     invariant-loop

@@ -8,5 +8,5 @@ returns : tie.Need-returns
 unfolding report.details
 returns c = refl
 
-pub details-spec : {M : Type 1} → statement M
-details-spec = tie.close (tie.spec returns)
+pub details_spec : {M : Type 1} → statement M
+details_spec = tie.close (tie.spec returns)

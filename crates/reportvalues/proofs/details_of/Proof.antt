@@ -1,12 +1,12 @@
 -- `reportvalues::details_of` meets its contract. Each verdict has its row. Assumes nothing.
-use Rattle.spec.specs.Report.{detailsOf}
+use Rattle.spec.specs.Report.{details_of}
 use borrow.Author.Rules.{rules}
 use Rattle.reportvalues.proofs.details_of.Statement.{statement}
 use Rattle.reportvalues.proofs.details_of.Tie as tie
 
-pub details-of-spec : {M : Type 1} → statement M
-unfolding detailsOf
-details-of-spec =
+pub details_of_spec : {M : Type 1} → statement M
+unfolding details_of
+details_of_spec =
     tie.close
     (tie.spec
     (λ c. search rules) (λ c κs. search rules) (λ c. search rules) (λ c κs. search rules) (λ c. search rules) (λ c κs. search rules)

@@ -9,8 +9,8 @@ returns : tie.Need-returns
 unfolding listed
 returns c = refl
 
-pub refusal-values-spec : {M : Type 1} → statement M
-refusal-values-spec =
+pub refusal_values_spec : {M : Type 1} → statement M
+refusal_values_spec =
     tie.close
     (tie.spec
     (λ c. search rules) (λ c. search rules) (λ c. search rules)

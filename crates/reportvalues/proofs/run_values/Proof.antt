@@ -3,7 +3,7 @@ use mathlib.Core.Path.{ap}
 use mathlib.Core.List.{[], ◌∷◌, ◌++◌}
 use Rattle.spec.specs.declared.Details.{Details}
 use Rattle.spec.specs.declared.Value.TheVariants as value
-use Rattle.spec.specs.Report.{headWith, intervalLines}
+use Rattle.spec.specs.Report.{head_with, interval_lines}
 use Rattle.reportvalues.specs.Values.{values_of}
 use Rattle.reportvalues.proofs.Lines.{listed}
 use borrow.Author.Rules.{rules}
@@ -17,7 +17,7 @@ returns : tie.Need-returns
 unfolding listed
 returns c =
     let o = c.before.args.outcome in
-    ap (λ (d : Details). values_of (headWith o d ++ intervalLines o) ++ (value.Hyphen ∷ value.Hyphen ∷ value.Report ∷ [])) c.details-of.ensures
+    ap (λ (d : Details). values_of (head_with o d ++ interval_lines o) ++ (value.Hyphen ∷ value.Hyphen ∷ value.Report ∷ [])) c.details-of.ensures
 
-pub run-values-spec : {M : Type 1} → statement M
-run-values-spec = tie.close (tie.spec details-of-requires returns)
+pub run_values_spec : {M : Type 1} → statement M
+run_values_spec = tie.close (tie.spec details-of-requires returns)

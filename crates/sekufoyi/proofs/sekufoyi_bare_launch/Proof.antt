@@ -25,8 +25,8 @@ returns-2 c =
     ran args.table.now (given start) args.limit args.cells.now args.global.now args.log.now args.records.now args.steps.now
     at-run.bare-launch.result _ _ _ _ _ at-run.bare-launch.ensures _ _ c.before.before.before.ended.given.1 c.before.outcome-words.ensures
 
-pub sekufoyi-bare-launch-spec : {M : Type 1} → statement M
-sekufoyi-bare-launch-spec =
+pub sekufoyi_bare_launch_spec : {M : Type 1} → statement M
+sekufoyi_bare_launch_spec =
     tie.close
     (tie.spec
     (λ c κs. search rules) (λ c. search rules) (λ c κs. search rules) (λ c. search rules) (λ c κs. search rules)

@@ -1,6 +1,6 @@
 -- `sekufoyi::sekufoyi_check_file` meets its contract. What is told is the entry's answer. Assumes nothing.
 use mathlib.Core.Path.{ap, ◌∙◌}
-use Rattle.answerwords.specs.Codes.{lengthIn, refusalIn}
+use Rattle.answerwords.specs.Codes.{length_in, refusal_in}
 use Rattle.answerwords.proofs.Back.{of_length}
 use borrow.Author.Rules.{rules}
 use Rattle.sekufoyi.proofs.sekufoyi_check_file.Statement.{statement}
@@ -12,9 +12,9 @@ returns c =
     let check-file = c.before.before.before.before.before.before.before.before.before.before.before.before.check-file in
     let buffers = check-file.ensures.1.1 in
     let size = told.0 in (
-      size ∙ ap lengthIn check-file.ensures.0,
+      size ∙ ap length_in check-file.ensures.0,
       (
-        told.1 ∙ ap refusalIn check-file.ensures.0,
+        told.1 ∙ ap refusal_in check-file.ensures.0,
         (
           buffers.0,
           (
@@ -31,8 +31,8 @@ returns c =
       ),
     )
 
-pub sekufoyi-check-file-spec : {M : Type 1} → statement M
-sekufoyi-check-file-spec =
+pub sekufoyi_check_file_spec : {M : Type 1} → statement M
+sekufoyi_check_file_spec =
     tie.close
     (tie.spec
     (λ c κs. search rules) (λ c κs. search rules) (λ c. search rules) (λ c. search rules) (λ c. search rules) (λ c. search rules) (λ c. search rules)

@@ -5,16 +5,16 @@ use mathlib.Core.Bool.{cond}
 use native.Mathlib.Omega.{arith}
 use borrow.Author.Tests.{lt-ltb, le-ltb}
 use lib.ListN.{length, replicate}
-use Rattle.intervals.specs.Records.{recordsAfter}
-use Rattle.intervals.proofs.Ledger.{charged-none}
+use Rattle.intervals.specs.Records.{records_after}
+use Rattle.intervals.proofs.Ledger.{charged_none}
 use Rattle.step.proofs.next_interval.Statement.{statement}
 use Rattle.step.proofs.next_interval.Tie as tie
 
 add-release : tie.Need-overflow-add-release
-add-release c = let pre = c.before.before.before.before.before.before.before.requires in omega (arith, pre.0.barriers-few, pre.0.rows_few, pre.1)
+add-release c = let pre = c.before.before.before.before.before.before.before.requires in omega (arith, pre.0.barriers_few, pre.0.rows_few, pre.1)
 
 returns : tie.Need-returns
-unfolding recordsAfter
+unfolding records_after
 returns c =
     let clear = c.before.before.clear in
     let release = c.before.before.before.before.before.before.release in
@@ -25,13 +25,13 @@ returns c =
     (rw test release.ensures, clear.ensures ∙ sym (ap (λ b. cond b (replicate (length shared) 0) shared) test))
 
 returns-2 : tie.Need-returns-2
-unfolding recordsAfter
+unfolding records_after
 returns-2 c =
     let left = c.if1.false in
     let shared = c.before.before.before.before.before.args.shared.now in
-    (rw (le-ltb _ _ left) (sym (charged-none _ 0 _ refl)), sym (ap (λ b. cond b (replicate (length shared) 0) shared) (le-ltb _ _ left)))
+    (rw (le-ltb _ _ left) (sym (charged_none _ 0 _ refl)), sym (ap (λ b. cond b (replicate (length shared) 0) shared) (le-ltb _ _ left)))
 
-pub next-interval-spec : {M : Type 1} → statement M
-next-interval-spec =
+pub next_interval_spec : {M : Type 1} → statement M
+next_interval_spec =
     tie.close
     (tie.spec add-release (λ c. search rules) (λ c κs. search rules) (λ c κs. search rules) (λ c. search rules) (λ c. search rules) returns returns-2)

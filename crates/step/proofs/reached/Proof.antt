@@ -7,7 +7,7 @@ use Rattle.step.proofs.reached.Tie as tie
 returns : tie.Need-returns
 returns c =
     let room = c.before.requires in
-    (record { row-few = room.row-few; rows_few = room.rows_few; since-few = room.since-few; barriers-few = room.barriers-few }, refl)
+    (record { row_few = room.row_few; rows_few = room.rows_few; since_few = room.since_few; barriers_few = room.barriers_few }, refl)
 
-pub reached-spec : {M : Type 1} → statement M
-reached-spec = tie.close (tie.spec returns)
+pub reached_spec : {M : Type 1} → statement M
+reached_spec = tie.close (tie.spec returns)

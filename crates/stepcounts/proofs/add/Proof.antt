@@ -3,7 +3,7 @@ use borrow.Author.Rules.{rules}
 use Prim.Native.Nat.{◌-◌, ◌<◌}
 use Rattle.layout.specs.Counting.{steps_of}
 use native.Mathlib.Omega.{arith}
-use Rattle.stepcounts.proofs.Adding.{Adding, adding-none, adding-more, adding-all, adding-fits}
+use Rattle.stepcounts.proofs.Adding.{Adding, adding_none, adding_more, adding_all, adding_fits}
 use Rattle.stepcounts.proofs.add.Statement.{statement}
 use Rattle.stepcounts.proofs.add.Tie as tie
 
@@ -14,7 +14,7 @@ abbrev decreases-loop : tie.decreases-loop
 decreases-loop counts₀ mask k t₀ counts t = 32 - t
 
 loop-holds : tie.Need-loop-init invariant-loop decreases-loop
-loop-holds c = adding-none _ _ _ c.requires.size
+loop-holds c = adding_none _ _ _ c.requires.size
 
 -- The next count has room.
 next_fits : (c : tie.After-counts invariant-loop decreases-loop)
@@ -24,7 +24,7 @@ next_fits : (c : tie.After-counts invariant-loop decreases-loop)
 next_fits c =
     let turn = c.before.before.loop in
     let start = c.before.before.before in
-    adding-fits start.args.mask start.args.k start.args.counts.now turn.counts turn.t turn.invariant start.requires
+    adding_fits start.args.mask start.args.k start.args.counts.now turn.counts turn.t turn.invariant start.requires
     c.before.loop-test.true
 
 mul-counts-2 : tie.Need-overflow-mul-counts-2 invariant-loop decreases-loop
@@ -37,10 +37,10 @@ loop-again : tie.Need-loop-preserved invariant-loop decreases-loop
 loop-again c =
     let turn = c.before.before.loop in
     let start = c.before.before.before in
-    adding-more start.args.mask start.args.k start.args.counts.now turn.counts turn.t turn.invariant c.before.loop-test.true
+    adding_more start.args.mask start.args.k start.args.counts.now turn.counts turn.t turn.invariant c.before.loop-test.true
 
 returns : tie.Need-returns invariant-loop decreases-loop
-returns c = adding-all _ _ _ _ _ c.before.loop.invariant c.loop-test.false
+returns c = adding_all _ _ _ _ _ c.before.loop.invariant c.loop-test.false
 
 pub add_spec : {M : Type 1} → statement M
 add_spec =

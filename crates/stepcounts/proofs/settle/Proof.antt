@@ -2,7 +2,7 @@
 use borrow.Author.Rules.{rules}
 use Prim.Native.Nat.{◌-◌}
 use native.Mathlib.Omega.{arith}
-use Rattle.stepcounts.proofs.Adding.{roomy-fewer, settled_same, settled-added}
+use Rattle.stepcounts.proofs.Adding.{roomy_fewer, settled_same, settled_added}
 use Rattle.stepcounts.proofs.settle.Statement.{statement}
 use Rattle.stepcounts.proofs.settle.Tie as tie
 
@@ -21,14 +21,14 @@ add-requires : tie.Need-add-requires
 add-requires c κs =
     let own = c.before.before.own-step in
     let start = c.before.before.before.before.before in
-    roomy-fewer start.args.mask (start.args.s.since - own.result) start.args.s.since start.args.counts.now (omega arith) start.requires.1
+    roomy_fewer start.args.mask (start.args.s.since - own.result) start.args.s.since start.args.counts.now (omega arith) start.requires.1
 
 returns-2 : tie.Need-returns-2
 returns-2 c =
     let own = c.before.before.before.own-step in
     let start = c.before.before.before.before.before.before in
-    settled-added start.args.op start.args.mask own.result start.args.s start.args.counts.now c.add.new.0 own.ensures.0
+    settled_added start.args.op start.args.mask own.result start.args.s start.args.counts.now c.add.new.0 own.ensures.0
     (omega (arith, own.ensures.1, start.requires.0)) c.add.ensures
 
-pub settle-spec : {M : Type 1} → statement M
-settle-spec = tie.close (tie.spec returns (λ c κs. search rules) sub-add add-requires returns-2)
+pub settle_spec : {M : Type 1} → statement M
+settle_spec = tie.close (tie.spec returns (λ c κs. search rules) sub-add add-requires returns-2)

@@ -23,9 +23,9 @@ slice-aggregate-result c =
 returns : tie.Need-returns invariant-loop decreases-loop
 returns c =
     let at-if1 = c.before in
-    let in-loop = at-if1.before.before in
-    let at-loop = in-loop.before in
-    found _ _ _ in-loop.loop-test.true at-if1.if1.true at-loop.loop.invariant.1
+    let in_loop_lem = at-if1.before.before in
+    let at-loop = in_loop_lem.before in
+    found _ _ _ in_loop_lem.loop-test.true at-if1.if1.true at-loop.loop.invariant.1
 
 loop-again : tie.Need-loop-preserved invariant-loop decreases-loop
 loop-again c = (search rules, below_more _ _ c.before.before.before.loop.invariant.1 c.if1.false)
@@ -35,8 +35,8 @@ returns-2 c =
     let at-loop = c.before in
     missing _ _ _ c.loop-test.false at-loop.loop.invariant.1
 
-pub before-spec : {M : Type 1} → statement M
-before-spec =
+pub before_spec : {M : Type 1} → statement M
+before_spec =
     tie.close
     (tie.spec
     invariant-loop

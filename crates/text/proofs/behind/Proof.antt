@@ -19,8 +19,8 @@ returns-2 c =
     whole start.args.s.now (length start.args.s.now)
     ∙ past start.args.s.now (length start.args.s.now) (length start.args.front.now + 1) (omega arith) (omega arith)
 
-pub behind-spec : {M : Type 1} → statement M
-behind-spec =
+pub behind_spec : {M : Type 1} → statement M
+behind_spec =
     tie.close
     (tie.spec
     (λ c. search rules) (λ c. search rules) (λ c. search rules) (λ c. search rules) (λ c. search rules)

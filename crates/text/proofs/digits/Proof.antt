@@ -4,13 +4,13 @@ use Prim.Native.Nat.{◌≤◌, ◌<◌, ◌-◌, ◌+◌, ◌*◌}
 use native.Mathlib.Omega.{arith}
 use borrow.Author.Rules.{rules}
 use lib.ListN.{length, drop}
-use Rattle.text.specs.Numbers.{digitsBelow}
-use Rattle.text.proofs.Counting.{too_large, digit, below-digits, above-digits, no_more}
+use Rattle.text.specs.Numbers.{digits_below}
+use Rattle.text.proofs.Counting.{too_large, digit, below_digits, above_digits, no_more}
 use Rattle.text.proofs.digits.Statement.{statement}
 use Rattle.text.proofs.digits.Tie as tie
 
 abbrev invariant-loop : tie.invariant-loop
-invariant-loop s bound value₀ i₀ value i = (i ≤ length s) × (value < bound) × (digitsBelow bound value (drop i s) ≡ digitsBelow bound 0 s)
+invariant-loop s bound value₀ i₀ value i = (i ≤ length s) × (value < bound) × (digits_below bound value (drop i s) ≡ digits_below bound 0 s)
 
 abbrev decreases-loop : tie.decreases-loop
 decreases-loop s bound value₀ i₀ value i = length s - i
@@ -21,18 +21,18 @@ loop-holds c = (search rules, omega arith, refl)
 returns : tie.Need-returns invariant-loop decreases-loop
 returns c =
     let at_wide = c.before in
-    let in-loop = at_wide.before.before in
-    let at-loop = in-loop.before in
+    let in_loop_lem = at_wide.before.before in
+    let at-loop = in_loop_lem.before in
     sym at-loop.loop.invariant.2
-    ∙ below-digits _ _ _ _ _ in-loop.loop-test.true at_wide.wide.ensures c.if1.true
+    ∙ below_digits _ _ _ _ _ in_loop_lem.loop-test.true at_wide.wide.ensures c.if1.true
 
 returns-2 : tie.Need-returns-2 invariant-loop decreases-loop
 returns-2 c =
     let at_wide = c.before.before in
-    let in-loop = at_wide.before.before in
-    let at-loop = in-loop.before in
+    let in_loop_lem = at_wide.before.before in
+    let at-loop = in_loop_lem.before in
     sym at-loop.loop.invariant.2
-    ∙ above-digits _ _ _ _ _ in-loop.loop-test.true at_wide.wide.ensures c.if2.true
+    ∙ above_digits _ _ _ _ _ in_loop_lem.loop-test.true at_wide.wide.ensures c.if2.true
 
 mul-value : tie.Need-overflow-mul-value invariant-loop decreases-loop
 mul-value c = omega arith
@@ -43,18 +43,18 @@ add-value c = omega arith
 returns-3 : tie.Need-returns-3 invariant-loop decreases-loop
 returns-3 c =
     let at_wide = c.before.before.before in
-    let in-loop = at_wide.before.before in
-    let at-loop = in-loop.before in
+    let in_loop_lem = at_wide.before.before in
+    let at-loop = in_loop_lem.before in
     sym at-loop.loop.invariant.2
-    ∙ digit _ _ _ _ _ in-loop.loop-test.true at_wide.wide.ensures (omega arith) (omega arith)
+    ∙ digit _ _ _ _ _ in_loop_lem.loop-test.true at_wide.wide.ensures (omega arith) (omega arith)
     ∙ too_large _ (10 * at-loop.loop.value + (at_wide.wide.result - 48)) _ (omega arith)
 
 loop-again : tie.Need-loop-preserved invariant-loop decreases-loop
 loop-again c =
     let at_wide = c.before.before.before in
-    let in-loop = at_wide.before.before in
-    let at-loop = in-loop.before in
-    (search rules, omega arith, sym (digit _ _ _ _ _ in-loop.loop-test.true at_wide.wide.ensures (omega arith) (omega arith)) ∙ at-loop.loop.invariant.2)
+    let in_loop_lem = at_wide.before.before in
+    let at-loop = in_loop_lem.before in
+    (search rules, omega arith, sym (digit _ _ _ _ _ in_loop_lem.loop-test.true at_wide.wide.ensures (omega arith) (omega arith)) ∙ at-loop.loop.invariant.2)
 
 cast-t12 : tie.Need-overflow-cast-t12 invariant-loop decreases-loop
 cast-t12 c = omega arith
@@ -65,8 +65,8 @@ returns-4 c =
     sym at-loop.loop.invariant.2
     ∙ no_more _ _ _ _ c.loop-test.false at-loop.loop.invariant.1
 
-pub digits-spec : {M : Type 1} → statement M
-digits-spec =
+pub digits_spec : {M : Type 1} → statement M
+digits_spec =
     tie.close
     (tie.spec
     invariant-loop

@@ -1,7 +1,7 @@
 -- `text::number_below` meets its contract, by the first digit. Assumes nothing.
 use mathlib.Core.Path.{◌∙◌}
 use borrow.Author.Rules.{rules}
-use Rattle.text.proofs.Counting.{no_digit, one-digit, zero-first, other-first}
+use Rattle.text.proofs.Counting.{no_digit, one_digit, zero_first, other_first}
 use Rattle.text.proofs.number_below.Statement.{statement}
 use Rattle.text.proofs.number_below.Tie as tie
 
@@ -11,24 +11,24 @@ returns c = no_digit _ _ c.if1.true
 returns-2 : tie.Need-returns-2
 returns-2 c =
     let at-if2 = c.before in
-    one-digit _ _ at-if2.if2.true
+    one_digit _ _ at-if2.if2.true
     ∙ c.digits.ensures
 
 returns-3 : tie.Need-returns-3
 returns-3 c =
     let at-if2 = c.before.before in
     let at-if1 = at-if2.before in
-    zero-first _ _ at-if1.if1.false at-if2.if2.false c.if3.true
+    zero_first _ _ at-if1.if1.false at-if2.if2.false c.if3.true
 
 returns-4 : tie.Need-returns-4
 returns-4 c =
     let at-if3 = c.before in
     let at-if1 = at-if3.before.before.before in
-    other-first _ _ at-if1.if1.false at-if3.if3.false
+    other_first _ _ at-if1.if1.false at-if3.if3.false
     ∙ c.digits2.ensures
 
-pub number-below-spec : {M : Type 1} → statement M
-number-below-spec =
+pub number_below_spec : {M : Type 1} → statement M
+number_below_spec =
     tie.close
     (tie.spec
     returns

@@ -5,7 +5,7 @@ use Prim.Native.Nat.{ℕ, ◌-◌, ◌≤◌}
 use native.Mathlib.Omega.{arith}
 use borrow.Author.Rules.{rules}
 use Rattle.layout.specs.Memory.{ZerosAre}
-use Rattle.truth.proofs.Zeros.{none_yet, lane-left, lane-zero}
+use Rattle.truth.proofs.Zeros.{none_yet, lane_left, lane_zero}
 use Rattle.truth.proofs.zero_lanes.Statement.{statement}
 use Rattle.truth.proofs.zero_lanes.Tie as tie
 
@@ -25,8 +25,8 @@ loop-again c =
     let args = c.before.before.before.before.args in
     let regs = args.regs.now in
     ⊎_elim
-    (λ w. (omega (arith, test.true), lane-zero args.a regs turn.t turn.z turn.invariant.1 c.if1.z test.true w.0.taken w.1))
-    (λ w. (omega (arith, test.true), lane-left args.a regs turn.t turn.z turn.invariant.1 c.if1.z w.0.left w.1))
+    (λ w. (omega (arith, test.true), lane_zero args.a regs turn.t turn.z turn.invariant.1 c.if1.z test.true w.0.taken w.1))
+    (λ w. (omega (arith, test.true), lane_left args.a regs turn.t turn.z turn.invariant.1 c.if1.z w.0.left w.1))
     c.if1.branch
 
 returns : tie.Need-returns invariant-loop decreases-loop
@@ -36,8 +36,8 @@ returns c =
     subst (λ (k : ℕ). ZerosAre args.a args.regs.now k turn.z)
     (let e : turn.t ≡ 32 = omega (arith, turn.invariant.0, c.loop-test.false) in e) turn.invariant.1
 
-pub zero-lanes-spec : {M : Type 1} → statement M
-zero-lanes-spec =
+pub zero_lanes_spec : {M : Type 1} → statement M
+zero_lanes_spec =
     tie.close
     (tie.spec
     invariant-loop

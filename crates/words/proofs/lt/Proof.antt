@@ -10,5 +10,5 @@ returns c = simp (lt-ltb c.before.args.x c.before.args.y (omega arith))
 returns-2 : tie.Need-returns-2
 returns-2 c = simp (le-ltb c.before.args.x c.before.args.y (omega arith))
 
-pub lt-spec : {M : Type 1} → statement M
-lt-spec = tie.close (tie.spec returns returns-2)
+pub lt_spec : {M : Type 1} → statement M
+lt_spec = tie.close (tie.spec returns returns-2)

@@ -18,8 +18,8 @@ returns c =
     handed
     ∙ ap unsigned (shifted signed.result divisor (record { sfits = signed.type-inv }) ∙ ap (λ z. shr_z z divisor) signed.ensures)
 
-pub sar-spec : {M : Type 1} → statement M
-sar-spec =
+pub sar_spec : {M : Type 1} → statement M
+sar_spec =
     tie.close
     (tie.spec
     (λ c κs. search rules) (λ c. search rules) (λ c. search rules) (λ c κs. search rules)

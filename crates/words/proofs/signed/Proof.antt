@@ -18,8 +18,8 @@ returns-2 c =
     let e : 4294967295 - (4294967295 - args.x) ≡ args.x = omega arith in
     ap (to_z w32) e ∙ signed_is args.x
 
-pub signed-spec : {M : Type 1} → statement M
-signed-spec =
+pub signed_spec : {M : Type 1} → statement M
+signed_spec =
     tie.close
     (tie.spec
     (λ c. search rules) (λ c. search rules) (λ c. search rules)

@@ -21,8 +21,8 @@ returns-2 c =
     simp (compared args.x args.y left.result right.result false (record { sfits = left.type-inv }) (record { sfits = right.type-inv })
     left.ensures right.ensures (search rules))
 
-pub slt-spec : {M : Type 1} → statement M
-slt-spec =
+pub slt_spec : {M : Type 1} → statement M
+slt_spec =
     tie.close
     (tie.spec
     (λ c κs. search rules) (λ c κs. search rules)

@@ -27,5 +27,5 @@ returns c = let f = below c in simp f.reads f.word
 returns-2 : tie.Need-returns-2
 returns-2 c = let f = above c in ap nat_abs f.reads ∙ f.word
 
-pub unsigned-spec : {M : Type 1} → statement M
-unsigned-spec = tie.close (tie.spec cast-result sub-result cast-result-2 returns returns-2)
+pub unsigned_spec : {M : Type 1} → statement M
+unsigned_spec = tie.close (tie.spec cast-result sub-result cast-result-2 returns returns-2)
