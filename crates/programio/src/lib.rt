@@ -6,7 +6,7 @@ ghost use Rattle.std.specs.Prelude.{◌≤◌, length};
 ghost use Rattle.programio.specs.Inputs.{ReadUpTo, Reading};
 
 // How many bytes of an input stand at the start of a buffer. A read that fails is not the input's end.
-#[derive(Drop)]
+#[derive(Clone, Copy)]
 pub enum Input {
     Bytes(usize),
     Failed,
