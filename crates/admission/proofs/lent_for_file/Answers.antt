@@ -11,27 +11,16 @@ returns-then-shared-ne1024 c =
 
 pub returns-then-logged-ne8192 : goal.returns-then-logged-ne8192
 returns-then-logged-ne8192 c =
-    let at-global = c in
-    let at_cells = at-global.before in
-    bad_log_lent _ _ _ _ _ at_cells.if1.false at-global.if2.false c.if-logged-ne8192.true
+    bad_log_lent _ _ _ _ _ c.if-held-ne1024.false c.if-shared-ne1024.false c.if-logged-ne8192.true
 
 pub returns-then-recorded-lt3075 : goal.returns-then-recorded-lt3075
 returns-then-recorded-lt3075 c =
-    let at-log = c in
-    let at-global = at-log.before in
-    let at_cells = at-global.before in
-    bad_records_lent _ _ _ _ _ at_cells.if1.false at-global.if2.false at-log.if3.false c.if-recorded-lt3075.true
+    bad_records_lent _ _ _ _ _ c.if-held-ne1024.false c.if-shared-ne1024.false c.if-logged-ne8192.false c.if-recorded-lt3075.true
 
 pub returns-then-room-lt24576 : goal.returns-then-room-lt24576
 returns-then-room-lt24576 c =
-    let at-log = c in
-    let at-global = at-log.before in
-    let at_cells = at-global.before in
-    bad_output_lent _ _ _ _ _ at_cells.if1.false at-global.if2.false at-log.if3.false c.if-recorded-lt3075.false c.if-room-lt24576.true
+    bad_output_lent _ _ _ _ _ c.if-held-ne1024.false c.if-shared-ne1024.false c.if-logged-ne8192.false c.if-recorded-lt3075.false c.if-room-lt24576.true
 
 pub returns : goal.returns
 returns c =
-    let at-log = c in
-    let at-global = at-log.before in
-    let at_cells = at-global.before in
-    all_lent _ _ _ _ _ at_cells.if1.false at-global.if2.false at-log.if3.false c.if-recorded-lt3075.false c.if-room-lt24576.false
+    all_lent _ _ _ _ _ c.if-held-ne1024.false c.if-shared-ne1024.false c.if-logged-ne8192.false c.if-recorded-lt3075.false c.if-room-lt24576.false

@@ -1,5 +1,4 @@
 -- `intervals::finish` meets its contract. Assumes nothing.
-use borrow.Author.Rules.{rules}
 use mathlib.Core.Path.{sym, ap, ◌∙◌, subst}
 use Prim.Native.Nat.{ℕ, ◌+◌, ◌*◌, ◌≤◌}
 use native.Mathlib.Omega.{arith}
@@ -27,4 +26,7 @@ returns c =
     let end = c.end in
     let used = c.in_use-k.ensures in
     let args = c.args in
-    (end.ensures ∙ ap (λ (k : ℕ). ended k args.rows args.records.now) used.0, c.costs.ensures ∙ ap (λ (k : ℕ). costs_up_to (k + 1) end.new.records) used.0)
+    record {
+      records = end.ensures ∙ ap (λ (k : ℕ). ended k args.rows args.records.now) used.0;
+      conflicts = c.costs.ensures ∙ ap (λ (k : ℕ). costs_up_to (k + 1) end.new.records) used.0;
+    }

@@ -3,7 +3,6 @@ use mathlib.Core.Path.{◌∙◌}
 use native.Mathlib.Nat.{le_refl}
 use native.Mathlib.Omega.{arith}
 use Rattle.spec.proofs.ClearingLaws.{cells_all}
-use borrow.Author.Rules.{rules}
 use Rattle.logclear.proofs.clear.Goals as goal
 
 pub returns : goal.returns

@@ -1,13 +1,12 @@
 -- `logclear::clear_cells` meets its contract: the invariant is the promise after i turns. Assumes nothing.
-use mathlib.Core.Path.{◌≡◌, sym, ap, ◌∙◌}
-use mathlib.Core.Logic.{⊎_elim}
-use Prim.Native.Nat.{ℕ, ◌-◌, ◌≤◌}
+use mathlib.Core.Path.{sym, ap, ◌∙◌}
+use Prim.Native.Nat.{ℕ}
 use native.Mathlib.Omega.{arith}
 use lib.ListN.{length}
 use Rattle.spec.specs.Log.{cell_cleared, cells_cleared}
 use Rattle.spec.proofs.ClearingLaws.{cells_none, cells_more, cells_size, cells_enough}
-use borrow.Author.Rules.{rules}
 use Rattle.logclear.proofs.clear_cells.Goals as goal
+use Rattle.logclear.proofs.clear_cells.Goals.{then-n-cells, else-n-cells}
 
 pub loop-i-init : goal.loop-i-init
 loop-i-init c =
@@ -20,13 +19,13 @@ clear_cell-requires c =
     let args = c.args in
     let some_left = c.loop-i-test.true in (
       ap length turn.invariant.1 ∙ cells_size args.cells args.log.now turn.i ∙ c.requires,
-      ⊎_elim (λ w. omega (arith, some_left, w.0.taken, w.1)) (λ w. omega (arith, some_left, w.1)) c.if-n-cells.branch,
+      elim c.if-n-cells.branch [ then-n-cells w ↦ omega (arith, some_left) | else-n-cells w ↦ omega (arith, some_left) ],
     )
 
 pub overflow_add-i : goal.overflow_add-i
 overflow_add-i c =
     let some_left = c.loop-i-test.true in
-    ⊎_elim (λ w. omega (arith, some_left, w.0.taken, w.1)) (λ w. omega (arith, some_left, w.1)) c.if-n-cells.branch
+    elim c.if-n-cells.branch [ then-n-cells w ↦ omega (arith, some_left) | else-n-cells w ↦ omega (arith, some_left) ]
 
 pub loop-i-smaller : goal.loop-i-smaller
 loop-i-smaller c = omega (arith, c.loop-i-test.true)
@@ -50,7 +49,7 @@ returns c =
     let turn = c.loop-i in
     let args = c.args in
     turn.invariant.1
-    ∙ ⊎_elim (λ w. ap (λ (k : ℕ). cells_cleared args.cells k args.log.now) (omega (arith, c.loop-i-test.false, turn.invariant.0, w.1)))
-    (λ w. cells_enough args.cells args.log.now turn.i args.n (λ h. omega (arith, c.requires))
-    (omega (arith, c.loop-i-test.false, w.1)) (omega (arith, w.0.left)))
-    c.if-n-cells.branch
+    ∙ elim c.if-n-cells.branch [
+        then-n-cells w ↦ ap (λ (k : ℕ). cells_cleared args.cells k args.log.now) (omega (arith, c.loop-i-test.false, turn.invariant.0))
+      | else-n-cells w ↦ cells_enough args.cells args.log.now turn.i args.n (λ h. omega (arith, c.requires)) (omega (arith, c.loop-i-test.false)) (omega arith)
+      ]

@@ -81,7 +81,7 @@ returns-in-6 c = named c.args.op 6 (search rules) c.in-6.is
 
 pub returns-in_default : goal.returns-in_default
 returns-in_default c =
-    let r = c.in_default.rest in
+    let r = c.in_default.in_default-own.rest in
     let u : of_code (get_or forms c.args.op 0) ≡ unknown_form =
     simp (ne_eqb _ _ r.0.0.0.0.0.1, ne_eqb _ _ r.0.0.0.0.1, ne_eqb _ _ r.0.0.0.1, ne_eqb _ _ r.0.0.1, ne_eqb _ _ r.0.1, ne_eqb _ _ r.1) in
     sym u ∙ rule c.args.op (search rules)

@@ -1,9 +1,6 @@
 -- `reportlines::put` meets its contract. Each turn copies a byte. Assumes nothing.
-use Prim.Native.Nat.{◌-◌}
 use native.Mathlib.Omega.{arith}
-use borrow.Author.Rules.{rules}
-use lib.ListN.{length}
-use Rattle.reportlines.proofs.Writing.{Copying, copy_none, copy_more, copy_all}
+use Rattle.reportlines.proofs.Writing.{copy_none, copy_more, copy_all}
 use Rattle.reportlines.proofs.put.Goals as goal
 
 pub loop-i-init : goal.loop-i-init
@@ -19,4 +16,6 @@ pub shape_of-out : goal.shape_of-out
 shape_of-out c = c.loop-i.invariant.long
 
 pub returns : goal.returns
-returns c = copy_all c.loop-i.invariant c.loop-i-test.false
+returns c =
+    let told = copy_all c.loop-i.invariant c.loop-i-test.false in
+    record { long = told.0; written = told.1 }

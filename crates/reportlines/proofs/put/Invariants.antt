@@ -1,9 +1,7 @@
 -- `reportlines::put` meets its contract. Each turn copies a byte. Assumes nothing.
 use Prim.Native.Nat.{◌-◌}
-use native.Mathlib.Omega.{arith}
-use borrow.Author.Rules.{rules}
 use lib.ListN.{length}
-use Rattle.reportlines.proofs.Writing.{Copying, copy_none, copy_more, copy_all}
+use Rattle.reportlines.proofs.Writing.{Copying}
 use Rattle.reportlines.proofs.put.Given as goal
 
 abbrev pub invariant-loop-i : goal.invariant-loop-i

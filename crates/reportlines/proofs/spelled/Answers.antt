@@ -4,7 +4,6 @@ use native.Mathlib.Omega.{arith}
 use Rattle.spec.specs.Text.{text}
 use Rattle.spec.specs.Report.{value_text}
 use Rattle.reportlines.specs.Words.{words}
-use borrow.Author.Rules.{rules}
 use Rattle.reportlines.proofs.spelled.Goals as goal
 
 pub returns-in-Hyphen : goal.returns-in-Hyphen

@@ -6,7 +6,6 @@ use Rattle.spec.specs.Report.{value_text}
 use Rattle.stringtable.proofs.Strings.{part_size}
 use Rattle.reportlines.specs.Words.{IsWord}
 use Rattle.reportlines.proofs.Words.{starts, as_word, as_digits, few_words, word_at, word_short}
-use borrow.Author.Rules.{rules}
 use Rattle.reportlines.proofs.value_length.Goals as goal
 use Rattle.reportlines.proofs.value_length.Goals.{In-Word}
 
@@ -20,16 +19,14 @@ overflow_add-result c = omega (arith, few_words (word (goal.at.overflow_add-resu
 pub offset_bounds-i : goal.offset_bounds-i
 offset_bounds-i c = omega (arith, few_words (word (goal.at.offset_bounds-i c).In-Word))
 
--- LOST array-read-result
--- array-read-result : tie.Need-array-read-result
--- array-read-result c = omega (arith, few_words (word c))
+pub bounds-i : goal.bounds-i
+bounds-i c = omega (arith, few_words (word (goal.at.bounds-i c).In-Word))
 
 pub offset_bounds-i-in-Word : goal.offset_bounds-i-in-Word
 offset_bounds-i-in-Word c = omega (arith, few_words (word (goal.at.offset_bounds-i-in-Word c).In-Word))
 
--- LOST array-read-result-2
--- array-read-result-2 : tie.Need-array-read-result-2
--- array-read-result-2 c = omega (arith, few_words (word c))
+pub bounds-i-in-Word : goal.bounds-i-in-Word
+bounds-i-in-Word c = omega (arith, few_words (word (goal.at.bounds-i-in-Word c).In-Word))
 
 pub overflow_sub-result : goal.overflow_sub-result
 unfolding starts

@@ -1,12 +1,8 @@
 -- `reportlines::write_number` meets its contract. The invariant: the digits of the rest, with the bytes behind them, are the number over the buffer.
 -- Assumes nothing.
-use mathlib.Core.Path.{◌≡◌, refl, ◌∙◌}
-use mathlib.Core.List.{◌++◌}
-use Prim.Native.Nat.{◌≤◌}
+use mathlib.Core.Path.{refl, ◌∙◌}
 use native.Mathlib.Omega.{arith}
-use borrow.Author.Rules.{rules}
-use lib.ListN.{length, drop, length-set}
-use Rattle.spec.specs.Text.{decimal}
+use lib.ListN.{length-set}
 use Rattle.spec.specs.Entries.{over}
 use Rattle.reportlines.proofs.Decimal.{length_more, some_digit}
 use Rattle.reportlines.proofs.Writing.{digit_written, first_written}
@@ -54,8 +50,9 @@ shape_of-out c = simp length-set c.loop-rest.invariant.2
 
 pub returns : goal.returns
 returns c =
-    let turn = c.loop-rest in (
-      c.digits-count.ensures.0,
-      first_written turn.out turn.rest turn.i c.loop-rest-test.false turn.invariant.0
-          (omega (arith, some_digit turn.rest)) ∙ turn.invariant.3,
-    )
+    let turn = c.loop-rest in
+    record {
+      long = c.digits-count.ensures.0;
+      written = first_written turn.out turn.rest turn.i c.loop-rest-test.false turn.invariant.0
+          (omega (arith, some_digit turn.rest)) ∙ turn.invariant.3;
+    }

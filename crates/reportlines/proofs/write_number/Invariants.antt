@@ -1,15 +1,11 @@
 -- `reportlines::write_number` meets its contract. The invariant: the digits of the rest, with the bytes behind them, are the number over the buffer.
 -- Assumes nothing.
-use mathlib.Core.Path.{◌≡◌, refl, ◌∙◌}
+use mathlib.Core.Path.{◌≡◌}
 use mathlib.Core.List.{◌++◌}
 use Prim.Native.Nat.{◌≤◌}
-use native.Mathlib.Omega.{arith}
-use borrow.Author.Rules.{rules}
-use lib.ListN.{length, drop, length-set}
+use lib.ListN.{length, drop}
 use Rattle.spec.specs.Text.{decimal}
 use Rattle.spec.specs.Entries.{over}
-use Rattle.reportlines.proofs.Decimal.{length_more, some_digit}
-use Rattle.reportlines.proofs.Writing.{digit_written, first_written}
 use Rattle.reportlines.proofs.write_number.Given as goal
 
 abbrev pub invariant-loop-rest : goal.invariant-loop-rest

@@ -1,11 +1,7 @@
 -- `text::before` meets its contract: no byte that the loop has passed is b. Assumes nothing.
-use mathlib.Core.Path.{◌≡◌, sym}
+use mathlib.Core.Path.{◌≡◌}
 use Prim.Native.Nat.{ℕ, ◌≤◌, ◌<◌, ◌-◌}
-use borrow.Author.Count.{below_more}
-use borrow.Author.Rules.{rules}
 use lib.ListN.{length, get_or}
-use lib.Seq.{length-take-le}
-use Rattle.text.proofs.Splitting.{found, missing}
 use Rattle.text.proofs.before.Given as goal
 
 abbrev pub invariant-loop-i : goal.invariant-loop-i

@@ -1,11 +1,8 @@
 -- `text::digits` meets its contract: the digits left, put behind the value so far, are the whole, and the value is below the bound. Assumes nothing.
-use mathlib.Core.Path.{◌≡◌, refl, sym, ◌∙◌}
-use Prim.Native.Nat.{◌≤◌, ◌<◌, ◌-◌, ◌+◌, ◌*◌}
-use native.Mathlib.Omega.{arith}
-use borrow.Author.Rules.{rules}
+use mathlib.Core.Path.{◌≡◌}
+use Prim.Native.Nat.{◌≤◌, ◌<◌, ◌-◌}
 use lib.ListN.{length, drop}
 use Rattle.text.specs.Numbers.{digits_below}
-use Rattle.text.proofs.Counting.{too_large, digit, below_digits, above_digits, no_more}
 use Rattle.text.proofs.digits.Given as goal
 
 abbrev pub invariant-loop-i : goal.invariant-loop-i

@@ -1,10 +1,7 @@
 -- `text::same` meets its contract: what is left of the two texts is equal exactly when they are. Assumes nothing.
-use mathlib.Core.Path.{◌≡◌, refl, sym, ◌∙◌}
-use Prim.Native.Nat.{◌≤◌, ◌-◌}
+use mathlib.Core.Path.{refl, sym, ◌∙◌}
 use native.Mathlib.Omega.{arith}
 use borrow.Author.Rules.{rules}
-use lib.ListN.{length, drop}
-use Rattle.spec.specs.Lists.{equal_list}
 use Rattle.text.proofs.Comparing.{lengths_differ, goes_on_lem, bytes_differ, at_end_lem}
 use Rattle.text.proofs.same.Goals as goal
 
@@ -19,17 +16,14 @@ bounds-key-i c = omega arith
 
 pub returns-then-s-i : goal.returns-then-s-i
 returns-then-s-i c =
-    let at-loop = c in
     bytes_differ _ _ _ c.loop-i-test.true (omega arith) c.if-s-i.true
-    ∙ at-loop.loop.invariant.1
+    ∙ c.loop-i.invariant.1
 
 pub loop-i-preserved : goal.loop-i-preserved
 loop-i-preserved c =
-    let at-loop = c in
-    (search rules, sym (goes_on_lem _ _ _ c.loop-i-test.true (omega arith) c.if-s-i.false) ∙ at-loop.loop.invariant.1)
+    (search rules, sym (goes_on_lem _ _ _ c.loop-i-test.true (omega arith) c.if-s-i.false) ∙ c.loop-i.invariant.1)
 
 pub returns : goal.returns
 returns c =
-    let at-loop = c in
     at_end_lem _ _ _ c.loop-i-test.false (omega arith)
-    ∙ at-loop.loop.invariant.1
+    ∙ c.loop-i.invariant.1

@@ -1,11 +1,8 @@
 -- `text::same` meets its contract: what is left of the two texts is equal exactly when they are. Assumes nothing.
-use mathlib.Core.Path.{◌≡◌, refl, sym, ◌∙◌}
+use mathlib.Core.Path.{◌≡◌}
 use Prim.Native.Nat.{◌≤◌, ◌-◌}
-use native.Mathlib.Omega.{arith}
-use borrow.Author.Rules.{rules}
 use lib.ListN.{length, drop}
 use Rattle.spec.specs.Lists.{equal_list}
-use Rattle.text.proofs.Comparing.{lengths_differ, goes_on_lem, bytes_differ, at_end_lem}
 use Rattle.text.proofs.same.Given as goal
 
 abbrev pub invariant-loop-i : goal.invariant-loop-i

@@ -1,12 +1,12 @@
 -- `truth::zero_lanes` meets its contract. The invariant: the lanes passed are told apart. Assumes nothing.
 use mathlib.Core.Path.{◌≡◌, subst}
-use mathlib.Core.Logic.{⊎_elim}
-use Prim.Native.Nat.{ℕ, ◌-◌, ◌≤◌}
+use Prim.Native.Nat.{ℕ}
 use native.Mathlib.Omega.{arith}
 use borrow.Author.Rules.{rules}
 use Rattle.layout.specs.Memory.{ZerosAre}
 use Rattle.truth.proofs.Zeros.{none_yet, lane_left, lane_zero}
 use Rattle.truth.proofs.zero_lanes.Goals as goal
+use Rattle.truth.proofs.zero_lanes.Goals.{then-regs-a-eq0, else-regs-a-eq0}
 
 pub loop-t-init : goal.loop-t-init
 loop-t-init c = (search rules, none_yet c.args.a c.args.regs.now)
@@ -17,10 +17,10 @@ loop-t-preserved c =
     let turn = c.loop-t in
     let args = c.args in
     let regs = args.regs.now in
-    ⊎_elim
-    (λ w. (omega (arith, test.true), lane_zero args.a regs turn.t turn.z turn.invariant.1 c.if-regs-a-eq0.z test.true w.0.taken w.1))
-    (λ w. (omega (arith, test.true), lane_left args.a regs turn.t turn.z turn.invariant.1 c.if-regs-a-eq0.z w.0.left w.1))
-    c.if-regs-a-eq0.branch
+    elim c.if-regs-a-eq0.branch [
+      then-regs-a-eq0 w ↦ (omega (arith, test.true), lane_zero args.a regs turn.t turn.z turn.invariant.1 c.if-regs-a-eq0.z test.true w.if-regs-a-eq0.true w.z-is)
+    | else-regs-a-eq0 w ↦ (omega (arith, test.true), lane_left args.a regs turn.t turn.z turn.invariant.1 c.if-regs-a-eq0.z w.if-regs-a-eq0.false w.z-is)
+    ]
 
 pub returns : goal.returns
 returns c =

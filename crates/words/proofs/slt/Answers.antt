@@ -9,7 +9,7 @@ returns-then-signed c =
     let right = c.signed-2 in
     let left = c.signed in
     let args = c.args in
-    simp (compared args.x args.y left.result right.result true (record { sfits = left.type-inv }) (record { sfits = right.type-inv })
+    simp (compared args.x args.y left.result right.result true (record { sfits = left.type_inv }) (record { sfits = right.type_inv })
     left.ensures right.ensures (search rules))
 
 pub returns-else-signed : goal.returns-else-signed
@@ -17,5 +17,5 @@ returns-else-signed c =
     let right = c.signed-2 in
     let left = c.signed in
     let args = c.args in
-    simp (compared args.x args.y left.result right.result false (record { sfits = left.type-inv }) (record { sfits = right.type-inv })
+    simp (compared args.x args.y left.result right.result false (record { sfits = left.type_inv }) (record { sfits = right.type_inv })
     left.ensures right.ensures (search rules))
