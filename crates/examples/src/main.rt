@@ -2,7 +2,7 @@
 // arguments; behind the word `pair` stand four: the files of a filter, a trigger and their common table, and the report of both.
 #![tactic(auto)]
 
-ghost use Rattle.std.specs.Prelude.{◌<◌, ◌≤◌, length};
+ghost use Rattle.std.specs.Prelude.{◌≡◌, ◌<◌, ◌≤◌, length, take};
 
 use programio::Input;
 use std::env::Env;
@@ -10,7 +10,8 @@ use std::fs::Files;
 
 // The bytes of the file that argument i names, at the start of the buffer; none where it cannot be opened or read.
 fn read_named(rt: &(impl Env + Files), i: usize, buffer: &mut [u8]) -> usize
-    ensures { result ≤ length buffer.new }
+    ensures inside { result ≤ length buffer.new }
+    ensures long { result ≡ length (take result buffer.new) }
 {
     match programio::read_named(rt, i, buffer) {
         Input::Bytes(size) => size,
