@@ -2,7 +2,6 @@
 use mathlib.Core.Path.{sym, ap, ◌∙◌}
 use Rattle.layout.specs.declared.Next.TheVariants as next
 use Rattle.layout.specs.Represents.{accessed}
-use borrow.Author.Rules.{rules}
 use Rattle.launchrows.proofs.after_access.Goals as goal
 
 pub returns-in-Done : goal.returns-in-Done

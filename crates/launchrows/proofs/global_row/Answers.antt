@@ -1,5 +1,4 @@
 -- `launchrows::global_row` meets its contract. Assumes nothing.
-use borrow.Author.Rules.{rules}
 use Rattle.launchrows.proofs.global_row.Goals as goal
 
 pub returns : goal.returns

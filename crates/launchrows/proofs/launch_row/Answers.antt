@@ -1,7 +1,6 @@
 -- `launchrows::launch_row` meets its contract. Assumes nothing.
 use mathlib.Core.Path.{ap}
 use Rattle.layout.specs.declared.Next.TheVariants as next
-use borrow.Author.Rules.{rules}
 use Rattle.launchrows.proofs.launch_row.Goals as goal
 
 pub returns : goal.returns
