@@ -7,7 +7,6 @@ use Rattle.report.specs.Subjects.{refused}
 use Rattle.report.proofs.Parts.{refusal_part, nothing}
 use Rattle.report.proofs.Entry.{no_lines_asked, too_long, fitting, turned_back, taken, fits}
 use Rattle.reportlines.proofs.Writing.{next, finished}
-use borrow.Author.Rules.{rules}
 use Rattle.report.proofs.report_refusal.Goals as goal
 
 pub returns-then-out-size : goal.returns-then-out-size
@@ -19,7 +18,7 @@ returns-then-out-size c =
     let out = args.out.now in
     let told = turned_back what [] [] [] out _ (too_long what [] [] [] out _ (no_lines_asked _ _ [] [] []) needed c.if-out-size.true)
     (fits what [] [] [] out _ needed (omega (arith, size.1))) in
-    record { answer = told.0; buffer = told.1; fits = told.2 }
+    record { answer = told.0; buffer = told.1.0; fits = told.1.1 }
 
 pub returns : goal.returns
 returns c =
@@ -36,4 +35,4 @@ returns c =
     let written = finished _ (next _ _ (nothing out) (omega (arith, size.0, test.false)) wrote.ensures.next wrote.ensures.written) part in
     let told = taken what [] [] [] out _ _ (fitting what [] [] [] out _ (no_lines_asked _ _ [] [] []) needed (omega (arith, test.false)))
     written.0 written.1 (fits what [] [] [] out _ needed (omega (arith, size.1))) in
-    record { answer = told.0; buffer = told.1; fits = told.2 }
+    record { answer = told.0; buffer = told.1.0; fits = told.1.1 }

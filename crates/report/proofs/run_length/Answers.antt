@@ -4,7 +4,6 @@ use Prim.Native.Nat.{◌+◌}
 use native.Mathlib.Omega.{arith}
 use Rattle.spec.specs.Text.{text}
 use Rattle.report.proofs.Parts.{run_size}
-use borrow.Author.Rules.{rules}
 use Rattle.report.proofs.run_length.Goals as goal
 
 pub returns : goal.returns
