@@ -1,4 +1,6 @@
 // One thread's LOAD (16), STORE (17) or ATOMIC ADD (18): one path for all three.
+#![tactic(auto)]
+
 ghost use Rattle.std.specs.Prelude.{◌≡◌, true, false, ◌+◌, ◌*◌, ◌^◌, ◌<◌, length, get_or};
 ghost use Rattle.layout.specs.Logging.{SameBut};
 ghost use Rattle.layout.specs.declared.Access.TheVariants as access;

@@ -1,4 +1,6 @@
 // The access test over the access log: all reader masks, then all writer masks, all adder masks, all first values and all marks of unequal stores.
+#![tactic(auto)]
+
 ghost use Rattle.std.specs.Prelude.{◌≡◌, not, ◌<◌, eqb};
 ghost use Rattle.std.specs.Int.Bits.{bit_or};
 ghost use Rattle.spec.specs.Log.{shown_kind};

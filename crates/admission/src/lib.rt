@@ -1,4 +1,6 @@
 // What a launch is refused for before its rows are looked at, and the lent buffers after them.
+#![tactic(auto)]
+
 ghost use Rattle.std.specs.Prelude.{◌≡◌, ◌&&◌, ◌+◌, ◌*◌, leb};
 ghost use Rattle.spec.specs.Shape.{sizes};
 ghost use Rattle.spec.specs.Entries.{bare_numbers, file_lent};

@@ -7,13 +7,13 @@ use Prim.Native.Nat.{ℕ, zero, suc, ◌+◌, ◌*◌, ◌<◌, ◌≤◌}
 use native.Mathlib.Omega.{arith}
 use native.Mathlib.Decide.{ℕ_discrete}
 use lib.Dec.{eqb, leb, ltb}
-use borrow.Author.Tests.{eqb-true, eq-eqb, ne_eqb, ltb-true}
+use borrow.Author.Tests.{eqb-true, eq-eqb, ne_eqb}
 use lib.ListN.{length, get_or, set, take, drop, length-set, length-map}
 use lib.Seq.{get_or-set_other, get_or-set_same}
-use Rattle.spec.specs.Access.{Access, Kind, Mode, reads, writes, adds, mode, value_of, agree, conflict, group_conflict}
+use Rattle.spec.specs.Access.{Access, Mode, reads, writes, adds, mode, value_of, agree, conflict, group_conflict}
 use Rattle.spec.specs.Lists.{any_of}
-use Rattle.spec.specs.Op.{BARRIER, CALC, ELSE, ENDIF, ENDWHILE, IF, MEM, Op, UNKNOWN, WHILE, Space}
-use Rattle.spec.specs.Shape.{Sizes, Shape, shape_of, bound, address, is_global, reaches}
+use Rattle.spec.specs.Op.{BARRIER, CALC, ELSE, ENDIF, ENDWHILE, IF, MEM, Op, UNKNOWN, WHILE}
+use Rattle.spec.specs.Shape.{Sizes, Shape, shape_of, is_global, reaches}
 use Rattle.spec.specs.Table.{Table, Row, row_at}
 use Rattle.spec.specs.Threads as own
 use Rattle.spec.specs.Threads.{Effect, Group, Thread, accesses, accesses_of, any_below, cells_after, effect, effect_at, effect_of, ends_badly, goes}

@@ -11,13 +11,12 @@ use lib.ListN.{length, get_or, set, replicate, length-set, length-replicate, get
 use lib.Seq.{get_or-set_other, get_or-set_same, set_out}
 use Rattle.spec.specs.Access.{Access, Kind, Mode, reads, writes, adds, mode, agree}
 use Rattle.spec.specs.GroupLog.{GroupLog, empty_group_log, group_masks_of, group_logged, conflicting_groups, group_conflict_mask}
-use Rattle.spec.specs.Lists.{any_of}
 use Rattle.spec.specs.Log.{nobody, with_thread}
 use Rattle.spec.specs.LockStep.{LockState, rivals}
 use Rattle.spec.specs.Mask.{Mask, any, has, union}
 use Rattle.spec.specs.Op.{Space, OWN, GLOBAL}
 use Rattle.spec.specs.Shape.{Shape, address, bound, is_global}
-use Rattle.spec.specs.Threads.{AccessRecord, any_below, empty_record, recorded}
+use Rattle.spec.specs.Threads.{AccessRecord, any_below, recorded}
 use Rattle.spec.proofs.Laws.{union_size}
 use Rattle.spec.proofs.LogLaws.{same, groups_logged, nobody_size}
 use Rattle.allruns.proofs.Bools.{below_more, below_none, below_same}

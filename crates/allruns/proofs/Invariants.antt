@@ -7,10 +7,9 @@ use native.Mathlib.Omega.{arith}
 use lib.Dec.{ltb}
 use borrow.Author.Tests.{ltb-true}
 use lib.ListN.{length, get_or, set, replicate, length-set, length-map, length-replicate, get_or-replicate}
-use Rattle.spec.specs.Access.{Kind}
 use Rattle.spec.specs.AllRuns.{RunOf, leaves}
 use Rattle.spec.specs.Limits.{registers}
-use Rattle.spec.specs.Op.{BARRIER, CALC, ELSE, ENDIF, ENDWHILE, IF, MEM, Op, Space, UNKNOWN, WHILE}
+use Rattle.spec.specs.Op.{BARRIER, CALC, ELSE, ENDIF, ENDWHILE, IF, MEM, Op, UNKNOWN, WHILE}
 use Rattle.spec.specs.Runs.{Run, after}
 use Rattle.spec.specs.LaunchThreads as launch
 use Rattle.spec.specs.LaunchThreads.{Groups, Part, initial_groups, initial_part, no_part, of_group, part_of, view, with_group}

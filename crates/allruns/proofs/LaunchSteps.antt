@@ -1,6 +1,6 @@
 -- The step counts of a launch: one for each of its threads, however it ends. Assumes nothing.
-use mathlib.Core.Path.{◌≡◌, refl, sym, ◌∙◌, ap}
-use mathlib.Core.List.{List, [], ◌∷◌, ◌++◌, map}
+use mathlib.Core.Path.{◌≡◌, sym, ◌∙◌, ap}
+use mathlib.Core.List.{List, [], ◌∷◌, map}
 use mathlib.Core.Bool.{Bool, true, false, cond}
 use Prim.Native.Nat.{ℕ, zero, suc, ◌+◌, ◌*◌, ◌-◌, ◌≤◌}
 use native.Mathlib.Nat.{add-mul, suc-mul}
@@ -8,7 +8,7 @@ use native.Mathlib.Omega.{arith}
 use lib.ListN.{length, length-append, length-replicate, replicate}
 use Rattle.spec.specs.Answers.{is_passed}
 use Rattle.spec.specs.Lists.{joined}
-use Rattle.spec.specs.LockStep.{LockState, LockResult, initial_state}
+use Rattle.spec.specs.LockStep.{LockState, initial_state}
 use Rattle.spec.specs.LaunchRun.{GroupRun, group_result, group_runs, next_start, rows_left, runs_from, steps_by_launch}
 use Rattle.spec.specs.Shape.{Sizes, all_threads, shape_of}
 use Rattle.spec.specs.Table.{Table}

@@ -1,5 +1,5 @@
 -- Demand 3 holds of every launch that is not refused: nothing else is asked. Assumes nothing.
-use mathlib.Core.Path.{◌≡◌, refl, sym, ◌∙◌, ap, ap₂, subst}
+use mathlib.Core.Path.{◌≡◌, refl, sym, ◌∙◌, ap₂, subst}
 use mathlib.Core.List.{List, ◌++◌}
 use mathlib.Core.Bool.{Bool, true, false, ◌&&◌}
 use mathlib.Core.Option.{Option, none, some}
@@ -10,10 +10,10 @@ use borrow.Author.Tests.{eqb-true}
 use lib.ListN.{length, length-append, take, replicate, take-append-drop}
 use Rattle.spec.specs.declared.Refusal.{Refusal}
 use Rattle.spec.specs.Limits.{max_launch_threads}
-use Rattle.spec.specs.Answers.{first, unless}
+use Rattle.spec.specs.Answers.{first}
 use Rattle.spec.specs.Table.{rows_of}
 use Rattle.spec.specs.TableCheck.{table_refusal}
-use Rattle.spec.specs.Shape.{Sizes, all_cells, all_own, all_threads}
+use Rattle.spec.specs.Shape.{Sizes, all_own, all_threads}
 use Rattle.spec.specs.Launch.{Launch, launch_run, launch_outcome, launch_steps, own_after, global_after, own_part, global_part}
 use Rattle.spec.specs.LaunchFile.{accepted, file_launch}
 use Rattle.spec.specs.Entries.{over, bare_numbers, bare_lent, bare_refusal, bare_launch, answer_of, kept_if, bare_answer, bare_cells, bare_global, bare_steps}

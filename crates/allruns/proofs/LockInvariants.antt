@@ -6,7 +6,7 @@ use Prim.Native.Nat.{ℕ, zero, suc, ◌+◌, ◌-◌, ◌<◌, ◌≤◌}
 use native.Mathlib.Omega.{arith}
 use borrow.Author.Tests.{leb-false}
 use lib.Dec.{leb}
-use lib.ListN.{length, get_or, length-replicate, length-set}
+use lib.ListN.{length, get_or, length-set}
 use lib.Seq.{get_or-set_other}
 use Rattle.spec.specs.declared.Verdict.TheVariants.{Passed}
 use Rattle.spec.specs.Access.{Kind}
@@ -19,7 +19,7 @@ use Rattle.spec.specs.LockStep.{else_row, endif_row, endwhile_row, for_enabled, 
 use Rattle.spec.specs.LockStep.{pass_barrier, pop, reg, result_of, run_from, run_row, set_reg, stops, top_mask, while_row}
 use Rattle.spec.specs.Mask.{Mask, any, full}
 use Rattle.spec.specs.Op.{Op, Calc, CALC, Space, OWN, GLOBAL, Mem, MEM, IF, ELSE, ENDIF, WHILE, ENDWHILE, BARRIER, UNKNOWN, value}
-use Rattle.spec.specs.Shape.{Shape, Sizes, address, bound, is_global, launch_number, loads, one_group, past, reaches, shape_of}
+use Rattle.spec.specs.Shape.{Shape, Sizes, address, bound, is_global, launch_number, loads, past, reaches, shape_of}
 use Rattle.spec.specs.Table.{Table, row_at, end_of, kind_of}
 use Rattle.spec.proofs.StepLaws.{stepped_size, all_stepped_size}
 use Rattle.allruns.proofs.AccessTurns.{groups_after, turn_cases, with_groups}

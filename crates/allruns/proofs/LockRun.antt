@@ -14,7 +14,7 @@ use Rattle.spec.specs.Mask.{has}
 use Rattle.spec.specs.Runs.{Run, after, many, shown_to}
 use Rattle.spec.specs.Shape.{Shape, reaches, total}
 use Rattle.spec.specs.Table.{Table, WellFormed, no_row, open_before, row_at}
-use Rattle.spec.specs.Threads.{Group, Move, at_end, empty_record, initial_threads, machine, no_thread, released, row}
+use Rattle.spec.specs.Threads.{Group, Move, at_end, empty_record, initial_threads, machine, no_thread}
 use Rattle.spec.specs.declared.Verdict.{Verdict}
 use Rattle.spec.specs.declared.Verdict.TheVariants.{Diverged, GroupRace, Outside, Common, Passed, Race, Spent}
 use Rattle.allruns.proofs.Counts.{passed_at, counted_is}

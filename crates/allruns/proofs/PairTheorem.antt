@@ -2,9 +2,8 @@
 use mathlib.Core.Path.{◌≡◌, refl, sym, ◌∙◌, ap, subst}
 use mathlib.Core.Logic.{◌⊎◌, ◌↔◌}
 use mathlib.Core.List.{List, ◌++◌}
-use Prim.Native.Nat.{ℕ, ◌+◌}
+use Prim.Native.Nat.{ℕ}
 use native.Mathlib.Omega.{arith}
-use lib.ListN.{length}
 use Rattle.spec.specs.declared.Refusal.{Refusal}
 use Rattle.spec.specs.AllRuns.{CompleteRun, EveryRunEndsWell, PassedSays}
 use Rattle.spec.specs.Demands.{LaunchDemand3, counted_in}
@@ -15,7 +14,6 @@ use Rattle.spec.specs.LaunchThreads.{Groups, Move}
 use Rattle.spec.specs.PairRuns.{Alternating, CompletePair, PairEndsWell, PairSays, start_of, starts, threads_of, together}
 use Rattle.spec.specs.Pairs.{firsts, seconds}
 use Rattle.spec.specs.Runs.{RunsAlwaysEnd}
-use Rattle.spec.specs.Steps.{sum}
 use Rattle.allruns.proofs.AcceptedFiles.{Sized, accepted_file}
 use Rattle.allruns.proofs.Launches.{sized_demand3}
 use Rattle.allruns.proofs.Lifted.{any_move}

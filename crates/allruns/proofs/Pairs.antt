@@ -2,11 +2,10 @@
 use mathlib.Core.Path.{◌≡◌, refl, sym, ◌∙◌, ap, ap₂, subst}
 use mathlib.Core.Logic.{◌⊎◌, inl, inr}
 use mathlib.Core.List.{List, [], ◌∷◌, ◌++◌, map}
-use mathlib.Core.Bool.{Bool, cond}
 use Prim.Native.Nat.{ℕ, zero, suc, ◌+◌, ◌≤◌}
 use native.Mathlib.Omega.{arith}
-use lib.ListN.{length, length-map}
-use Rattle.spec.specs.Runs.{Machine, many, Run, after, shown_to, Halted, RunsAlwaysEnd}
+use lib.ListN.{length}
+use Rattle.spec.specs.Runs.{Machine, Run, after, shown_to, Halted, RunsAlwaysEnd}
 use Rattle.spec.specs.Pairs.{firsts, seconds, pair}
 
 -- Moves, of both and of each.

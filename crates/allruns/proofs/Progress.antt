@@ -9,10 +9,9 @@ use lib.Dec.{eqb, leb, ltb}
 use borrow.Author.Tests.{eq-eqb, ne_eqb, ltb-true, lt-ltb, le-ltb, le-leb, lt-leb}
 use lib.ListN.{length, get_or, drop, set, length-set, get_or-eq_default}
 use lib.Seq.{get_or-set_other, get_or-set_same}
-use Rattle.spec.specs.Access.{Kind}
 use Rattle.spec.specs.Op.{BARRIER, CALC, ELSE, ENDIF, ENDWHILE, IF, MEM, Op, UNKNOWN, WHILE}
 use Rattle.spec.specs.Shape.{Shape}
-use Rattle.spec.specs.Table.{Fits, Table, WellFormed, cell_byte, closing, else_of, end_of, innermost, kind_of, no_row, open_before, opening, past_else, role}
+use Rattle.spec.specs.Table.{Fits, Table, WellFormed, closing, else_of, end_of, innermost, no_row, open_before, opening, past_else, role}
 use Rattle.spec.specs.Table.{row_at, scan, start_of}
 use Rattle.spec.specs.Threads.{Effect, Thread, effect, effect_of, goto, is_outside, is_waiting, on_if, on_while, put, reg}
 use Rattle.spec.specs.Threads.{thread_after, waits}

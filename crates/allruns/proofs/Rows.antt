@@ -9,7 +9,7 @@ use borrow.Author.Tests.{eq-eqb, ne_eqb}
 use lib.ListN.{length, get_or, set, length-set, length-replicate}
 use lib.Seq.{get_or-set_other, get_or-set_same, set-set, set-get_or}
 use Rattle.spec.specs.LockStep.{if_row, else_row, endif_row, while_row, endwhile_row, LockState, Saved, Step, access_turn, advance, and_then, compute_turn}
-use Rattle.spec.specs.LockStep.{continues, count_steps, for_enabled, in_turn, leave_or_stay, made_access, pop, reg, saved_at_while, set_reg, stops}
+use Rattle.spec.specs.LockStep.{continues, count_steps, for_enabled, in_turn, leave_or_stay, made_access, pop, saved_at_while, set_reg, stops}
 use Rattle.spec.specs.LockStep.{top_mask, top_opener}
 use Rattle.spec.specs.Mask.{Mask, any, has, holding, members, members_from, minus, nonzero}
 use Rattle.spec.specs.Op.{ELSE, ENDIF, ENDWHILE, IF, Mem, Op, Space, WHILE}

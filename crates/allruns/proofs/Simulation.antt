@@ -12,7 +12,7 @@ use Rattle.spec.specs.Mask.{Mask, has}
 use Rattle.spec.specs.Op.{BARRIER, CALC, ELSE, ENDIF, ENDWHILE, IF, MEM, Op, UNKNOWN, WHILE}
 use Rattle.spec.specs.Shape.{Shape, reaches, total}
 use Rattle.spec.specs.Table.{Table, else_of, end_of, row_at}
-use Rattle.spec.specs.Threads.{Group, Thread, no_thread, row}
+use Rattle.spec.specs.Threads.{Group, Thread, no_thread}
 use Rattle.allruns.proofs.LogMatches.{LogMatches}
 use Rattle.allruns.proofs.GroupMatches.{GroupMatches}
 use Rattle.allruns.proofs.Nesting.{is_while}

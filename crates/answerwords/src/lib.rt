@@ -1,4 +1,6 @@
 // Answers as words, for programs in C and Rust.
+#![tactic(auto)]
+
 ghost use Rattle.std.specs.Prelude.{◌≡◌};
 ghost use Rattle.answerwords.specs.Codes.{length_in, refusal_in, verdict_code, kind_code, value_code, outcome_words, kind_from, verdict_from, outcome_from};
 

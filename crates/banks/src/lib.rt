@@ -1,5 +1,7 @@
 // What a row's bank conflicts cost. They are counted by stamps: each cell has the last row that used it, so that nothing is cleared between rows. What
 // was counted last is remembered for a few rows: the same cells, all moved by one distance or by none, cost the same again.
+#![tactic(auto)]
+
 ghost use Rattle.std.specs.Prelude.{◌≡◌, true, ◌+◌, ◌-◌, ◌*◌, ◌^◌, ◌<◌, ◌≤◌, length, get_or};
 ghost use Rattle.banks.specs.Counting.{numbers_in, Older, Fit, Counted, RowCounted, AllFar};
 ghost use Rattle.banks.specs.Remembering.{AtOneDistance, Nearby, lanes_from, Memo, Remembered, RowCosts};

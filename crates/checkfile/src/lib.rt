@@ -1,4 +1,6 @@
 // A launch file checked whole: read, run over the lent buffers, and reported.
+#![tactic(auto)]
+
 ghost use Rattle.std.specs.Prelude.{◌≡◌};
 ghost use Rattle.spec.specs.Answers.{told, told_in};
 ghost use Rattle.spec.specs.Entries.{checked_refusal, file_checked, file_answer, file_cells_after, file_global_after, file_log_after, file_records_after, file_output_after};

@@ -1,4 +1,6 @@
 // The program check: reads a launch file from standard input and prints its report, or the report of its refusal.
+#![tactic(auto)]
+
 use programio::Input;
 
 // One byte over the limit is enough to know that a file is too long. Where the input cannot be read nothing is printed,

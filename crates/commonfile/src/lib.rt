@@ -1,4 +1,6 @@
 // The reader of the common file: one pass over its lines, as with a launch file. Every fault in it is refusal 37, at its line.
+#![tactic(auto)]
+
 ghost use Rattle.std.specs.Prelude.{◌≡◌};
 ghost use Rattle.commonfile.specs.CommonRead.{refused_at, CommonRead};
 

@@ -1,4 +1,6 @@
 // A computing row: its values in all 32 lanes, then a store under the mask.
+#![tactic(auto)]
+
 ghost use Rattle.std.specs.Prelude.{◌≡◌, ◌+◌, ◌*◌, ◌/◌, ◌%◌, ◌^◌, ◌<◌, ◌≤◌, length, get_or};
 ghost use Rattle.spec.specs.Op.{LAUNCHTID};
 ghost use Rattle.layout.specs.Memory.{ComputeAsks, lane, Puts, computed_lane, Computed};

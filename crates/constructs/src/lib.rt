@@ -1,4 +1,6 @@
 // The rows of constructs, and BARRIER. Masks are saved on entry, with the construct's row beside them.
+#![tactic(auto)]
+
 ghost use Rattle.std.specs.Prelude.{◌≡◌, ◌-◌, ◌*◌, ◌<◌, ◌≤◌, length, set};
 ghost use Rattle.spec.specs.Limits.{log_per_cell};
 ghost use Rattle.layout.specs.Represents.{Room, Counted, RoomForWhile, DepthAsks, moved_on};

@@ -1,4 +1,6 @@
 // The rows and the cells of a launch file, line by line.
+#![tactic(auto)]
+
 ghost use Rattle.std.specs.Prelude.{◌≡◌, ◌*◌, ◌<◌, ◌≤◌, length};
 ghost use Rattle.contents.specs.Taken.{put_row, RowsTaken, CellsTaken};
 

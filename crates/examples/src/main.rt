@@ -1,5 +1,7 @@
 // Holds what check and pair would print of the files that the arguments name against the reports that they name. A launch file and its report make two
 // arguments; behind the word `pair` stand four: the files of a filter, a trigger and their common table, and the report of both.
+#![tactic(auto)]
+
 ghost use Rattle.std.specs.Prelude.{◌<◌};
 ghost use Rattle.io.specs.Counts.{IsPrefixLen};
 

@@ -1,4 +1,6 @@
 // The launch that a file gives: its lines read, its table checked.
+#![tactic(auto)]
+
 ghost use Rattle.std.specs.Prelude.{◌*◌, ◌≤◌};
 ghost use Rattle.filelaunch.specs.Founds.{FoundIs};
 

@@ -1,4 +1,6 @@
 // The first line of what is left of a launch file. A value is a part of the file's slice, and so is what is left behind a line.
+#![tactic(auto)]
+
 ghost use Rattle.std.specs.Prelude.{◌≡◌};
 ghost use Rattle.spec.specs.Text.{text};
 ghost use Rattle.spec.specs.LaunchFile.{number};

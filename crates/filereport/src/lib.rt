@@ -1,4 +1,6 @@
 // What the program check prints for a launch file: the report of its run, or of its refusal.
+#![tactic(auto)]
+
 ghost use Rattle.std.specs.Prelude.{◌≡◌, ◌≤◌, length, take};
 ghost use Rattle.spec.specs.Entries.{over, check_prints};
 ghost use Rattle.spec.specs.Demands.{ReportDemand3, FileReadable};

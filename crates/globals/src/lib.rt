@@ -1,4 +1,6 @@
 // A row's accesses of global cells, thread by thread: those of the group's own threads are looked at first, then those of other groups.
+#![tactic(auto)]
+
 ghost use Rattle.std.specs.Prelude.{◌≡◌, ◌+◌, ◌^◌, ◌<◌, ◌≤◌, length};
 ghost use Rattle.std.specs.Int.Count.{count_trailing_zeros};
 ghost use Rattle.spec.specs.declared.Verdict.TheVariants.{GroupRace};

@@ -1,4 +1,6 @@
 // The group masks of the global cells: all reader masks, then all writer masks, then all adder masks. Bit g is group g's.
+#![tactic(auto)]
+
 ghost use Rattle.std.specs.Prelude.{◌≡◌, ◌<◌};
 ghost use Rattle.layout.specs.Logging.{mask_entered};
 ghost use Rattle.layout.specs.Shared.{GroupAsks, rivals_word, group_kind_word};

@@ -1,4 +1,6 @@
 // One row of a group of a launch, by its op: over its own cells a row of a group alone, or a row of the launch.
+#![tactic(auto)]
+
 ghost use Rattle.std.specs.Prelude.{◌+◌, ◌*◌, get_or};
 ghost use Rattle.layout.specs.Counting.{Roomy, NextCounted};
 ghost use Rattle.banks.specs.Counting.{Older};

@@ -1,4 +1,6 @@
 // The lock-step run of one group of a launch: one row after the other, until the table's end, the limit, or a stop.
+#![tactic(auto)]
+
 ghost use Rattle.std.specs.Prelude.{◌≡◌, ◌+◌, ◌^◌, ◌-◌, ◌<◌, ◌≤◌, length};
 ghost use Rattle.spec.specs.Limits.{max_common, records_lent};
 ghost use Rattle.layout.specs.Running.{Runnable, start_state};

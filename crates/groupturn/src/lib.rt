@@ -1,4 +1,6 @@
 // A group's turn in a launch: its run, and what it leaves put to its place.
+#![tactic(auto)]
+
 ghost use Rattle.std.specs.Prelude.{◌≡◌, ◌*◌, ◌<◌, ◌≤◌};
 ghost use Rattle.groupturn.specs.Turns.{TurnAsks, TurnDone};
 

@@ -1,5 +1,7 @@
 // The records of the barrier intervals in the lent list, three words each: the row due at its start, its rows, its cost. While an interval goes on, its
 // record holds the rows run before it in place of its own.
+#![tactic(auto)]
+
 ghost use Rattle.std.specs.Prelude.{◌≡◌, ◌+◌, ◌*◌, ◌<◌, ◌≤◌, length, get_or};
 ghost use Rattle.spec.specs.Limits.{records_lent};
 ghost use Rattle.intervals.specs.Records.{in_use, begun, ended, charged, released, costs_up_to, EndAsks};

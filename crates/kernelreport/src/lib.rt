@@ -1,4 +1,6 @@
 // The report of one kernel over common cells: of its run, or of what it is refused for.
+#![tactic(auto)]
+
 ghost use Rattle.std.specs.Prelude.{◌≤◌, length};
 ghost use Rattle.spec.specs.Limits.{max_common, file_output};
 ghost use Rattle.spec.specs.LaunchFile.{file_launch};

@@ -1,4 +1,6 @@
 // The ops that read two registers, over 32 lanes at once: straight loops, lane t being thread t's.
+#![tactic(auto)]
+
 ghost use Rattle.std.specs.Int.Bits.{bit_and, bit_or, bit_xor};
 ghost use Rattle.spec.specs.Word.{add, sub, mul, shr, sar, equal, less, signed_less};
 ghost use Rattle.lanes.specs.Lanes.{Filled, zip};

@@ -1,4 +1,6 @@
 // The bare launch: a table, its launch's numbers, and lent cells, log, records and step counts.
+#![tactic(auto)]
+
 ghost use Rattle.std.specs.Prelude.{◌≡◌};
 ghost use Rattle.spec.specs.Answers.{told, told_by};
 ghost use Rattle.spec.specs.Shape.{sizes};

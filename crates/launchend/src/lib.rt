@@ -1,4 +1,6 @@
 // What follows a group's turn: another group's, or the end of the launch.
+#![tactic(auto)]
+
 ghost use Rattle.std.specs.Prelude.{◌<◌};
 ghost use Rattle.launchend.specs.Ends.{GoesOn, CloseAsks, Closed};
 

@@ -1,4 +1,6 @@
 // The reader of a launch file: one pass over its lines. What is left of the file after a line is a part of the file's slice.
+#![tactic(auto)]
+
 ghost use Rattle.std.specs.Prelude.{◌≡◌, ◌+◌, ◌≤◌, length};
 ghost use Rattle.spec.specs.LaunchFile.{sizes_in, limit_in, rows_in, content_lines};
 ghost use Rattle.numberlines.specs.Answered.{line_count};

@@ -1,4 +1,6 @@
 // The rows that only a group of a launch has: the launch number, and accesses of global cells.
+#![tactic(auto)]
+
 ghost use Rattle.std.specs.Prelude.{◌≡◌, ◌-◌, ◌^◌, ◌<◌, ◌≤◌, length};
 ghost use Rattle.layout.specs.Represents.{Room, accessed};
 ghost use Rattle.layout.specs.Shared.{GlobalAsks};

@@ -1,4 +1,6 @@
 // The lock-step run of a launch: group 0 to its end, then group 1 and so on, under one limit.
+#![tactic(auto)]
+
 ghost use Rattle.std.specs.Prelude.{◌≡◌, ◌++◌, ◌+◌, ◌*◌, ◌<◌, ◌≤◌, length};
 ghost use Rattle.spec.specs.Entries.{bare_launch};
 ghost use Rattle.launchrun.specs.Launches.{LaunchAsks, LaunchIs, RunIs, Fresh, sizes_by};

@@ -2,6 +2,7 @@
 // regs holds register r of thread t at r * 32 + t; log holds all reader masks, then all writer masks, all adder masks, all first values and
 // all marks;
 // saved and openers hold the mask and the row of each open construct, the innermost last below the depth.
+#![tactic(auto)]
 
 // What an access comes to.
 #[derive(Drop)]

@@ -1,4 +1,6 @@
 // The walk that clears the access log.
+#![tactic(auto)]
+
 ghost use Rattle.std.specs.Prelude.{◌≡◌, ◌*◌, ◌<◌, length, replicate};
 ghost use Rattle.spec.specs.Limits.{log_per_cell};
 ghost use Rattle.spec.specs.Log.{cell_cleared, cells_cleared};

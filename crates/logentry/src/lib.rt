@@ -1,4 +1,6 @@
 // An access's entry in the access log: the thread's bit, and of a store its value or the mark of an unequal one.
+#![tactic(auto)]
+
 ghost use Rattle.std.specs.Prelude.{◌≡◌, ◌+◌, ◌<◌, ◌≤◌, get_or};
 ghost use Rattle.layout.specs.Logging.{LogAsks, OneBit, mode_of, rank, place_of, mark_entered, entered_words};
 

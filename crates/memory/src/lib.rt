@@ -1,4 +1,6 @@
 // A row's accesses, thread by thread. The cells' numbers are put together bit by bit on the way: none is above what comes out.
+#![tactic(auto)]
+
 ghost use Rattle.std.specs.Prelude.{◌≡◌, ◌-◌, ◌%◌, ◌^◌, ◌<◌};
 ghost use Rattle.spec.specs.Limits.{common_from};
 ghost use Rattle.layout.specs.Memory.{AccessRowAsks, AccessLoop, AccessRow};

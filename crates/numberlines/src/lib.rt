@@ -1,4 +1,6 @@
 // The number lines of a launch file: one loop over a table of keys, limits and refusals.
+#![tactic(auto)]
+
 ghost use Rattle.std.specs.Prelude.{◌≡◌, ◌+◌, ◌≤◌, length};
 ghost use Rattle.numberlines.specs.Answered.{line_count, lines_from, lines_behind, NumbersRead};
 

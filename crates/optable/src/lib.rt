@@ -1,4 +1,6 @@
 // The operand form of each op, looked up in one table of 256 entries.
+#![tactic(auto)]
+
 ghost use Rattle.std.specs.Prelude.{◌≡◌};
 ghost use Rattle.spec.specs.Op.{form_of, operands_fit};
 ghost use Rattle.optable.specs.Forms.{meaning};

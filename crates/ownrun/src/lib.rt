@@ -1,4 +1,6 @@
 // An accepted launch, run on buffers of its own, and reported.
+#![tactic(auto)]
+
 ghost use Rattle.std.specs.Prelude.{◌≤◌, length};
 ghost use Rattle.spec.specs.Limits.{file_output};
 ghost use Rattle.filerun.specs.Launches.{CanRun};

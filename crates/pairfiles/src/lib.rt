@@ -1,4 +1,6 @@
 // Two kernels over one table of common cells: the reports of both, from the bytes of the three files.
+#![tactic(auto)]
+
 ghost use Rattle.std.specs.Prelude.{◌≡◌, List, ◌++◌, ℕ, ◌≤◌, length, take};
 ghost use Rattle.spec.specs.Limits.{pair_output};
 ghost use Rattle.spec.specs.Answers.{told, told_in};

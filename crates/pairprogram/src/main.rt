@@ -1,4 +1,6 @@
 // The program pair: reads the files of a filter, a trigger and their common table, and prints both kernels' reports.
+#![tactic(auto)]
+
 use programio::Input;
 
 // Of a kernel's file one byte over its limit is enough to know that it is too long, and 4,119 bytes of a common file decide every report. A file that can't

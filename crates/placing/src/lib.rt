@@ -1,4 +1,6 @@
 // Words put into the middle of a buffer: a part's log into the launch's.
+#![tactic(auto)]
+
 ghost use Rattle.std.specs.Prelude.{◌≡◌, ◌+◌, ◌*◌, ◌<◌, ◌≤◌, length, take, replicate};
 ghost use Rattle.layout.specs.Views.{put_part};
 ghost use Rattle.placing.specs.Kinds.{kind_placed, kinds_placed, KindsAsk};

@@ -1,5 +1,7 @@
 // What the programs share: reading standard input or a file that an argument names, printing, and the usage line.
 // No contract can say which bytes are read or written: those of the readers bound how many are read.
+#![tactic(auto)]
+
 ghost use Rattle.std.specs.Prelude.{◌≤◌, length};
 ghost use Rattle.programio.specs.Inputs.{ReadUpTo, Reading};
 

@@ -1,4 +1,6 @@
 // Reads a table by recursive descent: its first refusal, or where each of its loops ends.
+#![tactic(auto)]
+
 ghost use Rattle.std.specs.Prelude.{◌≡◌, ◌&&◌, ℕ, ◌*◌, ◌%◌, ◌<◌, ◌≤◌, eqb, ltb, length, get_or, replicate};
 ghost use Rattle.std.proofs.Math.Option.{none};
 ghost use Rattle.admission.specs.Refusing.{refusal_of};

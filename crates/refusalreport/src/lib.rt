@@ -1,4 +1,6 @@
 // The report of a refusal.
+#![tactic(auto)]
+
 ghost use Rattle.std.specs.Prelude.{◌≡◌, ◌≤◌, length};
 ghost use Rattle.spec.specs.Answers.{refusal_number, refusal_place};
 ghost use Rattle.spec.specs.Report.{refusal_report};

@@ -1,4 +1,6 @@
 // The number and the place by which document 01 names a refusal.
+#![tactic(auto)]
+
 ghost use Rattle.std.specs.Prelude.{◌≡◌};
 ghost use Rattle.refusals.specs.Words.{refusal_words};
 

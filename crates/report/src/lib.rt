@@ -1,4 +1,6 @@
 // The report writer: the length that is needed first, then line after line, each behind the last one.
+#![tactic(auto)]
+
 ghost use Rattle.std.specs.Prelude.{◌≡◌, [], ◌+◌, ◌≤◌, length};
 ghost use Rattle.spec.specs.Report.{run_report};
 ghost use Rattle.spec.specs.Answers.{told, told_in};

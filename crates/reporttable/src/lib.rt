@@ -1,4 +1,6 @@
 // Lines of a report in one loop each: those of the table of keys, by their number; and one line for each number of a slice.
+#![tactic(auto)]
+
 ghost use Rattle.std.specs.Prelude.{◌≡◌, ◌+◌, ◌*◌, ◌≤◌, length};
 ghost use Rattle.spec.specs.Report.{bytes_of, each_line};
 ghost use Rattle.reportlines.specs.Places.{over_from};

@@ -1,4 +1,6 @@
 // The entries for programs in C and Rust: the same functions, with answers as words. include/sekufoyi.h declares them.
+#![tactic(auto)]
+
 ghost use Rattle.std.specs.Prelude.{◌≡◌, []};
 ghost use Rattle.spec.specs.declared.Subject.TheVariants.{Ran, Refused};
 ghost use Rattle.spec.specs.Shape.{sizes};

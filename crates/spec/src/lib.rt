@@ -1,4 +1,5 @@
 // The answers of document 01. The definitions in specs/ and all code share these types.
+#![tactic(auto)]
 
 // The kind of a race: what the other thread did to the cell, then what the acting thread does to it.
 #[derive(Drop)]

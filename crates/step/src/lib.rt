@@ -1,4 +1,6 @@
 // The rows of a group over its own cells, by the kinds of their ops: computing rows, accesses, constructs and BARRIER.
+#![tactic(auto)]
+
 ghost use Rattle.std.specs.Prelude.{◌≡◌, ◌+◌, ◌*◌, ◌^◌, ◌<◌, ◌≤◌, length, get_or};
 ghost use Rattle.spec.specs.Limits.{log_per_cell};
 ghost use Rattle.layout.specs.declared.Next.TheVariants as next;

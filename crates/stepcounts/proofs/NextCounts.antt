@@ -2,12 +2,12 @@
 use mathlib.Core.Path.{◌≡◌, refl, sym, ◌∙◌, ap, ap₂, subst}
 use mathlib.Core.List.{List}
 use mathlib.Core.Bool.{Bool, true, false, cond}
-use Prim.Native.Nat.{ℕ, ◌+◌, ◌-◌, ◌*◌, ◌^◌, ◌<◌, ◌≤◌}
+use Prim.Native.Nat.{ℕ, ◌+◌, ◌-◌, ◌*◌, ◌^◌, ◌<◌}
 use native.Mathlib.Omega.{arith}
 use native.Mathlib.Decide.{ℕ_discrete}
 use borrow.Author.Tests.{eq-eqb, ne_eqb}
 use lib.Dec.{eqb}
-use lib.ListN.{length, get_or}
+use lib.ListN.{length}
 use Rattle.spec.specs.LockStep.{Step, continues, stops}
 use Rattle.layout.specs.declared.Access.{Access}
 use Rattle.layout.specs.declared.Access.TheVariants.{Done, Stop}
@@ -18,9 +18,9 @@ use Rattle.layout.specs.Represents.{Represents, After, gone_on, moved_on, with_s
 use Rattle.layout.specs.Memory.{holding_word}
 use Rattle.layout.specs.Constructs.{if_state, else_state, endif_state, while_depth, left_state, while_state, endwhile_state, construct_state}
 use Rattle.layout.specs.Constructs.{ConstructDone, barrier_next, passed_state, diverged_next}
-use Rattle.layout.specs.Counting.{bit_of, steps_of, own_step, Settled, stepping, StepsOn, RowCounted, NextCounted}
+use Rattle.layout.specs.Counting.{bit_of, steps_of, own_step, Settled, stepping, StepsOn, NextCounted}
 use Rattle.layout.proofs.PlainRows.{stands_alike}
-use Rattle.stepcounts.proofs.Adding.{bit_add, bit_zero, nobody_bit}
+use Rattle.stepcounts.proofs.Adding.{bit_add, nobody_bit}
 
 -- One more step of a mask's threads.
 one_more : (mask k : ℕ) (counts : List ℕ) (t : ℕ) → steps_of mask (k + 1) counts t ≡ steps_of mask k counts t + bit_of mask t

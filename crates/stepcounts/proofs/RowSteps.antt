@@ -10,7 +10,7 @@ use Rattle.spec.specs.Access.{Kind}
 use Rattle.spec.specs.Mask.{Mask, members, members_from, any, full, lowest}
 use Rattle.spec.specs.Log.{conflict_mask, race_kind}
 use Rattle.spec.specs.GroupLog.{group_race_kind}
-use Rattle.spec.specs.Op.{Op, Calc, CALC, Space, OWN, GLOBAL, Mem, MEM, IF, ELSE, ENDIF, WHILE, ENDWHILE, BARRIER, UNKNOWN}
+use Rattle.spec.specs.Op.{Op, CALC, Space, OWN, GLOBAL, Mem, MEM, IF, ELSE, ENDIF, WHILE, ENDWHILE, BARRIER, UNKNOWN}
 use Rattle.spec.specs.Shape.{Shape, Past, changes, loads, nowhere, past, bound, address}
 use Rattle.spec.specs.Table.{Table, Row, cell_byte, kind_of}
 use Rattle.spec.specs.Steps.{stepped, all_stepped}

@@ -1,4 +1,6 @@
 // Parts of a text at a first byte, equal texts, and numbers in base ten. A part is a slice of the text itself.
+#![tactic(auto)]
+
 ghost use Rattle.std.specs.Prelude.{◌≡◌, ◌+◌, ◌≤◌, ◌^◌, length, drop};
 ghost use Rattle.spec.specs.Text.{number_below};
 ghost use Rattle.spec.specs.Lists.{equal_list};

@@ -1,4 +1,6 @@
 // A thread's number in its group and its number in the launch, as two types, with the one conversion.
+#![tactic(auto)]
+
 ghost use Rattle.std.specs.Prelude.{◌≡◌, ◌+◌, ◌*◌, ◌<◌, ◌≤◌};
 
 #[derive(Drop)]

@@ -1,4 +1,6 @@
 // Which threads find a register true.
+#![tactic(auto)]
+
 ghost use Rattle.std.specs.Prelude.{◌≡◌, ◌<◌};
 ghost use Rattle.layout.specs.Memory.{ZerosAre, holding_word};
 

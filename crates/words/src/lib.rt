@@ -1,4 +1,6 @@
 // The ops that compute, on words of 32 bits.
+#![tactic(auto)]
+
 ghost use Rattle.std.specs.Prelude.{◌≡◌};
 ghost use Rattle.spec.specs.Word.{add, sub, mul, shr, sar, equal, less, signed_less, signed, unsigned};
 
