@@ -4,6 +4,6 @@ PREFIX ?= /usr/local
 .PHONY: install
 
 install:
-	bash -euc 'root=$(CURDIR); source scripts/run.sh; build check; build pair'
-	install -D -m 755 crates/checkprogram/out/checkprogram $(DESTDIR)$(PREFIX)/bin/check
-	install -D -m 755 crates/pairprogram/out/pairprogram $(DESTDIR)$(PREFIX)/bin/pair
+	rt check checkprogram pairprogram
+	install -D -m 755 target/bin/checkprogram $(DESTDIR)$(PREFIX)/bin/check
+	install -D -m 755 target/bin/pairprogram $(DESTDIR)$(PREFIX)/bin/pair

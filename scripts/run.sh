@@ -1,22 +1,18 @@
 # What the commands check and pair share. `root` is this repository, and the program of COMMAND is that of the crate COMMANDprogram.
 
-program_of() { echo "$root/crates/$1program/out/$1program"; }
-
 # build COMMAND: what the build says is shown where it fails. Only someone who watches is told that it runs.
 build() {
-    local said program
-    program=$(program_of "$1")
+    local said program=$root/target/bin/$1program
     if [ -t 2 ]; then
         echo "$1: building the program, which takes minutes the first time" >&2
     fi
-    # rt runs what it has built, here on an empty input.
-    said=$(cd "$root/crates/$1program" && rt run 2>&1 </dev/null) || {
+    said=$(cd "$root" && rt check "$1program" 2>&1 </dev/null) || {
         local status=$?
         printf '%s\n' "$said" >&2
         exit "$status"
     }
     if [ ! -x "$program" ]; then
-        echo "$1: $program is missing though nothing has changed; remove $root/crates/$1program/out and try again" >&2
+        echo "$1: $program is missing though nothing has changed; remove $root/target and try again" >&2
         exit 1
     fi
     touch "$program"
@@ -24,10 +20,9 @@ build() {
 
 # run COMMAND ARGUMENT..: its program, built first where it is missing or older than its source.
 run() {
-    local command=$1 program
-    program=$(program_of "$command")
+    local command=$1 program=$root/target/bin/$1program
     shift
-    if [ ! -x "$program" ] || [ -n "$(find "$root/crates" "$root/crates.txt" -name out -prune -o -newer "$program" -type f -print -quit)" ]; then
+    if [ ! -x "$program" ] || [ -n "$(find "$root/crates" "$root/crates.txt" -newer "$program" -print -quit)" ]; then
         build "$command"
     fi
     exec "$program" "$@"
