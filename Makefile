@@ -4,6 +4,6 @@ PREFIX ?= /usr/local
 .PHONY: install
 
 install:
-	rt check checkprogram pairprogram
+	scripts/build checkprogram pairprogram
 	install -D -m 755 target/bin/checkprogram $(DESTDIR)$(PREFIX)/bin/check
 	install -D -m 755 target/bin/pairprogram $(DESTDIR)$(PREFIX)/bin/pair

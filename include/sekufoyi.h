@@ -1,4 +1,4 @@
-/* The verified checker for barrier kernels, for C. Link libsekufoyi.a, which `rt staticlib sekufoyi` makes.
+/* The verified checker for barrier kernels, for C. Link libsekufoyi.a, which `scripts/build sekufoyi` makes.
  *
  * Every function takes any numbers and any lengths, ends, and answers as the specification says. What C has to see to: a pointer is
  * not NULL (where a length is 0 it may point anywhere), the bytes or words behind it are as many as its length says, and the

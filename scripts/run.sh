@@ -6,23 +6,22 @@ build() {
     if [ -t 2 ]; then
         echo "$1: building the program, which takes minutes the first time" >&2
     fi
-    said=$(cd "$root" && rt check "$1program" 2>&1 </dev/null) || {
+    said=$("$root/scripts/build" "$1program" 2>&1 </dev/null) || {
         local status=$?
         printf '%s\n' "$said" >&2
         exit "$status"
     }
     if [ ! -x "$program" ]; then
-        echo "$1: $program is missing though nothing has changed; remove $root/target and try again" >&2
+        echo "$1: $program is missing though the build went well" >&2
         exit 1
     fi
-    touch "$program"
 }
 
 # run COMMAND ARGUMENT..: its program, built first where it is missing or older than its source.
 run() {
     local command=$1 program=$root/target/bin/$1program
     shift
-    if [ ! -x "$program" ] || [ -n "$(find "$root/crates" "$root/crates.txt" -newer "$program" -print -quit)" ]; then
+    if [ ! -x "$program" ] || [ -n "$(find "$root/crates" "$root/crates.txt" -name out -prune -o -newer "$program" -print -quit)" ]; then
         build "$command"
     fi
     exec "$program" "$@"

@@ -12,14 +12,14 @@ fn main() {
     println!("cargo::rerun-if-changed={}", library.display());
     if !library.is_file() {
         let dir = dir.display();
-        println!("cargo::error={NAME} is not in {dir}: run `rt staticlib sekufoyi` at the repository's root, or set SEKUFOYI_LIB_DIR");
+        println!("cargo::error={NAME} is not in {dir}: run `scripts/build sekufoyi` at the repository's root, or set SEKUFOYI_LIB_DIR");
         return;
     }
     println!("cargo::rustc-link-search=native={}", dir.display());
     println!("cargo::rustc-link-lib=static=sekufoyi");
 }
 
-/// `SEKUFOYI_LIB_DIR`, or where `rt` puts the library.
+/// `SEKUFOYI_LIB_DIR`, or where `scripts/build` puts the library.
 fn library_dir() -> PathBuf {
     match env::var_os("SEKUFOYI_LIB_DIR") {
         Some(dir) => PathBuf::from(dir),

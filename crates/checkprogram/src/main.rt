@@ -2,25 +2,26 @@
 #![tactic(auto)]
 
 use programio::Input;
+use std::io::Input as StandardInput;
 
 // One byte over the limit is enough to know that a file is too long. Where the input cannot be read nothing is printed,
 // so that no report is taken for it.
-fn report_input() {
+fn report_input(rt: &(impl StandardInput + Print)) {
     let mut input = [0u8; 32769];
     let mut output = [0u8; 24576];
-    let Input::Bytes(size) = programio::read_input(&mut input) else {
+    let Input::Bytes(size) = programio::read_input(rt, &mut input) else {
         return;
     };
     let written = filereport::report_file(&input[..size], &mut output);
-    programio::print(&output[..written]);
+    programio::print(rt, &output[..written]);
 }
 
 // The program's own name counts as an argument. Beside it there is none to take: a report speaks of standard input only, and must
 // not be taken for that of a file that an argument names.
-fn main() {
-    if os::arg_count() > 1 {
-        programio::print_usage(b"usage: check < LAUNCH-FILE\n");
+fn main(rt: HostRuntime) {
+    if programio::argument_count(&rt) > 1 {
+        programio::print_usage(&rt.stderr(), b"usage: check < LAUNCH-FILE\n");
     } else {
-        report_input();
+        report_input(&rt);
     }
 }

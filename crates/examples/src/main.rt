@@ -2,86 +2,102 @@
 // arguments; behind the word `pair` stand four: the files of a filter, a trigger and their common table, and the report of both.
 #![tactic(auto)]
 
-ghost use Rattle.std.specs.Prelude.{◌<◌};
-ghost use Rattle.io.specs.Counts.{IsPrefixLen};
+ghost use Rattle.std.specs.Prelude.{◌≡◌, ◌<◌, ◌≤◌, length, take};
 
-use libc::STDOUT_FILENO;
+use programio::Input;
+use std::env::Env;
+use std::fs::Files;
 
-// The bytes of the file that argument i names, at the start of the buffer; none where it cannot be opened.
-fn read_named(i: usize, buffer: &mut [u8]) -> usize
-    ensures { IsPrefixLen result buffer.new }
+// The bytes of the file that argument i names, at the start of the buffer; none where it cannot be opened or read.
+fn read_named(rt: &(impl Env + Files), i: usize, buffer: &mut [u8]) -> usize
+    ensures inside { result ≤ length buffer.new }
+    ensures long { result ≡ length (take result buffer.new) }
 {
-    let mut name = io::buffer();
-    let size = os::arg(i, &mut name);
-    let file = os::open_read(&name[..size]);
-    let got = io::read_full(file, buffer);
-    libc::close(file);
-    got
+    match programio::read_named(rt, i, buffer) {
+        Input::Bytes(size) => size,
+        Input::Failed => 0,
+    }
 }
 
-fn print_name(i: usize) {
-    let mut name = io::buffer();
-    let size = os::arg(i, &mut name);
-    io::write_all(STDOUT_FILENO, &name[..size]);
+// Argument i at the start of the buffer; none where it is missing or longer.
+fn name_of(rt: &impl Env, i: usize, name: &mut [u8]) -> usize
+    ensures { result ≤ length name.new }
+{
+    match rt.arg(i, name) {
+        Ok(size) => size,
+        Err(_) => 0,
+    }
 }
 
-fn is_word(i: usize, word: &[u8]) -> bool {
-    let mut name = io::buffer();
-    let size = os::arg(i, &mut name);
+fn print_name(rt: &(impl Env + Print), i: usize) {
+    let mut name = [0u8; 4096];
+    let size = name_of(rt, i, &mut name);
+    programio::print(rt, &name[..size]);
+}
+
+fn is_word(rt: &impl Env, i: usize, word: &[u8]) -> bool {
+    let mut name = [0u8; 4096];
+    let size = name_of(rt, i, &mut name);
     text::same(&name[..size], word)
 }
 
 // The end of an example's line: whether it gives what the file has that argument i names. Where it does not, what it gives.
-fn compare_with(report: &[u8], i: usize) {
-    let mut wanted = io::large_buffer();
-    let long = read_named(i, &mut wanted);
+fn compare_with(rt: &(impl Env + Files + Print), report: &[u8], i: usize) {
+    let mut wanted = [0u8; 65536];
+    let long = read_named(rt, i, &mut wanted);
     if text::same(report, &wanted[..long]) {
-        io::write_all(STDOUT_FILENO, b" gives its report\n");
+        programio::print(rt, b" gives its report\n");
     } else {
-        io::write_all(STDOUT_FILENO, b" gives\n");
-        io::write_all(STDOUT_FILENO, report);
+        programio::print(rt, b" gives\n");
+        programio::print(rt, report);
     }
 }
 
-fn compare(launch: usize, report: usize) {
-    let mut input = io::large_buffer();
+fn compare(rt: &(impl Env + Files + Print), launch: usize, report: usize) {
+    let mut input = [0u8; 65536];
     let mut output = [0u8; 24576];
-    print_name(launch);
-    let size = read_named(launch, &mut input);
+    print_name(rt, launch);
+    let size = read_named(rt, launch, &mut input);
     let written = filereport::report_file(&input[..size], &mut output);
-    compare_with(&output[..written], report);
+    compare_with(rt, &output[..written], report);
 }
 
 // The words of a pair's command.
-fn print_command(first: usize, second: usize, table: usize) {
-    io::write_all(STDOUT_FILENO, b"pair ");
-    print_name(first);
-    io::write_all(STDOUT_FILENO, b" ");
-    print_name(second);
-    io::write_all(STDOUT_FILENO, b" ");
-    print_name(table);
+fn print_command(rt: &(impl Env + Print), first: usize, second: usize, table: usize) {
+    programio::print(rt, b"pair ");
+    print_name(rt, first);
+    programio::print(rt, b" ");
+    print_name(rt, second);
+    programio::print(rt, b" ");
+    print_name(rt, table);
 }
 
-fn compare_pair(first: usize, second: usize, table: usize, report: usize) {
-    let mut filter = io::large_buffer();
-    let mut trigger = io::large_buffer();
-    let mut common = io::large_buffer();
+fn compare_pair(
+    rt: &(impl Env + Files + Print),
+    first: usize,
+    second: usize,
+    table: usize,
+    report: usize,
+) {
+    let mut filter = [0u8; 65536];
+    let mut trigger = [0u8; 65536];
+    let mut common = [0u8; 65536];
     let mut output = [0u8; 49152];
-    print_command(first, second, table);
-    let filter_size = read_named(first, &mut filter);
-    let trigger_size = read_named(second, &mut trigger);
-    let common_size = read_named(table, &mut common);
+    print_command(rt, first, second, table);
+    let filter_size = read_named(rt, first, &mut filter);
+    let trigger_size = read_named(rt, second, &mut trigger);
+    let common_size = read_named(rt, table, &mut common);
     let written = pairfiles::report_pair(
         &filter[..filter_size],
         &trigger[..trigger_size],
         &common[..common_size],
         &mut output,
     );
-    compare_with(&output[..written], report);
+    compare_with(rt, &output[..written], report);
 }
 
 // The example that begins with argument k, of `count` arguments. It answers the number of the argument behind the example.
-fn compare_at(k: usize, count: usize) -> usize
+fn compare_at(rt: &(impl Env + Files + Print), k: usize, count: usize) -> usize
     requires { k < count }
     ensures { k < result }
 {
@@ -89,18 +105,18 @@ fn compare_at(k: usize, count: usize) -> usize
     if left < 2 {
         return count;
     }
-    if left < 5 || !is_word(k, b"pair") {
-        compare(k, k + 1);
+    if left < 5 || !is_word(rt, k, b"pair") {
+        compare(rt, k, k + 1);
         return k + 2;
     }
-    compare_pair(k + 1, k + 2, k + 3, k + 4);
+    compare_pair(rt, k + 1, k + 2, k + 3, k + 4);
     k + 5
 }
 
-fn main() {
-    let count = os::arg_count();
+fn main(rt: HostRuntime) {
+    let count = programio::argument_count(&rt);
     let mut k = 1;
     while k < count {
-        k = compare_at(k, count);
+        k = compare_at(&rt, k, count);
     }
 }

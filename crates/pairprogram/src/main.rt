@@ -2,21 +2,23 @@
 #![tactic(auto)]
 
 use programio::Input;
+use std::env::Env;
+use std::fs::Files;
 
 // Of a kernel's file one byte over its limit is enough to know that it is too long, and 4,119 bytes of a common file decide every report. A file that can't
 // be opened counts as empty. Where one can't be read nothing is printed, so that no report is taken for it.
-fn report_files() {
+fn report_files(rt: &(impl Env + Files + Print)) {
     let mut filter = [0u8; 32769];
     let mut trigger = [0u8; 32769];
     let mut common = [0u8; 4119];
     let mut output = [0u8; 49152];
-    let Input::Bytes(first) = programio::read_named(1, &mut filter) else {
+    let Input::Bytes(first) = programio::read_named(rt, 1, &mut filter) else {
         return;
     };
-    let Input::Bytes(second) = programio::read_named(2, &mut trigger) else {
+    let Input::Bytes(second) = programio::read_named(rt, 2, &mut trigger) else {
         return;
     };
-    let Input::Bytes(third) = programio::read_named(3, &mut common) else {
+    let Input::Bytes(third) = programio::read_named(rt, 3, &mut common) else {
         return;
     };
     let written = pairfiles::report_pair(
@@ -25,14 +27,14 @@ fn report_files() {
         &common[..third],
         &mut output,
     );
-    programio::print(&output[..written]);
+    programio::print(rt, &output[..written]);
 }
 
 // The program's own name counts as an argument.
-fn main() {
-    if os::arg_count() == 4 {
-        report_files();
+fn main(rt: HostRuntime) {
+    if programio::argument_count(&rt) == 4 {
+        report_files(&rt);
     } else {
-        programio::print_usage(b"usage: pair FILTER TRIGGER COMMON\n");
+        programio::print_usage(&rt.stderr(), b"usage: pair FILTER TRIGGER COMMON\n");
     }
 }

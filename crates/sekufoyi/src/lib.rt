@@ -1,4 +1,4 @@
-// The entries for programs in C and Rust: the same functions, with answers as words. include/sekufoyi.h declares them.
+// The entries for programs in C and Rust: the same functions, with answers as words. The crate sekufoyi_c exports them to C.
 #![tactic(auto)]
 
 ghost use Rattle.std.specs.Prelude.{◌≡◌, []};
@@ -15,8 +15,7 @@ ghost use Rattle.answerwords.specs.Codes.{length_in, refusal_in, ran_in, outcome
 
 use spec::{Answer, Subject};
 
-#[unsafe(no_mangle)]
-pub extern "C" fn sekufoyi_check_file(
+pub fn sekufoyi_check_file(
     file: &[u8],
     cells: &mut [u32],
     global: &mut [u32],
@@ -46,8 +45,7 @@ pub extern "C" fn sekufoyi_check_file(
     answerwords::tell_written(answer, refusal)
 }
 
-#[unsafe(no_mangle)]
-pub extern "C" fn sekufoyi_pair_files(
+pub fn sekufoyi_pair_files(
     filter: &[u8],
     trigger: &[u8],
     common: &[u8],
@@ -64,8 +62,7 @@ pub extern "C" fn sekufoyi_pair_files(
     answerwords::tell_written(answer, refusal)
 }
 
-#[unsafe(no_mangle)]
-pub extern "C" fn sekufoyi_bare_launch(
+pub fn sekufoyi_bare_launch(
     table: &[u8],
     threads: u32,
     count: u32,
@@ -115,8 +112,7 @@ pub extern "C" fn sekufoyi_bare_launch(
     }
 }
 
-#[unsafe(no_mangle)]
-pub extern "C" fn sekufoyi_write_report(
+pub fn sekufoyi_write_report(
     outcome: &[u32; 11],
     steps: &[u32],
     cells: &[u32],
@@ -142,8 +138,7 @@ pub extern "C" fn sekufoyi_write_report(
     answerwords::tell_written(answer, refusal)
 }
 
-#[unsafe(no_mangle)]
-pub extern "C" fn sekufoyi_write_refusal(
+pub fn sekufoyi_write_refusal(
     number: u32,
     place: u32,
     output: &mut [u8],
