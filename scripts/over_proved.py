@@ -11,7 +11,7 @@ def below(name, uses):
     """The crates of this repository below a crate."""
     found = []
     for each in uses[name]:
-        found += [it for it in [*below(each, uses), each] if it in uses and it not in found]
+        found += [it for it in [*below(each, uses), each] if it not in found]
     return found
 
 
