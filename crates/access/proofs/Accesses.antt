@@ -402,7 +402,7 @@ module _ (n t : ℕ) (s : LockState) (regs cells log : List ℕ) (M : Memory n s
               (unfold registers_after in (subst (λ z. Regs n (set s.regs t (set mine d old)) z)
               (ap₂ (λ y z. set regs (d * 32 + y) (get_or z i 0)) (sym ej) (sym M.cells_are) ∙ sym (T.load_regs e))
               (regs_set n s.regs regs M.regs_are t d old M.few h ld)))
-              (unfold cell_after in (T.load_Cells e ∙ M.cells_are ∙ sym (set-get_or s.cells i 0)))
+              (unfold cell_after in (T.load_cells e ∙ M.cells_are ∙ sym (set-get_or s.cells i 0)))
           by (inr (inl e)) =
               memory (store (reg s t x.a)) (unfold kind_of in (ap (λ y. kind_of y (reg s t x.a)) (mem_store op m e o)))
               (unfold registers_after in (kept_regs (λ z. omega arith)))

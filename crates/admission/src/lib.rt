@@ -9,7 +9,7 @@ ghost use Rattle.admission.specs.Refusing.{refusal_of, LentIs};
 use spec::Refusal;
 
 // Whether an input is accepted, and if not, why.
-#[derive(Drop)]
+#[derive(Clone, Copy)]
 pub enum Admission {
     Accepted,
     Refused(Refusal),

@@ -58,6 +58,10 @@ record Cells (n slack : ℕ) (cells : List ℕ) (left : ℕ) : Type 0 where
   words : (i : ℕ) → get_or cells i 0 < 2 ^ 32
   enough : slack ≤ left
 
+each_below : (v : ℕ) (cells : List ℕ) → v < 2 ^ 32 → ((i : ℕ) → get_or cells i 0 < 2 ^ 32) → (i : ℕ) → get_or (v ∷ cells) i 0 < 2 ^ 32
+each_below v cells h t zero = h
+each_below v cells h t (suc i) = t i
+
 -- Each has at most 16 bytes.
 cells_cut : (n slack line : ℕ) (rest : List ℕ) (b : ℕ) → 16 * n + slack ≤ b
     → Decided (Cells n slack) (times n (due "cell" number) line rest) (times n (due "cell" number) line (take b rest))
@@ -74,7 +78,7 @@ cells_cut (suc n) slack line rest b h =
       left = left;
       holds = record {
         count = ap suc C.count;
-        words = λ i. elim i [ zero ↦ value_below 4294967296 v L.value L.means | suc j ↦ C.words j ];
+        words = each_below v cells (value_below 4294967296 v L.value L.means) C.words;
         enough = C.enough;
       };
       same = refl;

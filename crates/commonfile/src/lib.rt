@@ -9,7 +9,7 @@ use spec::Refusal;
 use text::Number;
 
 // The `count` common cells are the first words of `words`.
-#[derive(Drop)]
+#[derive(Clone, Copy)]
 pub struct CommonFile {
     pub answer: Admission,
     pub count: usize,

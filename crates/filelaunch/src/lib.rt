@@ -7,7 +7,7 @@ ghost use Rattle.filelaunch.specs.Founds.{FoundIs};
 use admission::Admission;
 
 // `ends` holds, at each WHILE of an accepted launch's table, the row of its ENDWHILE.
-#[derive(Drop)]
+#[derive(Clone, Copy)]
 pub struct Found {
     pub answer: Admission,
     pub launch: launchfile::Launch,

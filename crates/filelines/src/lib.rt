@@ -11,7 +11,7 @@ ghost use Rattle.filelines.specs.Values.{bytes_in, word_in, exact_bytes, four_by
 use text::Number;
 
 // The four bytes of a row, or none.
-#[derive(Drop)]
+#[derive(Clone, Copy)]
 pub enum Bytes {
     Four(u8, u8, u8, u8),
     Bad,

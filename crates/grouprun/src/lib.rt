@@ -11,7 +11,7 @@ ghost use Rattle.grouprow.specs.Rows.{BufferSizes};
 ghost use Rattle.grouprun.specs.Groups.{SomeStart, GroupRan};
 
 // How a group's run ended, in which row, and with how many rows and barriers of the launch.
-#[derive(Drop)]
+#[derive(Clone, Copy)]
 pub struct Ended {
     pub verdict: spec::Verdict,
     pub row: usize,

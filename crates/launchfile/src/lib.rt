@@ -12,7 +12,7 @@ use spec::Refusal;
 
 // The table's `rows` rows are the first 4 * rows bytes of `table`. Each group has `each` own cells: all `count` of them are the first words of `cells`,
 // and the `shared` global ones the first of `global`.
-#[derive(Drop)]
+#[derive(Clone, Copy)]
 pub struct Launch {
     pub threads: u32,
     pub groups: u32,
@@ -26,7 +26,7 @@ pub struct Launch {
     pub global: [u32; 1024],
 }
 
-#[derive(Drop)]
+#[derive(Clone, Copy)]
 pub struct Parsed {
     pub answer: Admission,
     pub launch: Launch,

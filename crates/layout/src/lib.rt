@@ -5,7 +5,7 @@
 #![tactic(auto)]
 
 // What an access comes to.
-#[derive(Drop)]
+#[derive(Clone, Copy)]
 pub enum Access {
     Done,
     Stop(spec::Verdict),
@@ -13,7 +13,7 @@ pub enum Access {
 
 // The thread at which a row's accesses halt, or the number of threads where none does, its bit and the number of its cell; and a number that no
 // cell which they accessed is above. Four words: with two, the registers would lie between two vectors' places in the run's frame.
-#[derive(Drop)]
+#[derive(Clone, Copy)]
 pub struct Halt {
     pub thread: u32,
     pub bit: u32,
@@ -22,7 +22,7 @@ pub struct Halt {
 }
 
 // What a row's accesses come to, and a number that no cell which they accessed is above.
-#[derive(Drop)]
+#[derive(Clone, Copy)]
 pub struct Turns {
     pub access: Access,
     pub reach: u32,
@@ -30,7 +30,7 @@ pub struct Turns {
 
 // The small part of the state, which goes by value. Above the cell numbered `reach` nothing has been logged since the log was cleared.
 // `since` is how many steps each enabled thread has made under the present mask that are not in the step counts yet.
-#[derive(Drop)]
+#[derive(Clone, Copy)]
 pub struct State {
     pub mask: u32,
     pub reach: u32,
@@ -43,7 +43,7 @@ pub struct State {
 
 // What a row comes to. The state comes first in both, so that its words have the same places: otherwise two of them share a register in the run's
 // loop, and have to be told apart in every row.
-#[derive(Drop)]
+#[derive(Clone, Copy)]
 pub enum Next {
     Go(State),
     Stop(State, spec::Verdict),

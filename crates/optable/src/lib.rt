@@ -6,7 +6,7 @@ ghost use Rattle.spec.specs.Op.{form_of, operands_fit};
 ghost use Rattle.optable.specs.Forms.{meaning};
 
 // Which of the bytes d, a, b an op uses. An unknown op has a form of its own.
-#[derive(Drop)]
+#[derive(Clone, Copy)]
 pub enum Form {
     SetForm,
     DForm,

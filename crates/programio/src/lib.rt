@@ -12,7 +12,7 @@ use std::io::{Input as StandardInput, Read};
 use std::rt::Stderr;
 
 // How many bytes of an input stand at the start of a buffer. A read that fails is not the input's end.
-#[derive(Drop)]
+#[derive(Clone, Copy)]
 pub enum Input {
     Bytes(usize),
     Failed,

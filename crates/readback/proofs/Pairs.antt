@@ -1,6 +1,6 @@
 -- The reports of two kernels, read from their bytes, speak for every run of both. Assumes nothing.
-use mathlib.Core.Path.{◌≡◌, refl, sym, ap, ap₂, subst, ◌∙◌}
-use mathlib.Core.Logic.{◌⊎◌, inl, inr, ◌↔◌}
+use mathlib.Core.Path.{◌≡◌, refl, sym, ap, ap₂, ◌∙◌}
+use mathlib.Core.Logic.{◌⊎◌, inl, inr}
 use mathlib.Core.Bool.{Bool, true, false, ◌||◌, false≢true}
 use mathlib.Core.List.{List, [], ◌∷◌, ◌++◌}
 use Prim.Native.Nat.{ℕ, ◌<◌, ◌≤◌}
@@ -10,12 +10,9 @@ use lib.Seq.{take_at, drop_at, take-append-le}
 use Rattle.spec.specs.Lists.{any_of, equal_list}
 use Rattle.spec.specs.Text.{text}
 use Rattle.spec.specs.Launch.{Launch}
-use Rattle.spec.specs.LaunchFile.{Checked, accepted}
 use Rattle.spec.specs.Reading.{is_line, has_line, begins_with, EndsOnce}
 use Rattle.spec.specs.Entries.{launch_report, printed}
-use Rattle.spec.specs.Demands.{RunsEndWell}
 use Rattle.spec.specs.PairFiles.{kernel_launch, kernel_prints, pair_prints}
-use Rattle.spec.specs.PairRuns.{PairEndsWell}
 use Rattle.spec.specs.PairDemands.{PassedPair, PairReport, Apart, PairDemand3}
 use Rattle.spec.proofs.Laws.{lt_or_le}
 use Rattle.allruns.proofs.PairTheorem.{well, alternating, says, kernel_demand3}

@@ -24,14 +24,14 @@ const WHILE: u8 = 35;
 const ENDWHILE: u8 = 36;
 
 // ends holds, at each WHILE of an accepted table, the row of its ENDWHILE, and 0 everywhere else.
-#[derive(Drop)]
+#[derive(Clone, Copy)]
 pub struct Read {
     pub answer: Admission,
     pub ends: [u8; 256],
 }
 
 // The row that a body or a construct is read up to, or the refusal met in it.
-#[derive(Drop)]
+#[derive(Clone, Copy)]
 enum Reach {
     To(usize),
     Refused(Refusal),

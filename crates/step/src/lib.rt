@@ -23,7 +23,7 @@ fn index(x: u8) -> usize
 }
 
 // The bytes of a row behind its op.
-#[derive(Drop)]
+#[derive(Clone, Copy)]
 pub struct Operands {
     pub d: usize,
     pub a: usize,

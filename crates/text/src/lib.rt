@@ -8,7 +8,7 @@ ghost use Rattle.text.specs.Parts.{First};
 ghost use Rattle.text.specs.Numbers.{number_of, digits_below};
 
 // A number below a bound, or none.
-#[derive(Drop)]
+#[derive(Clone, Copy)]
 pub enum Number {
     Value(u32),
     Bad,

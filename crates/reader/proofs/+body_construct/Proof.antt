@@ -56,21 +56,21 @@ body_calls t = (row-fits-reads.Asked, row-fits-reads.Learnt, construct_below t, 
 abbrev construct_calls : ℕ → construct-lts.Claims
 construct_calls t = (body_below t, body.Post, closes-reads.Asked, closes-reads.Learnt, is-else-reads.Asked, is-else-reads.Learnt)
 
-abbrev body_Inv_loop : body-lts.invariant-loop
-body_Inv_loop table from depth ends₀ rows row₀ ends row = Span table depth from row ends₀ ends
+abbrev body_invariant_loop : body-lts.invariant-loop
+body_invariant_loop table from depth ends₀ rows row₀ ends row = Span table depth from row ends₀ ends
 
 abbrev body_μ_loop : body-lts.decreases-loop
 body_μ_loop table from depth ends₀ rows row₀ ends row = rows - row
 
 module _ (t : ℕ) where
-  body_loop_holds : body-lts.Need-loop-init (body_calls t) (body_at t) body.Post body_Inv_loop body_μ_loop
+  body_loop_holds : body-lts.Need-loop-init (body_calls t) (body_at t) body.Post body_invariant_loop body_μ_loop
   body_loop_holds c =
       let start = c.before in
       let args = start.args in
       let pre = start.requires.1 in
       span_none args.table.now pre.0 args.depth args.from args.ends.now pre.1
 
-  body_returns : body-lts.Need-returns (body_calls t) (body_at t) body.Post body_Inv_loop body_μ_loop
+  body_returns : body-lts.Need-returns (body_calls t) (body_at t) body.Post body_invariant_loop body_μ_loop
   body_returns c =
       let row-fits = c.before.before.before.row-fits in
       let turn = c.before.before.before.before.before.loop in
@@ -79,7 +79,7 @@ module _ (t : ℕ) where
 
   -- The loop's row, once it has passed `row_fits`.
   abbrev Fitting : Type 0
-  Fitting = body-lts.After-enum-told (body_calls t) (body_at t) body.Post body_Inv_loop body_μ_loop
+  Fitting = body-lts.After-enum-told (body_calls t) (body_at t) body.Post body_invariant_loop body_μ_loop
 
   inside : (c : Fitting)
       → let turn = c.before.before.before.before.loop in
@@ -93,7 +93,7 @@ module _ (t : ℕ) where
       own_refusal turn.row (row_at (rows_of start.args.table.now) turn.row) ≡ none
   own c = sym c.before.before.row-fits.ensures ∙ ap refusal_of c.enum_told.given.1
 
-  body_construct_requires : body-lts.Need-construct-requires (body_calls t) (body_at t) body.Post body_Inv_loop body_μ_loop
+  body_construct_requires : body-lts.Need-construct-requires (body_calls t) (body_at t) body.Post body_invariant_loop body_μ_loop
   body_construct_requires c κs =
       let fitting = c.before.before.before in
       let turn = c.before.before.before.before.before.before.before.loop in
@@ -101,7 +101,7 @@ module _ (t : ℕ) where
       (omega arith, (pre.0, inside fitting, pre.2, c.before.match2.keys1, own fitting, turn.invariant.notes.size ∙ pre.3))
 
   -- The construct at the loop's row, up to the row behind it.
-  read : (c : body-lts.After-known-told2 (body_calls t) (body_at t) body.Post body_Inv_loop body_μ_loop)
+  read : (c : body-lts.After-known-told2 (body_calls t) (body_at t) body.Post body_invariant_loop body_μ_loop)
       → let nested = c.before.before.before.construct in
       let turn = c.before.before.before.before.before.before.before.before.before.before.before.loop in
       let args = c.before.before.before.before.before.before.before.before.before.before.before.before.before.args in
@@ -112,16 +112,16 @@ module _ (t : ℕ) where
       let args = c.before.before.before.before.before.before.before.before.before.before.before.before.before.args in
       subst (ConstructIs args.table.now args.depth turn.row turn.ends nested.new.1.1.1.0) c.before.next.given.1 nested.ensures
 
-  body_loop_less : body-lts.Need-loop-smaller (body_calls t) (body_at t) body.Post body_Inv_loop body_μ_loop
+  body_loop_less : body-lts.Need-loop-smaller (body_calls t) (body_at t) body.Post body_invariant_loop body_μ_loop
   body_loop_less c = omega (arith, (read c).onward, (read c).span.within)
 
-  body_loop_again : body-lts.Need-loop-preserved (body_calls t) (body_at t) body.Post body_Inv_loop body_μ_loop
+  body_loop_again : body-lts.Need-loop-preserved (body_calls t) (body_at t) body.Post body_invariant_loop body_μ_loop
   body_loop_again c =
       let turn = c.before.before.before.before.before.before.before.before.before.before.before.loop in
       let start = c.before.before.before.before.before.before.before.before.before.before.before.before.before in
       span_on start.args.table.now start.requires.1.0 turn.invariant (read c).span
 
-  body_returns_2 : body-lts.Need-returns-2 (body_calls t) (body_at t) body.Post body_Inv_loop body_μ_loop
+  body_returns_2 : body-lts.Need-returns-2 (body_calls t) (body_at t) body.Post body_invariant_loop body_μ_loop
   body_returns_2 c =
       let nested = c.before.before.before.construct in
       let turn = c.before.before.before.before.before.before.before.before.before.before.before.loop in
@@ -129,17 +129,17 @@ module _ (t : ℕ) where
       fail_on turn.invariant.passes
       (subst (ConstructIs args.table.now args.depth turn.row turn.ends nested.new.1.1.1.0) c.before.why2.given.1 nested.ensures)
 
-  body_returns_3 : body-lts.Need-returns-3 (body_calls t) (body_at t) body.Post body_Inv_loop body_μ_loop
+  body_returns_3 : body-lts.Need-returns-3 (body_calls t) (body_at t) body.Post body_invariant_loop body_μ_loop
   body_returns_3 c =
       let turn = c.before.before.before.before.before.before.loop in
       record { span = turn.invariant; stops = λ l. record { byte = inl c.match2.keys2; own = own c.before.before } }
 
-  body_returns_4 : body-lts.Need-returns-4 (body_calls t) (body_at t) body.Post body_Inv_loop body_μ_loop
+  body_returns_4 : body-lts.Need-returns-4 (body_calls t) (body_at t) body.Post body_invariant_loop body_μ_loop
   body_returns_4 c =
       let turn = c.before.before.before.before.before.before.loop in
       record { span = turn.invariant; stops = λ l. record { byte = inr c.match2.keys3; own = own c.before.before } }
 
-  body_loop_again_2 : body-lts.Need-loop-preserved-2 (body_calls t) (body_at t) body.Post body_Inv_loop body_μ_loop
+  body_loop_again_2 : body-lts.Need-loop-preserved-2 (body_calls t) (body_at t) body.Post body_invariant_loop body_μ_loop
   body_loop_again_2 c =
       let turn = c.before.before.before.before.before.before.loop in
       let start = c.before.before.before.before.before.before.before.before in
@@ -152,7 +152,7 @@ module _ (t : ℕ) where
       (λ e. n.0.1 (inl e)) n.1 (λ e. n.0.0.1 (inr e)) (λ e. n.0.1 (inr e)) in
       span_on table pre turn.invariant (span_plain table pre args.depth turn.row turn.ends (inside c.before.before) (own c.before.before) p)
 
-  body_returns_5 : body-lts.Need-returns-5 (body_calls t) (body_at t) body.Post body_Inv_loop body_μ_loop
+  body_returns_5 : body-lts.Need-returns-5 (body_calls t) (body_at t) body.Post body_invariant_loop body_μ_loop
   body_returns_5 c =
       let pre = c.before.before.before.requires.1.0 in
       record { span = c.before.loop.invariant; stops = λ l. absurd (omega (arith, pre)) }
@@ -350,7 +350,7 @@ module _ (t : ℕ) where
 pub +body-construct-spec : {M : Type 1} → statement M
 +body-construct-spec =
     close μ-body μ-construct
-    (λ t. body-lts.spec (body_calls t) (body_at t) body.Post body_Inv_loop body_μ_loop
+    (λ t. body-lts.spec (body_calls t) (body_at t) body.Post body_invariant_loop body_μ_loop
     (body_loop_holds t)
     (λ c κs. search rules) (λ c. search rules)
     (body_returns t)
