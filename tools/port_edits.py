@@ -1,11 +1,11 @@
 #!/usr/bin/env python3
 """Brings the edits that must be refused, and the wrong readings of the definitions, to today's text of the files that they change.
 
-    python3 tools/port_edits.py COMMIT [--write] [--by-hand FILE]
+    python3 tools/port_edits.py COMMIT [--write] [--by-hand FILE] [--show]
 
 COMMIT is the last one in the old spelling. Its edits (crates/*/edits/, crates/*/must-fail/) and its tests/wrong-definitions.txt and .by are read from there, and
 each of its files is laid beside today's, token by token. So each old text is found in today's file, and each new text is spelled as the file is today. It writes
-the same files anew, and prints what it could not do. `--by-hand FILE` names a list of the texts that were turned by hand, which are taken as they stand there:
+the same files anew, and prints what it could not do. `--by-hand FILE` names a list of the texts that were turned by hand, which are taken as they stand there (tools/port_edits.txt, if none is named):
 
     == crates/NAME/edits/LABEL.edit      or   == NAME OF THE FILE: LABEL   for a reading
     - old text
@@ -563,7 +563,7 @@ def main():
     parser = argparse.ArgumentParser(description=__doc__, formatter_class=argparse.RawDescriptionHelpFormatter)
     parser.add_argument("commit")
     parser.add_argument("--write", action="store_true")
-    parser.add_argument("--by-hand")
+    parser.add_argument("--by-hand", default=ROOT / "tools/port_edits.txt")
     parser.add_argument("--show", action="store_true", help="print each text that differs by more than spelling")
     options = parser.parse_args()
     port = Port(options.commit)
