@@ -12,7 +12,7 @@ use Rattle.spec.specs.declared.Refusal.{Refusal}
 use Rattle.spec.specs.declared.Written.{Written}
 use Rattle.spec.specs.declared.Written.TheVariants.{Wrote}
 use Rattle.spec.specs.Table.{rows_of}
-use Rattle.spec.specs.Launch.{Launch, launch_outcome, launch_steps, launch_log, own_after, global_after}
+use Rattle.spec.specs.Launch.{Launch, launch_steps, own_after, global_after}
 use Rattle.spec.specs.Report.{run_report, report_of}
 use Rattle.spec.specs.Entries.{over, bare_launch, launch_report, writer_refusal, writer_answer, writer_buffer, written_of, kept_if}
 use Rattle.spec.proofs.Laws.{front_of_lem}

@@ -6,7 +6,6 @@ use Prim.Native.Nat.{ℕ, zero, suc, ◌+◌, ◌-◌, ◌*◌, ◌^◌, ◌<◌
 use native.Mathlib.Omega.{arith}
 use lib.Bits.{bit_and, bit_or}
 use lib.ListN.{length, get_or, set, length-set, length-map}
-use Rattle.spec.specs.Limits.{groups_per_cell}
 use Rattle.spec.specs.Access.{Kind, load, store, atomic_add, Mode, reads, writes, adds, mode, agree}
 use Rattle.spec.specs.Lists.{joined}
 use Rattle.spec.specs.Mask.{Mask, mask_word, has, union}
@@ -18,7 +17,7 @@ use Rattle.masks.proofs.Words.{word_or, word_set, word_except}
 use Rattle.layout.specs.Memory.{Masks}
 use Rattle.layout.specs.Logging.{mode_of, rank, place_of, word_of, has_bit, mask_entered}
 use Rattle.layout.specs.Shared.{GroupsAre, groups_met, rivals_word, group_kind_word}
-use Rattle.layout.proofs.Lists.{map_set, Even, joined_size, joined_at, joined_set}
+use Rattle.layout.proofs.Lists.{map_set, Even, joined_at, joined_set}
 use Rattle.layout.proofs.Buffers.{masks_set, mask_at}
 use Rattle.layout.proofs.LogBuffer.{nobody_word, bit_has}
 

@@ -3,7 +3,7 @@ use mathlib.Core.Path.{◌≡◌, refl, sym, ◌∙◌, ap, subst}
 use mathlib.Core.Logic.{inr}
 use mathlib.Core.List.{List, map}
 use mathlib.Core.Bool.{Bool, true, false, cond, not, true≢false}
-use Prim.Native.Nat.{ℕ, suc, ◌<◌, ◌≤◌}
+use Prim.Native.Nat.{ℕ, suc, ◌≤◌}
 use native.Mathlib.Omega.{arith}
 use lib.Dec.{ltb}
 use lib.ListN.{length, replicate}
@@ -18,17 +18,16 @@ use Rattle.spec.specs.LockStep.{LockState, Step, continues, stops, and_then, in_
 use Rattle.layout.specs.declared.Access.{Access}
 use Rattle.layout.specs.declared.State.{State}
 use Rattle.layout.specs.declared.Next.{Next}
-use Rattle.layout.specs.declared.Next.TheVariants as next
 use Rattle.layout.specs.Memory.{Regs, LogIs, Memory, Kept, state_of}
 use Rattle.layout.specs.Represents.{Represents, After, moved_on, accessed}
 use Rattle.layout.specs.Views.{part, log_part, view_of, put_view, map_step, own_from, global_from, alone, with_cleared, Sized, is_own_space, is_own_row}
 use Rattle.layout.specs.Shared.{group_part, GlobalMemory, GlobalOnly, GlobalDid}
 use Rattle.layout.specs.Groups.{GroupStands, GroupAfter, SharedAfter}
 use Rattle.layout.proofs.LogBuffer.{cleared_is}
-use Rattle.layout.proofs.Parts.{part_size, part_put_below, log_part_fits, log_part_below, sized_fits, own_before, own_within, global_within}
+use Rattle.layout.proofs.Parts.{part_put_below, log_part_fits, log_part_below, sized_fits, own_before, global_within}
 use Rattle.layout.proofs.PlainRows.{moves_on, stands}
 use Rattle.layout.proofs.RowSizes.{sized_after, groups_after_lem}
-use Rattle.layout.proofs.OwnRows.{OwnAfter, compute_rows, compute_rows_after, own_row, own_row_after, barrier_row_lem, barrier_after, outside, outside_stays, outside_clears, global_cleared}
+use Rattle.layout.proofs.OwnRows.{OwnAfter, compute_rows, compute_rows_after, own_row, own_row_after, barrier_row_lem, barrier_after, outside, outside_stays, global_cleared}
 
 -- The global cells, where only the own ones have changed, from u to y; w is the view of the own ones.
 module _ (L : Shape) (u y w : LockState) (O : OwnAfter L u y w) (Y : Sized L y) (regs regs' global shared masks : List ℕ)

@@ -24,8 +24,8 @@ use Rattle.spec.specs.LockStep.{while_row, endwhile_row, pass_barrier, barrier_r
 use Rattle.layout.specs.Memory.{state_of}
 use Rattle.layout.specs.Views.{part, put_part, log_part, put_log, view_of, put_view, map_step, own_from, global_from, alone, with_cleared, Sized}
 use Rattle.layout.specs.Views.{is_own_space, is_own_calc, is_own_row}
-use Rattle.layout.proofs.Parts.{put_part_lem, LogFits, log_part_fits, log_cleared_fits, log_part_cleared, cleared_like, cleared_nowhere, cleared_put, StateFits}
-use Rattle.layout.proofs.Parts.{view_fits, put_view_lem, view_put, cells_below, cells_above, log_below, log_above, sized_fits, own_before, own_within, global_within}
+use Rattle.layout.proofs.Parts.{put_part_lem, LogFits, log_part_fits, log_cleared_fits, log_part_cleared, cleared_like, cleared_put, StateFits}
+use Rattle.layout.proofs.Parts.{view_fits, put_view_lem, view_put, cells_below, cells_above, log_below, log_above, sized_fits, own_within, global_within}
 use Rattle.layout.proofs.Placed.{placed_conflicts, placed_race, placed_made}
 use Rattle.layout.proofs.RowSizes.{compute_row_fits, alone_turn_fits, alone_fits}
 

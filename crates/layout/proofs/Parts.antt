@@ -3,12 +3,12 @@ use mathlib.Core.Path.{◌≡◌, refl, sym, ◌∙◌, ap, ap₂, subst}
 use mathlib.Core.Logic.{◌⊎◌, inl, inr}
 use mathlib.Core.List.{List, [], ◌∷◌, ◌++◌, map, append_assoc, map-append}
 use mathlib.Core.Bool.{Bool, true, false, cond}
-use Prim.Native.Nat.{ℕ, zero, suc, ◌+◌, ◌-◌, ◌<◌, ◌≤◌, suc-le-suc}
+use Prim.Native.Nat.{ℕ, zero, suc, ◌+◌, ◌-◌, ◌<◌, ◌≤◌}
 use native.Mathlib.Nat.{suc-mul, mul-le-mul_right}
 use native.Mathlib.Omega.{arith}
 use lib.ListN.{length, get_or, set, take, drop, length-append, length-drop, length-set, length-map, take-append-drop, get_or-append}
 use lib.Seq.{length-take-le, take-append_seam, drop-append-le, drop-append-add, take-append-add, take_at, drop_at, take-nil}
-use lib.Seq.{set-append_left, drop-set-lt, drop-set-add, take-set-lt, take-set-le, get_or-take, get_or-drop, take-take, drop-drop}
+use lib.Seq.{set-append_left, drop-set-add, take-set-lt, get_or-take, get_or-drop, take-take, drop-drop}
 use Rattle.spec.specs.Access.{Mode, reads, writes, adds}
 use Rattle.spec.specs.Lists.{map_where}
 use Rattle.spec.specs.Shape.{Shape, total}
@@ -16,7 +16,7 @@ use Rattle.spec.specs.Mask.{Mask}
 use Rattle.spec.specs.Log.{Log, masks_of, nobody, cleared}
 use Rattle.spec.specs.LockStep.{LockState}
 use Rattle.spec.proofs.Laws.{lt_or_le}
-use Rattle.spec.proofs.LogLaws.{masks_cleared, nobody_size, where_size, where_at, where_all}
+use Rattle.spec.proofs.LogLaws.{masks_cleared, nobody_size, where_size, where_at}
 use Rattle.layout.specs.Memory.{Masks}
 use Rattle.layout.specs.Views.{part, put_part, log_part, put_log, view_of, put_view, own_from, global_from, Sized}
 use Rattle.layout.proofs.Lists.{set_append_right}

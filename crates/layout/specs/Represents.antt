@@ -1,5 +1,5 @@
 -- How the code's state stands for a state of the lock-step run, and what a row comes to in it. Assumes nothing.
-use Rattle.std.specs.Prelude.{◌≡◌, ◌⊎◌, List, [], ◌∷◌, ℕ, ◌+◌, ◌-◌, ◌*◌, ◌<◌, ◌≤◌, length, get_or}
+use Rattle.std.specs.Prelude.{◌≡◌, ◌⊎◌, List, [], ◌∷◌, ℕ, ◌+◌, ◌-◌, ◌<◌, ◌≤◌, length, get_or}
 use Rattle.std.specs.Int.Bits.{bit_or}
 use Rattle.spec.specs.Mask.{mask_word}
 use Rattle.spec.specs.LockStep.{Saved, LockState, Step, continues, stops}

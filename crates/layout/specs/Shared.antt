@@ -1,10 +1,9 @@
 -- How the buffers of the global cells stand for a launch's state: cells and log as those of a group alone, and three words of group masks a cell. Assumes nothing.
-use Rattle.std.specs.Prelude.{◌≡◌, List, [], ◌∷◌, map, false, cond, ℕ, ◌+◌, ◌-◌, ◌*◌, ◌%◌, ◌^◌, ◌<◌, ◌≤◌, length}
+use Rattle.std.specs.Prelude.{◌≡◌, List, false, cond, ℕ, ◌+◌, ◌-◌, ◌*◌, ◌%◌, ◌^◌, ◌<◌, ◌≤◌, length}
 use Rattle.std.specs.Int.Bits.{bit_and, bit_or}
 use Rattle.spec.specs.Limits.{groups_per_cell}
 use Rattle.spec.specs.declared.AccessKind.{AccessKind}
 use Rattle.spec.specs.Access.{Mode, reads, writes, adds, agree}
-use Rattle.spec.specs.Lists.{joined}
 use Rattle.spec.specs.Mask.{mask_word, members}
 use Rattle.spec.specs.Log.{shown_kind}
 use Rattle.spec.specs.GroupLog.{GroupLog, group_masks_of, group_words}

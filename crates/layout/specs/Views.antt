@@ -4,7 +4,7 @@ use Rattle.spec.specs.Shape.{Shape, total}
 use Rattle.spec.specs.Op.{Calc, SET, TID, COUNT, LAUNCHTID, ADD, SUB, MUL, AND, OR, XOR, SHR, SAR, EQ, LT, SLT, Op, CALC, Space, OWN, GLOBAL, MEM, IF, ELSE, ENDIF, WHILE, ENDWHILE, BARRIER, UNKNOWN}
 use Rattle.spec.specs.Access.{Mode}
 use Rattle.spec.specs.Log.{Log, masks_of, cleared}
-use Rattle.spec.specs.GroupLog.{GroupLog, group_masks_of}
+use Rattle.spec.specs.GroupLog.{group_masks_of}
 use Rattle.spec.specs.LockStep.{LockState, Step, continues, stops}
 use Rattle.layout.specs.Memory.{Masks}
 

@@ -9,15 +9,15 @@ use Rattle.spec.specs.Lists.{passing}
 use Rattle.spec.specs.Access.{load, store, atomic_add}
 use Rattle.spec.specs.Op.{OWN, GLOBAL, LOAD, op_of}
 use Rattle.spec.specs.Table.{row_of, rows_of}
-use Rattle.spec.specs.Shape.{Sizes, sizes, with_common, Shape, shape_of, in_common, is_common, Past, nowhere, loads, changes, past}
+use Rattle.spec.specs.Shape.{sizes, with_common, Shape, shape_of, in_common, is_common, nowhere, loads, changes, past}
 use Rattle.spec.specs.Log.{Log, empty_log, logged, log_words}
 use Rattle.spec.specs.GroupLog.{empty_group_log, group_words}
 use Rattle.spec.specs.LockStep.{LockState, Step, continues, stops, run_row}
 use Rattle.spec.specs.Intervals.{used_cells, row_cost}
-use Rattle.spec.specs.Threads.{Thread, Effect, strays, goes, accesses, reach, effect_of, accesses_of, row}
-use Rattle.spec.specs.LaunchThreads.{Groups, Move, of_group, machine, possible, initial_groups}
+use Rattle.spec.specs.Threads.{Thread, strays, goes, accesses, reach, effect_of, row}
+use Rattle.spec.specs.LaunchThreads.{Groups, of_group, machine, possible, initial_groups}
 use Rattle.spec.specs.Runs.{after}
-use Rattle.spec.specs.Launch.{Launch, launch_run, launch_outcome, launch_steps, own_after, launch_log}
+use Rattle.spec.specs.Launch.{Launch, launch_outcome, launch_steps, own_after, launch_log}
 use Rattle.spec.proofs.Computing.{computing}
 
 -- The elements that pass a test, in their order.

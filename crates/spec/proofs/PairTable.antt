@@ -6,21 +6,21 @@ use mathlib.Core.List.{List, [], ◌∷◌, ◌++◌, map}
 use mathlib.Core.Bool.{Bool, true, false}
 use Prim.Native.Nat.{ℕ, ◌+◌, ◌-◌, ◌*◌}
 use lib.ListN.{replicate}
-use Rattle.spec.specs.Answers.{Written, CommonFile, LineNotDue, OutputLength}
+use Rattle.spec.specs.Answers.{CommonFile, LineNotDue, OutputLength}
 use Rattle.spec.specs.declared.Written.TheVariants as written
 use Rattle.spec.specs.Lists.{joined}
 use Rattle.spec.specs.Text.{text}
-use Rattle.spec.specs.LaunchFile.{Checked, accepted, refused}
+use Rattle.spec.specs.LaunchFile.{accepted, refused}
 use Rattle.spec.specs.Entries.{check_prints}
 use Rattle.spec.specs.Table.{row_of}
 use Rattle.spec.specs.Shape.{sizes, with_common}
 use Rattle.spec.specs.Launch.{Launch}
-use Rattle.spec.specs.PairFiles.{common_cells, sharing, kernel_checked, kernel_launch, kernel_prints, pair_prints, pair_refusal, pair_answer, pair_output_after}
+use Rattle.spec.specs.PairFiles.{common_cells, kernel_checked, pair_prints, pair_refusal, pair_answer, pair_output_after}
 use Rattle.spec.specs.Runs.{Machine, after, shown_to}
 use Rattle.spec.specs.Threads as own
-use Rattle.spec.specs.LaunchThreads.{Groups, Move, of_group}
+use Rattle.spec.specs.LaunchThreads.{Move, of_group}
 use Rattle.spec.specs.Pairs.{firsts, seconds, pair}
-use Rattle.spec.specs.PairRuns.{threads_of, start_of, together, starts, pair_leaves}
+use Rattle.spec.specs.PairRuns.{together, starts, pair_leaves}
 use Rattle.spec.proofs.Lines.{lines}
 use Rattle.spec.proofs.RefusalTable.{or_zero, told_as}
 use Rattle.spec.proofs.Computing.{computing}

@@ -6,7 +6,7 @@ use Rattle.spec.specs.Limits.{max_threads, max_groups, max_cells, max_rows, max_
 use Rattle.spec.specs.Answers.{Refusal, FileTooLong, LineNotDue, ThreadsOutOfRange, CellsOutOfRange, GroupsOutOfRange, TooManyCells, LimitOutOfRange, TooManyRows}
 use Rattle.spec.specs.Lists.{equal_list}
 use Rattle.spec.specs.Text.{text, newline, comma, equals, number_below, split_at}
-use Rattle.spec.specs.Table.{Table, Row, row_of}
+use Rattle.spec.specs.Table.{Row, row_of}
 use Rattle.spec.specs.TableCheck.{table_refusal}
 use Rattle.spec.specs.Shape.{Sizes, sizes, all_own, all_cells}
 use Rattle.spec.specs.Launch.{Launch}

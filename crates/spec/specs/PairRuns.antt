@@ -1,5 +1,5 @@
 -- Item 12: two kernels resident together, over the same common cells, and every run of both. Assumes nothing.
-use Rattle.std.specs.Prelude.{◌≡◌, ◌⊎◌, ◌↔◌, List, [], ◌++◌, map, ℕ, ◌+◌, ◌*◌, ◌<◌, length, get_or}
+use Rattle.std.specs.Prelude.{◌≡◌, ◌⊎◌, ◌↔◌, List, [], map, ℕ, ◌+◌, ◌*◌, ◌<◌, length, get_or}
 use Rattle.std.proofs.Common.{inl, inr}
 use Rattle.spec.specs.Steps.{sum}
 use Rattle.spec.specs.Runs.{Machine, many, Run, after, shown_to, Stuck, RunsAlwaysEnd}
