@@ -1,27 +1,20 @@
 -- The whole-file entry: what its tests leave known, and its answer. Assumes nothing.
 use mathlib.Core.Path.{◌≡◌, refl, sym, ap, ap₂, subst, ◌∙◌}
 use mathlib.Core.List.{List}
-use mathlib.Core.Option.{Option, none, some, none-ne-some, some-injective}
-use Prim.Native.Nat.{ℕ, ◌*◌, ◌%◌, ◌<◌, ◌≤◌}
-use native.Mathlib.Omega.{arith}
+use mathlib.Core.Option.{Option, none, some, none-ne-some}
+use Prim.Native.Nat.{ℕ, ◌≤◌}
 use borrow.Author.Tests.{eqb-true, leb-true}
-use lib.ListN.{length, take, get_or}
-use lib.Seq.{length-take-le}
-use Rattle.admission.specs.declared.Admission.TheVariants as admission
+use lib.ListN.{length}
 use Rattle.spec.specs.declared.Refusal.{Refusal}
 use Rattle.spec.specs.declared.Written.{Written}
 use Rattle.spec.specs.declared.Written.TheVariants as written
-use Rattle.admission.specs.Refusing.{refusal_of}
 use Rattle.spec.specs.Answers.{first, told, told_in}
-use Rattle.spec.specs.Table.{rows_of}
-use Rattle.spec.specs.TableCheck.{table_refusal}
 use Rattle.spec.specs.Launch.{Launch, launch_intervals, launch_log, own_after, global_after}
-use Rattle.spec.specs.LaunchFile.{Checked, Read, stop, read, refused, accepted, unless_refused, checked_table, file_launch}
-use Rattle.spec.specs.Entries.{file_lent, and_state, file_checked, bare_launch, launch_report, report_length, if_accepted, file_answer, file_cells_after, file_global_after}
+use Rattle.spec.specs.LaunchFile.{Checked, refused, accepted, unless_refused, file_launch}
+use Rattle.spec.specs.Entries.{file_lent, and_state, file_checked, launch_report, report_length, if_accepted, file_answer, file_cells_after, file_global_after}
 use Rattle.spec.specs.Entries.{file_log_after, file_records_after, file_output_after, checked_refusal, over, check_prints}
 use Rattle.spec.specs.Limits.{records_lent, file_output}
 use Rattle.spec.specs.Intervals.{record_words}
-use Rattle.spec.specs.Shape.{sizes}
 use Rattle.spec.specs.Demands.{ReportDemand3, FileReadable, OfWritten}
 use Rattle.spec.proofs.Laws.{front_of_lem}
 use Rattle.structure.proofs.Refusals.{unless_none, or_else_none}

@@ -39,16 +39,16 @@ loop-m-preserved c =
     let turn = c.loop-m in
     let some = c.loop-m-test.true in
     elim c.if-m-eq1.branch [
-      then-m-eq1+then-x-lt1024 w ↦
-        going_same _ _ _ _ _ _ _ _ _
-        (going_in _ _ _ _ _ _ _ _ _ turn.invariant some w.if-m-eq1.true _ _ _ _ w.index-x.ensures w.if-x-lt1024.true w.count-most.ensures)
-        _ _ _ _ w.stamps-is w.counts-is w.most-is w.far-is
-    | then-m-eq1+else-x-lt1024 w ↦
-        going_same _ _ _ _ _ _ _ _ _
-        (going_far _ _ _ _ _ _ _ _ _ turn.invariant some w.if-m-eq1.true (omega (arith, w.index-x.ensures, w.if-x-lt1024.false)))
-        _ _ _ _ w.stamps-is w.counts-is w.most-is w.far-is
-    | else-m-eq1 w ↦
-        going_same _ _ _ _ _ _ _ _ _ (going_out _ _ _ _ _ _ _ _ _ turn.invariant some w.if-m-eq1.false) _ _ _ _ w.stamps-is w.counts-is w.most-is w.far-is
+      | then-m-eq1+then-x-lt1024 w ↦
+          going_same _ _ _ _ _ _ _ _ _
+          (going_in _ _ _ _ _ _ _ _ _ turn.invariant some w.if-m-eq1.true _ _ _ _ w.index-x.ensures w.if-x-lt1024.true w.count-most.ensures)
+          _ _ _ _ w.stamps-is w.counts-is w.most-is w.far-is
+      | then-m-eq1+else-x-lt1024 w ↦
+          going_same _ _ _ _ _ _ _ _ _
+          (going_far _ _ _ _ _ _ _ _ _ turn.invariant some w.if-m-eq1.true (omega (arith, w.index-x.ensures, w.if-x-lt1024.false)))
+          _ _ _ _ w.stamps-is w.counts-is w.most-is w.far-is
+      | else-m-eq1 w ↦
+          going_same _ _ _ _ _ _ _ _ _ (going_out _ _ _ _ _ _ _ _ _ turn.invariant some w.if-m-eq1.false) _ _ _ _ w.stamps-is w.counts-is w.most-is w.far-is
     ]
 
 pub overflow_add-result : goal.overflow_add-result

@@ -9,6 +9,6 @@ returns c =
     let if1 = c.if-mask-full in
     let all = c.all-full in
     elim if1.branch [
-      then-mask-full w ↦ all_numbered args.group args.n args.mask args.d if1.on args.regs.now all.ensures c.put_numbers.ensures w.if-mask-full.true w.on-is
-    | else-mask-full w ↦ some_numbered args.group args.n args.mask args.d if1.on args.regs.now all.ensures c.put_numbers.ensures w.if-mask-full.false w.on-is
+      | then-mask-full w ↦ all_numbered args.group args.n args.mask args.d if1.on args.regs.now all.ensures c.put_numbers.ensures w.if-mask-full.true w.on-is
+      | else-mask-full w ↦ some_numbered args.group args.n args.mask args.d if1.on args.regs.now all.ensures c.put_numbers.ensures w.if-mask-full.false w.on-is
     ]

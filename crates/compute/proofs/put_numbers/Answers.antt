@@ -13,8 +13,8 @@ loop-t-preserved c =
     let F = numbered args.group args.n args.on args.d regs in
     puts_more args.d F regs turn.regs turn.t turn.invariant c.if-on-t-eq1.regs (search putting) (search putting) (search putting)
     (elim c.if-on-t-eq1.branch [
-      then-on-t-eq1 w ↦ w.regs-is ∙ c.in_launch-whole.ensures.0 ∙ given_on _ _ args.d regs turn.t w.if-on-t-eq1.true
-    | else-on-t-eq1 w ↦ w.regs-is ∙ puts_old args.d F regs turn.regs turn.t turn.invariant ∙ given_off _ _ args.d regs turn.t w.if-on-t-eq1.false
+      | then-on-t-eq1 w ↦ w.regs-is ∙ c.in_launch-whole.ensures.0 ∙ given_on _ _ args.d regs turn.t w.if-on-t-eq1.true
+      | else-on-t-eq1 w ↦ w.regs-is ∙ puts_old args.d F regs turn.regs turn.t turn.invariant ∙ given_off _ _ args.d regs turn.t w.if-on-t-eq1.false
     ])
 
 pub loop-t-init : goal.loop-t-init

@@ -139,8 +139,7 @@ loop-s-preserved c =
     let row = c.group_row in
     let unspent = c.if-s-limit.false in
     let inside = c.loop-s-test.true in
-    let inv = c.loop-s.invariant in
-    (
+    let inv = c.loop-s.invariant in (
       c.group_row.auto.cells ∙ inv.0,
       c.group_row.auto.log ∙ inv.1,
       c.group_row.auto.global ∙ inv.2,

@@ -6,7 +6,6 @@ use native.Mathlib.Omega.{arith}
 use lib.ListN.{replicate}
 use Rattle.launchrun.specs.Launches.{sizes_by}
 use Rattle.launchrun.specs.Launches.{LaunchAsks, Fresh}
-
 use Rattle.launchrun.proofs.Buffers.{Buffers, Kept}
 use Rattle.launchrun.proofs.Launching.{Launched}
 use Rattle.launchrun.proofs.LaunchStart.{launched_start}

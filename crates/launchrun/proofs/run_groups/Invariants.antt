@@ -8,18 +8,18 @@ use Rattle.launchrun.proofs.run_groups.Given as goal
 
 abbrev pub invariant-loop-log : goal.invariant-loop-log
 invariant-loop-log l = let W₀ : Buffers = record {
-      cells = l.initial.cells;
-      global = l.initial.global;
-      log = l.initial.log;
-      own = l.initial.own;
-      shared = l.initial.shared;
-      masks = l.initial.masks;
-      records = l.initial.records;
-      counts = l.initial.counts;
-      steps = l.initial.steps;
-      stamps = l.initial.stamps;
-      memo = l.initial.memo;
-    } in
+  cells = l.initial.cells;
+  global = l.initial.global;
+  log = l.initial.log;
+  own = l.initial.own;
+  shared = l.initial.shared;
+  masks = l.initial.masks;
+  records = l.initial.records;
+  counts = l.initial.counts;
+  steps = l.initial.steps;
+  stamps = l.initial.stamps;
+  memo = l.initial.memo;
+} in
     let W : Buffers = record {
       cells = l.cells;
       global = l.global;

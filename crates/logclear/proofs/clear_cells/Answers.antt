@@ -50,6 +50,6 @@ returns c =
     let args = c.args in
     turn.invariant.1
     ∙ elim c.if-n-cells.branch [
-        then-n-cells w ↦ ap (λ (k : ℕ). cells_cleared args.cells k args.log.now) (omega (arith, c.loop-i-test.false, turn.invariant.0))
+      | then-n-cells w ↦ ap (λ (k : ℕ). cells_cleared args.cells k args.log.now) (omega (arith, c.loop-i-test.false, turn.invariant.0))
       | else-n-cells w ↦ cells_enough args.cells args.log.now turn.i args.n (λ h. omega (arith, c.requires)) (omega (arith, c.loop-i-test.false)) (omega arith)
-      ]
+    ]

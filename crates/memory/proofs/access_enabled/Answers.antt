@@ -93,36 +93,36 @@ loop-m-preserved c =
     let some_left = left_some args.n turn.t turn.m turn.invariant.1 c.loop-m-test.true in
     let fewer = left_half args.n turn.t turn.m some_left turn.invariant.1 in
     elim c.if-m-eq1.branch [
-      then-m-eq1+else-not-turn w ↦ let made = w.turn in (
-      omega (arith, some_left),
-      fewer,
-      ap length w.cells-is ∙ made.auto.cells ∙ turn.invariant.2,
-      ap length w.log-is ∙ made.auto.log ∙ turn.invariant.3,
-      λ y x o ed ea s e q M.
-          go_in (access_turn (shape_by args.n memory args.common.now) OWN y x) args.n s turn.t turn.m turn.regs turn.cells turn.log
-          (turn.invariant.4 y x o ed ea s e q M) made.new.regs made.new.cells made.new.log _ _ _ some_left w.if-m-eq1.true
-          (turn_still args.n turn.t y x args.common.now memory _ _ _ _ _ _ _ turn.invariant.2
-          (made.ensures.went w.if-not-turn.false args.n y x o some_left ed ea))
-          w.regs-is w.cells-is w.log-is,
-      next_bit turn.t turn.bit turn.invariant.5,
-      keeps_on args.d args.n turn.t args.regs.now turn.regs c.if-m-eq1.regs some_left turn.invariant.6
-          (subst (KeptBut args.d (turn.t + 1) turn.regs) (sym w.regs-is) made.ensures.regs_kept),
-      subst₂ (λ h l. SameAbove (h % common_from) (length memory) args.log.now l) (sym w.reach-is) (sym w.log-is)
-          (same_below turn.reach _ (length memory) (length turn.cells) args.log.now turn.log made.new.log turn.invariant.7 turn.invariant.2
-          made.ensures.log_same),
-    )
-    | else-m-eq1 w ↦ (
-      omega (arith, some_left),
-      fewer,
-      ap length w.cells-is ∙ turn.invariant.2,
-      ap length w.log-is ∙ turn.invariant.3,
-      λ y x o ed ea s e q M.
-          go_out (access_turn (shape_by args.n memory args.common.now) OWN y x) args.n s turn.t turn.m turn.regs turn.cells turn.log
-          (turn.invariant.4 y x o ed ea s e q M) _ _ _ some_left w.if-m-eq1.false w.regs-is w.cells-is w.log-is,
-      next_bit turn.t turn.bit turn.invariant.5,
-      subst (KeptBut args.d args.n args.regs.now) (sym w.regs-is) turn.invariant.6,
-      subst₂ (λ h l. SameAbove (h % common_from) (length memory) args.log.now l) (sym w.reach-is) (sym w.log-is) turn.invariant.7,
-    )
+      | then-m-eq1+else-not-turn w ↦ let made = w.turn in (
+        omega (arith, some_left),
+        fewer,
+        ap length w.cells-is ∙ made.auto.cells ∙ turn.invariant.2,
+        ap length w.log-is ∙ made.auto.log ∙ turn.invariant.3,
+        λ y x o ed ea s e q M.
+            go_in (access_turn (shape_by args.n memory args.common.now) OWN y x) args.n s turn.t turn.m turn.regs turn.cells turn.log
+            (turn.invariant.4 y x o ed ea s e q M) made.new.regs made.new.cells made.new.log _ _ _ some_left w.if-m-eq1.true
+            (turn_still args.n turn.t y x args.common.now memory _ _ _ _ _ _ _ turn.invariant.2
+            (made.ensures.went w.if-not-turn.false args.n y x o some_left ed ea))
+            w.regs-is w.cells-is w.log-is,
+        next_bit turn.t turn.bit turn.invariant.5,
+        keeps_on args.d args.n turn.t args.regs.now turn.regs c.if-m-eq1.regs some_left turn.invariant.6
+            (subst (KeptBut args.d (turn.t + 1) turn.regs) (sym w.regs-is) made.ensures.regs_kept),
+        subst₂ (λ h l. SameAbove (h % common_from) (length memory) args.log.now l) (sym w.reach-is) (sym w.log-is)
+            (same_below turn.reach _ (length memory) (length turn.cells) args.log.now turn.log made.new.log turn.invariant.7 turn.invariant.2
+            made.ensures.log_same),
+      )
+      | else-m-eq1 w ↦ (
+        omega (arith, some_left),
+        fewer,
+        ap length w.cells-is ∙ turn.invariant.2,
+        ap length w.log-is ∙ turn.invariant.3,
+        λ y x o ed ea s e q M.
+            go_out (access_turn (shape_by args.n memory args.common.now) OWN y x) args.n s turn.t turn.m turn.regs turn.cells turn.log
+            (turn.invariant.4 y x o ed ea s e q M) _ _ _ some_left w.if-m-eq1.false w.regs-is w.cells-is w.log-is,
+        next_bit turn.t turn.bit turn.invariant.5,
+        subst (KeptBut args.d args.n args.regs.now) (sym w.regs-is) turn.invariant.6,
+        subst₂ (λ h l. SameAbove (h % common_from) (length memory) args.log.now l) (sym w.reach-is) (sym w.log-is) turn.invariant.7,
+      )
     ]
 
 pub shape_of-cells : goal.shape_of-cells

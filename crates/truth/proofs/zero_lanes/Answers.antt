@@ -18,8 +18,8 @@ loop-t-preserved c =
     let args = c.args in
     let regs = args.regs.now in
     elim c.if-regs-a-eq0.branch [
-      then-regs-a-eq0 w ↦ (omega (arith, test.true), lane_zero args.a regs turn.t turn.z turn.invariant.1 c.if-regs-a-eq0.z test.true w.if-regs-a-eq0.true w.z-is)
-    | else-regs-a-eq0 w ↦ (omega (arith, test.true), lane_left args.a regs turn.t turn.z turn.invariant.1 c.if-regs-a-eq0.z w.if-regs-a-eq0.false w.z-is)
+      | then-regs-a-eq0 w ↦ (omega (arith, test.true), lane_zero args.a regs turn.t turn.z turn.invariant.1 c.if-regs-a-eq0.z test.true w.if-regs-a-eq0.true w.z-is)
+      | else-regs-a-eq0 w ↦ (omega (arith, test.true), lane_left args.a regs turn.t turn.z turn.invariant.1 c.if-regs-a-eq0.z w.if-regs-a-eq0.false w.z-is)
     ]
 
 pub returns : goal.returns
