@@ -21,8 +21,7 @@ use Rattle.reader.proofs.Ready.{runnable}
 use Rattle.launchfile.specs.declared.Parsed.{Parsed}
 use Rattle.launchfile.specs.Parsed.{lines_read, ReadAs, ParsedIs, AcceptedAs}
 use Rattle.launchfile.proofs.Whole.{whole_file}
-use Rattle.filelaunch.specs.declared.Found.{Found}
-use Rattle.filelaunch.specs.Founds.{table_bytes, global_words, launch_in, FoundLaunch, FoundIs}
+use Rattle.filelaunch.specs.Founds.{table_bytes, global_words, launch_in, FoundIs}
 
 -- What the reader's answer says of the lines.
 lines_refused : (x : Read Launch) (p : Parsed) (why : Refusal) → ReadAs x p → p.answer ≡ admission.Refused why → x ≡ stop why

@@ -7,14 +7,13 @@ use Prim.Native.Nat.{ℕ, ◌+◌, ◌-◌, ◌*◌, ◌<◌, ◌≤◌}
 use native.Mathlib.Omega.{arith}
 use native.Mathlib.Decide.{ℕ_discrete}
 use lib.ListN.{length, get_or}
-use Rattle.spec.specs.Op.{Op, op_of, op_table, CALC, LAUNCHTID, GLOBAL, MEM, BARRIER, value}
+use Rattle.spec.specs.Op.{op_of, op_table, LAUNCHTID, BARRIER, value}
 use Rattle.spec.specs.Shape.{Shape, launch_number}
 use Rattle.spec.specs.Table.{Table, Row, rows_of, row_at}
 use Rattle.spec.specs.LockStep.{LockState, compute_turn, run_row}
 use Rattle.spec.proofs.Laws.{lt_or_le, all_below, below, byte_barrier}
 use Rattle.layout.specs.declared.State.{State}
 use Rattle.layout.specs.declared.Next.{Next}
-use Rattle.layout.specs.declared.Next.TheVariants as next
 use Rattle.layout.specs.declared.Access.{Access}
 use Rattle.layout.specs.declared.Access.TheVariants.{Done, Stop}
 use Rattle.layout.specs.Represents.{Represents, After, Counts, moved_on, accessed}

@@ -2,12 +2,12 @@
 use mathlib.Core.Path.{◌≡◌, refl, sym, ◌∙◌, ap, subst, subst₂}
 use mathlib.Core.Logic.{◌⊎◌, inl, inr, ⊎_elim}
 use mathlib.Core.List.{List, [], ◌∷◌, map}
-use mathlib.Core.Bool.{true, false}
+use mathlib.Core.Bool.{false}
 use Prim.Native.Nat.{ℕ, zero, suc, ◌+◌, ◌-◌, ◌*◌, ◌/◌, ◌^◌, ◌<◌, ◌≤◌}
 use native.Mathlib.Omega.{arith}
 use native.Mathlib.Decide.{ℕ_discrete}
 use borrow.Author.Tests.{le-leb, lt-leb, eq-eqb, ne_eqb}
-use lib.ListN.{length, get_or, replicate, length-replicate, get_or-replicate}
+use lib.ListN.{length, get_or, replicate, length-replicate}
 use Rattle.spec.specs.Limits.{log_per_cell, max_common, records_lent}
 use Rattle.spec.specs.declared.Verdict.{Verdict}
 use Rattle.spec.specs.declared.Verdict.TheVariants.{Passed, Spent}
@@ -19,7 +19,7 @@ use Rattle.spec.specs.LockStep.{LockState, Step, continues, stops, top_opener, r
 use Rattle.spec.specs.LockStep.{advance, count_steps, endif_row, pop, top_mask}
 use Rattle.spec.specs.Steps.{all_stepped}
 use Rattle.spec.specs.Banks.{conflict_cost}
-use Rattle.spec.specs.Intervals.{Interval, Intervals, used_cells, row_cost, started, with_row, behind, intervals_after, intervals_from}
+use Rattle.spec.specs.Intervals.{Interval, Intervals, row_cost, started, with_row, behind, intervals_after, intervals_from}
 use Rattle.spec.specs.Entries.{over}
 use Rattle.spec.specs.Threads.{Group, machine}
 use Rattle.spec.specs.Runs.{after}
@@ -34,7 +34,6 @@ use Rattle.allruns.proofs.Counts.{Leaves, leaves_row, grown}
 use Rattle.layout.specs.declared.State.{State}
 use Rattle.layout.specs.declared.Next.{Next}
 use Rattle.layout.specs.declared.Next.TheVariants as next
-use Rattle.layout.specs.Memory.{Memory}
 use Rattle.layout.specs.Views.{view_of, own_from}
 use Rattle.layout.specs.Groups.{GroupStands, GroupAfter}
 use Rattle.layout.proofs.Saving.{saves_back}

@@ -3,7 +3,7 @@ use mathlib.Core.Path.{◌≡◌, refl, sym, ◌∙◌, ap}
 use mathlib.Core.Logic.{◌⊎◌, inl, inr}
 use mathlib.Core.List.{List, [], ◌∷◌, map}
 use mathlib.Core.Bool.{Bool, true, false, cond}
-use Prim.Native.Nat.{ℕ, zero, suc, ◌+◌, ◌-◌, ◌*◌, ◌<◌, ◌≤◌}
+use Prim.Native.Nat.{ℕ, zero, suc, ◌+◌, ◌*◌, ◌<◌, ◌≤◌}
 use native.Mathlib.Omega.{arith}
 use native.Mathlib.Decide.{ℕ_discrete}
 use borrow.Author.Tests.{le-leb, lt-leb, lt-ltb, le-ltb, eq-eqb, ne_eqb}
@@ -11,7 +11,7 @@ use lib.Dec.{eqb, leb}
 use lib.ListN.{length, get_or}
 use Rattle.spec.specs.Limits.{common_from, max_common}
 use Rattle.spec.specs.declared.Verdict.{Verdict}
-use Rattle.spec.specs.Mask.{Mask, members, members_from}
+use Rattle.spec.specs.Mask.{members}
 use Rattle.spec.specs.Op.{Op, CALC, OWN, Mem, MEM, IF, ELSE, ENDIF, WHILE, ENDWHILE, BARRIER, UNKNOWN, op_of}
 use Rattle.spec.specs.Table.{Table, Row, row_at, cell_byte}
 use Rattle.spec.specs.Shape.{Shape, bound}

@@ -1,35 +1,33 @@
 -- A group's start: the buffers stand for its state, which is one of the threads' machine too. Assumes nothing.
 use mathlib.Core.Path.{◌≡◌, refl, sym, ◌∙◌, ap, subst}
-use mathlib.Core.Logic.{◌⊎◌, inl, inr}
 use mathlib.Core.List.{List, []}
-use mathlib.Core.Bool.{Bool, true, false, cond, ◌&&◌, ◌||◌, false≢true}
-use Prim.Native.Nat.{ℕ, zero, suc, ◌+◌, ◌-◌, ◌*◌, ◌^◌, ◌<◌, ◌≤◌}
+use mathlib.Core.Bool.{Bool, true, false, ◌&&◌, ◌||◌, false≢true}
+use Prim.Native.Nat.{ℕ, ◌+◌, ◌-◌, ◌*◌, ◌^◌, ◌<◌, ◌≤◌}
 use native.Mathlib.Omega.{arith}
 use borrow.Author.Tests.{leb-true, ltb-true}
 use lib.Dec.{leb, ltb}
 use lib.ListN.{length, get_or, replicate, length-replicate, get_or-replicate}
-use Rattle.spec.specs.Limits.{log_per_cell, registers}
+use Rattle.spec.specs.Limits.{log_per_cell}
 use Rattle.spec.specs.Lists.{any_of}
 use Rattle.spec.specs.Access.{Mode, reads, writes, adds}
 use Rattle.spec.specs.Mask.{mask_word, has, any}
 use Rattle.spec.specs.Log.{Log, masks_of, empty_log}
-use Rattle.spec.specs.GroupLog.{group_masks_of, group_conflict_mask}
+use Rattle.spec.specs.GroupLog.{group_conflict_mask}
 use Rattle.spec.specs.Shape.{Shape, total, is_own, is_global, reaches}
 use Rattle.spec.specs.Table.{Table, WellFormed}
 use Rattle.spec.specs.LockStep.{LockState}
-use Rattle.spec.specs.Threads.{Group, empty_record, initial_threads, any_below}
+use Rattle.spec.specs.Threads.{Group, empty_record, initial_threads}
 use Rattle.allruns.proofs.Bools.{and_left, and_right, below_none}
-use Rattle.allruns.proofs.LogMatches.{BlankAt, LogSized, in_mode, holds}
+use Rattle.allruns.proofs.LogMatches.{BlankAt, in_mode, holds}
 use Rattle.allruns.proofs.LogRecord.{replicate_has}
 use Rattle.allruns.proofs.GroupMatches.{GroupMatches}
 use Rattle.allruns.proofs.Rows.{Sim}
-use Rattle.allruns.proofs.LockRun.{Starts, group_sim}
+use Rattle.allruns.proofs.LockRun.{group_sim}
 use Rattle.masks.proofs.Words.{word_all}
 use Rattle.layout.specs.Memory.{Regs, Memory, LogIs}
 use Rattle.layout.specs.Represents.{Saves}
 use Rattle.layout.specs.Running.{start_state}
-use Rattle.layout.specs.Views.{part, log_part, view_of, own_from, global_from, Sized}
-use Rattle.layout.specs.Shared.{GlobalMemory}
+use Rattle.layout.specs.Views.{part, log_part, view_of, own_from, global_from}
 use Rattle.layout.specs.Groups.{GroupStands}
 use Rattle.layout.proofs.Parts.{part_at, part_size, log_part_masks, own_within, global_within}
 use Rattle.layout.proofs.LogBuffer.{empty_is}

@@ -43,6 +43,10 @@ unfoldable pub refusals : List Refusal
 unfolding all_lines
 refusals = map (λ l. l.refusal) all_lines
 
+pub count_is_six : line_count ≡ 6
+unfolding line_count
+count_is_six = refl
+
 -- Whoever unfolds this unfolds them all.
 unfoldable pub tables : Unit {0}
 unfolding line_count key_bytes starts leasts greatests refusals

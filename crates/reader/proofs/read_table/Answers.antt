@@ -5,7 +5,6 @@ use lib.ListN.{replicate}
 use Rattle.spec.specs.declared.Refusal.TheVariants.{Misplaced}
 use Rattle.reader.specs.Parts.{Body, BodyIs}
 use Rattle.reader.proofs.Whole.{refused_whole, stray, accepted, ends_are}
-use borrow.Author.Rules.{rules}
 use Rattle.reader.proofs.read_table.Goals as goal
 use Rattle.reader.proofs.read_table.Goals.{In-To}
 
@@ -45,7 +44,6 @@ returns-in-Refused c =
     let inner = c.body in
     let args = c.args in
     let table = args.table.now in
-    let f = subst (BodyIs table 0 0 (replicate 256 0) inner.new.ends) c.in
-    let told = -Refused.is inner.ensures in
-    refused_whole table c.in-Refused.why c.refused-in-Refused.result f c.refused-in-Refused.ensures in
+    let f = subst (BodyIs table 0 0 (replicate 256 0) inner.new.ends) c.in-Refused.is inner.ensures in
+    let told = refused_whole table c.in-Refused.why c.refused-in-Refused.result f c.refused-in-Refused.ensures in
     record { answer = told.0; ends = told.1 }

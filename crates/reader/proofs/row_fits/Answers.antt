@@ -1,19 +1,16 @@
 -- `reader::row_fits` meets its contract: what it tests are the row's own refusals, 3 before 4. Assumes nothing.
 use mathlib.Core.Path.{◌≡◌, refl, sym, ◌∙◌}
-use mathlib.Core.List.{List, [], ◌∷◌}
+use mathlib.Core.List.{List}
 use mathlib.Core.Bool.{true}
 use Prim.Native.Nat.{ℕ, ◌+◌, ◌*◌, ◌<◌}
 use native.Mathlib.Omega.{arith}
 use lib.ListN.{length, get_or}
-use types.Run.{OneOf, miss}
-use denote.Enum.Declared.{tag_of}
 use Rattle.spec.specs.declared.Refusal.TheVariants.{UnknownOp, BadOperand}
 use Rattle.spec.specs.Answers.{unless, or_else}
 use Rattle.spec.specs.Op.{Form, operands_fit, form_of}
 use Rattle.spec.specs.Table.{row_of, rows_of, row_at}
 use Rattle.optable.specs.declared.Form.{Form as Declared}
 use Rattle.optable.specs.declared.Form.TheVariants.{SetForm, DForm, DabForm, DaForm, AForm, NoForm, UnknownForm}
-use Rattle.optable.specs.contracts.Form.{the_type}
 use Rattle.optable.specs.Forms.{meaning}
 use Rattle.reader.specs.Parts.{own_refusal}
 use Rattle.spec.proofs.Laws.{rows_length, row_bytes_lem}
@@ -22,7 +19,7 @@ use borrow.Author.Rules.{rules}
 use Rattle.reader.proofs.row_fits.Goals as goal
 
 -- The arm of every other form.
-other : (f : Declared) → OneOf (0 ∷ 1 ∷ 2 ∷ 3 ∷ 4 ∷ 5 ∷ []) (tag_of the_type f) → known_form (meaning f) ≡ true
+other : (f : Declared) → (f ≡ UnknownForm → ⊥) → known_form (meaning f) ≡ true
 unfolding known_form
 other SetForm k = refl
 other DForm k = refl
@@ -30,7 +27,7 @@ other DabForm k = refl
 other DaForm k = refl
 other AForm k = refl
 other NoForm k = refl
-other UnknownForm k = absurd (miss (0 ∷ 1 ∷ 2 ∷ 3 ∷ 4 ∷ 5 ∷ []) 6 tt k)
+other UnknownForm k = absurd (k refl)
 
 -- A row's own refusals, by the form of its op.
 own_is : (t : List ℕ) (r : ℕ) (f : Form) → r * 4 + 3 < length t → get_or t (r * 4) 0 < 256 → f ≡ form_of (get_or t (r * 4) 0)
@@ -58,7 +55,7 @@ returns-then-operands_fit c =
     let bytes = c.shared_slice_known-1 in
     let args = c.args in
     sym (own_is args.table.now args.row (meaning form_of.result) (search rules) (bytes.given (args.row * 4)).fits form_of.ensures
-    ∙ rw (other form_of.result arm.keys2, ← c.operands_fit.ensures, c.if-operands_fit.true))
+    ∙ rw (other form_of.result arm.not-UnknownForm, ← c.operands_fit.ensures, c.if-operands_fit.true))
 
 pub returns-else-operands_fit : goal.returns-else-operands_fit
 unfolding or_else unless
@@ -68,4 +65,4 @@ returns-else-operands_fit c =
     let bytes = c.shared_slice_known-1 in
     let args = c.args in
     sym (own_is args.table.now args.row (meaning form_of.result) (search rules) (bytes.given (args.row * 4)).fits form_of.ensures
-    ∙ rw (other form_of.result arm.keys2, ← c.operands_fit.ensures, c.if-operands_fit.false))
+    ∙ rw (other form_of.result arm.not-UnknownForm, ← c.operands_fit.ensures, c.if-operands_fit.false))

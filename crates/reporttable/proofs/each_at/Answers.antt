@@ -2,13 +2,13 @@
 use borrow.Author.Rules.{rules}
 use mathlib.Core.Path.{ap}
 use mathlib.Core.List.{List}
-use Prim.Native.Nat.{◌+◌, ◌-◌, ◌≤◌}
+use Prim.Native.Nat.{◌+◌, ◌≤◌}
 use native.Mathlib.Omega.{arith}
 use lib.ListN.{length}
 use Rattle.spec.specs.Report.{Line, value_text, bytes_of}
 use Rattle.reporttable.specs.Numbered.{lines_from, number_line}
 use Rattle.reportlines.proofs.Writing.{same_size}
-use Rattle.reporttable.proofs.Numbered.{Written, none_written, all_written, line_room, line_more, each_numbered, line_by_number}
+use Rattle.reporttable.proofs.Numbered.{none_written, all_written, line_room, line_more, each_numbered, line_by_number}
 use Rattle.reporttable.proofs.each_at.Goals as goal
 use Rattle.reporttable.proofs.each_at.Goals.{Start}
 
@@ -60,7 +60,8 @@ returns c =
     let args = c.args in
     let key = args.key.now in
     let numbers = args.numbers.now in
-    let told = rw (each_numbered key numbers)
-    (all_written (number_line key numbers) args.at 0 c.loop-i.i (length numbers) args.out.now (omega (arith, c.requires))
-    (omega arith) c.loop-i.invariant.1) in
-    record { next = told.0; written = told.1 }
+    let lines = each_numbered key numbers in
+    let told =
+    all_written (number_line key numbers) args.at 0 c.loop-i.i (length numbers) args.out.now (omega (arith, c.requires)) (omega arith)
+    c.loop-i.invariant.1 in
+    record { next = rw lines told.0; written = rw lines told.1 }

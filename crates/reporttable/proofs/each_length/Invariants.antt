@@ -1,12 +1,9 @@
 -- `reporttable::each_length` meets its contract. Each turn adds one line. Assumes nothing.
-use borrow.Author.Rules.{rules}
-use mathlib.Core.Path.{◌≡◌, refl, ◌∙◌}
+use mathlib.Core.Path.{◌≡◌}
 use Prim.Native.Nat.{◌+◌, ◌*◌, ◌-◌, ◌≤◌}
-use native.Mathlib.Omega.{arith}
 use lib.ListN.{length}
-use Rattle.spec.specs.Report.{value_text, bytes_of}
+use Rattle.spec.specs.Report.{bytes_of}
 use Rattle.reporttable.specs.Numbered.{lines_from, number_line}
-use Rattle.reporttable.proofs.Numbered.{size_more, each_numbered, size_by_number, one_more, bounded}
 use Rattle.reporttable.proofs.each_length.Given as goal
 
 abbrev pub invariant-loop-i : goal.invariant-loop-i

@@ -1,11 +1,11 @@
 -- `reporttable::lines_at` meets its contract. Each turn writes one line behind those before it. Assumes nothing.
 use borrow.Author.Rules.{rules}
-use Prim.Native.Nat.{◌+◌, ◌-◌, ◌≤◌, ◌<◌}
+use Prim.Native.Nat.{◌+◌, ◌<◌}
 use native.Mathlib.Omega.{arith}
 use Rattle.reporttable.specs.Numbered.{key_count, table_line}
 use Rattle.reportlines.proofs.Writing.{same_size}
 use Rattle.reporttable.proofs.Keys.{key_bytes, starts, key_at, line_by_key}
-use Rattle.reporttable.proofs.Numbered.{Written, none_written, all_written, line_room, line_more}
+use Rattle.reporttable.proofs.Numbered.{none_written, all_written, line_room, line_more}
 use Rattle.reporttable.proofs.lines_at.Goals as goal
 use Rattle.reporttable.proofs.lines_at.Goals.{In-loop-j}
 
@@ -16,7 +16,7 @@ below c = omega (arith, c.requires.0, c.loop-j-test.true)
 pub loop-j-init : goal.loop-j-init
 loop-j-init c =
     let args = c.args in
-    (search rules, none_written (table_line args.t1) args.at args.from args.out.now (omega (arith, c.requires.1)))
+    (search rules, none_written (table_line args.values) args.at args.from args.out.now (omega (arith, c.requires.1)))
 
 pub overflow_add-i : goal.overflow_add-i
 overflow_add-i c = omega (arith, below c)
@@ -59,8 +59,8 @@ unfolding key_bytes starts
 line_at-end-requires c =
     let turn = c.loop-j in
     let args = c.args in
-    line_room (table_line args.t1) args.at args.from turn.j args.n args.out.now c.requires.1 c.loop-j-test.true turn.invariant.1 _
-    (line_by_key args.t1 (args.from + turn.j) (below (goal.at.line_at-end-requires c).In-loop-j))
+    line_room (table_line args.values) args.at args.from turn.j args.n args.out.now c.requires.1 c.loop-j-test.true turn.invariant.1 _
+    (line_by_key args.values (args.from + turn.j) (below (goal.at.line_at-end-requires c).In-loop-j))
 
 pub overflow_add-j : goal.overflow_add-j
 overflow_add-j c = omega arith
@@ -75,9 +75,9 @@ loop-j-preserved c =
     let turn = c.loop-j in
     let args = c.args in (
       omega arith,
-      line_more (table_line args.t1) args.at args.from turn.j args.n args.out.now c.requires.1 c.loop-j-test.true
+      line_more (table_line args.values) args.at args.from turn.j args.n args.out.now c.requires.1 c.loop-j-test.true
           turn.invariant.1 _ _
-          (line_by_key args.t1 (args.from + turn.j) (below (goal.at.loop-j-preserved c).In-loop-j)) line_at_lem.ensures.next line_at_lem.ensures.written,
+          (line_by_key args.values (args.from + turn.j) (below (goal.at.loop-j-preserved c).In-loop-j)) line_at_lem.ensures.next line_at_lem.ensures.written,
     )
 
 pub shape_of-out : goal.shape_of-out
@@ -86,6 +86,6 @@ shape_of-out c = same_size c.loop-j.invariant.1
 pub returns : goal.returns
 returns c =
     let args = c.args in
-    let told = all_written (table_line args.t1) args.at args.from c.loop-j.j args.n args.out.now (omega (arith, c.requires.1))
+    let told = all_written (table_line args.values) args.at args.from c.loop-j.j args.n args.out.now (omega (arith, c.requires.1))
     (omega arith) c.loop-j.invariant.1 in
     record { next = told.0; written = told.1 }

@@ -1,7 +1,7 @@
 -- `reporttable::lines_length` meets its contract. Each turn adds one line. Assumes nothing.
 use borrow.Author.Rules.{rules}
 use mathlib.Core.Path.{◌≡◌, refl, ap, ◌∙◌}
-use Prim.Native.Nat.{ℕ, ◌+◌, ◌*◌, ◌-◌, ◌≤◌, ◌<◌}
+use Prim.Native.Nat.{ℕ, ◌+◌, ◌<◌}
 use native.Mathlib.Omega.{arith}
 use lib.ListN.{length}
 use Rattle.spec.specs.Report.{bytes_of}
@@ -69,9 +69,9 @@ loop-j-preserved c =
     let turn = c.loop-j in
     let args = c.args in
     let due = below (goal.at.loop-j-preserved c).In-loop-j in
-    let size = c.line_length-total.ensures.0 ∙ size_by_key args.t1 (args.from + turn.j) due in (
+    let size = c.line_length-total.ensures.0 ∙ size_by_key args.values (args.from + turn.j) due in (
       omega arith,
-      omega (arith, size_more (table_line args.t1) args.from turn.j, size, turn.invariant.1),
+      omega (arith, size_more (table_line args.values) args.from turn.j, size, turn.invariant.1),
       omega (arith, c.line_length-total.ensures.1, key_short _ due),
     )
 
@@ -79,4 +79,4 @@ pub returns : goal.returns
 returns c =
     let args = c.args in
     let all : c.loop-j.j ≡ args.n = omega arith in
-    (c.loop-j.invariant.1 ∙ ap (λ (k : ℕ). length (bytes_of (table_lines args.t1 args.from k))) all, omega arith)
+    (c.loop-j.invariant.1 ∙ ap (λ (k : ℕ). length (bytes_of (table_lines args.values args.from k))) all, omega arith)

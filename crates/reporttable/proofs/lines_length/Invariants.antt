@@ -1,13 +1,9 @@
 -- `reporttable::lines_length` meets its contract. Each turn adds one line. Assumes nothing.
-use borrow.Author.Rules.{rules}
-use mathlib.Core.Path.{◌≡◌, refl, ap, ◌∙◌}
-use Prim.Native.Nat.{ℕ, ◌+◌, ◌*◌, ◌-◌, ◌≤◌, ◌<◌}
-use native.Mathlib.Omega.{arith}
+use mathlib.Core.Path.{◌≡◌}
+use Prim.Native.Nat.{◌*◌, ◌-◌, ◌≤◌}
 use lib.ListN.{length}
 use Rattle.spec.specs.Report.{bytes_of}
-use Rattle.reporttable.specs.Numbered.{key_count, lines_from, table_line, table_lines}
-use Rattle.reporttable.proofs.Keys.{starts, key_at, key_short, size_by_key}
-use Rattle.reporttable.proofs.Numbered.{size_more}
+use Rattle.reporttable.specs.Numbered.{table_lines}
 use Rattle.reporttable.proofs.lines_length.Given as goal
 
 abbrev pub invariant-loop-j : goal.invariant-loop-j
