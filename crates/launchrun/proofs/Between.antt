@@ -1,26 +1,24 @@
 -- The state that a group's run leaves, from that in which it started: other groups' cells, logs and group masks are as they were. Assumes nothing.
-use mathlib.Core.Path.{◌≡◌, refl, sym, ◌∙◌, ap, ap₂, subst}
+use mathlib.Core.Path.{◌≡◌, refl, sym, ◌∙◌, ap, ap₂}
 use mathlib.Core.Logic.{◌⊎◌, inl, inr}
-use mathlib.Core.List.{List, []}
-use mathlib.Core.Bool.{Bool, true, false, ◌&&◌, ◌||◌}
-use Prim.Native.Nat.{ℕ, suc, ◌+◌, ◌*◌, ◌<◌, ◌≤◌}
+use mathlib.Core.List.{[]}
+use mathlib.Core.Bool.{true, false, ◌&&◌, ◌||◌}
+use Prim.Native.Nat.{ℕ, suc, ◌+◌, ◌<◌, ◌≤◌}
 use native.Mathlib.Omega.{arith}
 use borrow.Author.Tests.{le-leb, lt-leb, le-ltb}
 use lib.Dec.{leb, ltb}
-use lib.ListN.{length, get_or, replicate}
+use lib.ListN.{get_or}
 use Rattle.spec.specs.Access.{Mode}
-use Rattle.spec.specs.Log.{Log, masks_of, empty_log, cleared}
-use Rattle.spec.specs.GroupLog.{GroupLog, group_masks_of}
+use Rattle.spec.specs.Log.{Log, empty_log, cleared}
+use Rattle.spec.specs.GroupLog.{group_masks_of}
 use Rattle.spec.specs.Shape.{Sizes, Shape, shape_of, total, is_own, is_global, reaches}
 use Rattle.spec.specs.LockStep.{LockState}
 use Rattle.spec.specs.LaunchRun.{next_start}
 use Rattle.allruns.proofs.LockInvariants.{RunKeeps}
-use Rattle.layout.specs.Memory.{Masks}
 use Rattle.layout.specs.Views.{part, put_part, log_part, put_log, own_from, global_from, Sized}
-use Rattle.layout.specs.Shared.{group_part, put_groups}
 use Rattle.layout.proofs.Parts.{LogFits, sized_fits, own_before, own_within, global_within, log_part_fits, put_log_fits, put_log_part, put_log_put, put_log_apart}
 use Rattle.layout.proofs.Parts.{cleared_put, cleared_nowhere, cleared_like, log_cleared_fits}
-use Rattle.launchrun.proofs.Stretches.{two_parts, two_logs, one_group_log, all_cleared}
+use Rattle.launchrun.proofs.Stretches.{two_parts, two_logs, all_cleared}
 
 module _ (Z : Sizes) (g : ℕ) (s z : LockState) (S : Sized (shape_of Z g) s) (Y : Sized (shape_of Z g) z) (K : RunKeeps (shape_of Z g) s z) where
   abbrev L : Shape

@@ -1,8 +1,8 @@
 -- A launch at its start: group 0 is to start, and nothing is logged. Assumes nothing.
-use mathlib.Core.Path.{◌≡◌, refl, sym, ◌∙◌, ap, ap₂, subst}
+use mathlib.Core.Path.{◌≡◌, refl, sym, ◌∙◌, ap, subst}
 use mathlib.Core.Logic.{◌⊎◌, inl, inr}
 use mathlib.Core.List.{List, [], ◌∷◌, ◌++◌, map}
-use mathlib.Core.Bool.{Bool, true, false}
+use mathlib.Core.Bool.{false}
 use Prim.Native.Nat.{ℕ, zero, suc, ◌+◌, ◌-◌, ◌*◌, ◌<◌, ◌≤◌, min}
 use native.Mathlib.Omega.{arith}
 use native.Mathlib.Nat.{suc-mul, mul-le-mul_right}
@@ -11,26 +11,25 @@ use lib.Seq.{ext_get_or, take_all, drop-append_seam}
 use Rattle.spec.specs.Access.{Mode, reads, writes, adds}
 use Rattle.spec.specs.Limits.{log_per_cell, records_lent, max_records, groups_per_cell}
 use Rattle.spec.specs.Lists.{joined}
-use Rattle.spec.specs.Mask.{Mask, has}
-use Rattle.spec.specs.Log.{Log, masks_of, empty_log, log_words}
-use Rattle.spec.specs.GroupLog.{GroupLog, group_masks_of, empty_group_log, group_words}
+use Rattle.spec.specs.Mask.{has}
+use Rattle.spec.specs.Log.{masks_of, empty_log, log_words}
+use Rattle.spec.specs.GroupLog.{group_masks_of, empty_group_log, group_words}
 use Rattle.spec.specs.Shape.{Sizes, Shape, shape_of, total}
 use Rattle.spec.specs.Table.{Table, rows_of}
 use Rattle.spec.specs.LockStep.{LockState, initial_state}
-use Rattle.spec.specs.LaunchRun.{group_runs, rows_left, runs_from}
+use Rattle.spec.specs.LaunchRun.{group_runs, rows_left}
 use Rattle.spec.specs.Intervals.{Interval, Intervals, all_of, intervals_from, records_of, record_words, interval_records}
 use Rattle.spec.proofs.Laws.{lt_or_le}
 use Rattle.allruns.proofs.LogRecord.{replicate_has}
-use Rattle.allruns.proofs.LaunchCounts.{run_at}
 use Rattle.layout.specs.Memory.{Masks}
-use Rattle.layout.specs.Views.{part, log_part, own_from, global_from, Sized}
+use Rattle.layout.specs.Views.{part, log_part, global_from, Sized}
 use Rattle.layout.specs.Shared.{group_part}
-use Rattle.layout.proofs.Parts.{part_at, part_size, same_log, log_part_masks}
-use Rattle.layout.proofs.GlobalTurn.{group_part_masks, same_groups}
+use Rattle.layout.proofs.Parts.{part_at, part_size, same_log}
+use Rattle.layout.proofs.GlobalTurn.{same_groups}
 use Rattle.layout.proofs.LogBuffer.{empty_is}
 use Rattle.banks.specs.Counting.{Older}
 use Rattle.banks.specs.Remembering.{Memo}
-use Rattle.intervals.specs.Records.{begun, Ledger}
+use Rattle.intervals.specs.Records.{begun}
 use Rattle.intervals.proofs.Ledger.{ledger_start, over_begun}
 use Rattle.spec.specs.Entries.{over}
 use Rattle.grouprun.specs.Groups.{GroupStart, followed}

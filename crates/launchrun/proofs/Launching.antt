@@ -1,49 +1,48 @@
 -- A launch between two groups' turns, from its start to its end. Assumes nothing.
-use mathlib.Core.Path.{◌≡◌, refl, sym, ◌∙◌, ap, ap₂, subst, subst₂}
+use mathlib.Core.Path.{◌≡◌, refl, sym, ◌∙◌, ap, ap₂, subst}
 use mathlib.Core.Logic.{◌⊎◌, inl, inr}
 use mathlib.Core.List.{List, [], ◌∷◌, ◌++◌, append-nil, append_assoc, map}
-use mathlib.Core.Bool.{Bool, true, false, cond, true≢false}
+use mathlib.Core.Bool.{true, false, cond, true≢false}
 use Prim.Native.Nat.{ℕ, zero, suc, ◌+◌, ◌-◌, ◌*◌, ◌<◌, ◌≤◌}
 use native.Mathlib.Omega.{arith}
 use native.Mathlib.Nat.{suc-mul, add-mul, mul-le-mul_right}
-use native.Mathlib.Decide.{ℕ_discrete}
 use lib.ListN.{length, get_or, replicate, take, drop, length-append, length-replicate, length-drop}
 use lib.Seq.{take-append_seam, take-append-le, drop-append-le}
 use Rattle.spec.specs.declared.Verdict.{Verdict}
 use Rattle.spec.specs.declared.Verdict.TheVariants.{Passed, Race, GroupRace, Outside, Common, Diverged, Spent}
 use Rattle.spec.specs.Answers.{is_passed}
-use Rattle.spec.specs.Access.{Mode, reads, writes, adds}
-use Rattle.spec.specs.Limits.{log_per_cell, records_lent, max_records, groups_per_cell}
+use Rattle.spec.specs.Access.{Mode}
+use Rattle.spec.specs.Limits.{log_per_cell, records_lent, groups_per_cell}
 use Rattle.spec.specs.Lists.{joined, last_of}
 use Rattle.spec.specs.Mask.{has}
-use Rattle.spec.specs.Log.{Log, masks_of, empty_log, log_words}
+use Rattle.spec.specs.Log.{Log, empty_log, log_words}
 use Rattle.spec.specs.GroupLog.{GroupLog, group_masks_of, empty_group_log, group_words}
 use Rattle.spec.specs.Shape.{Sizes, Shape, shape_of, total, is_global}
 use Rattle.spec.specs.Table.{Table, rows_of}
-use Rattle.spec.specs.LockStep.{LockState, LockResult, initial_state, run_from, outcome_of}
+use Rattle.spec.specs.LockStep.{LockState, LockResult, run_from, outcome_of}
 use Rattle.spec.specs.Launch.{all_log_words}
 use Rattle.spec.specs.LaunchRun.{GroupRun, group_result, group_runs, last_group, last_run, lockstep, next_start, rows_left, runs_from, steps_by_launch}
-use Rattle.spec.specs.Intervals.{Interval, Intervals, all_of, started, intervals_from, records_of, interval_records, record_words, conflicts_of}
+use Rattle.spec.specs.Intervals.{Interval, Intervals, all_of, started, intervals_from, interval_records, conflicts_of}
 use Rattle.spec.specs.Entries.{over}
 use Rattle.allruns.proofs.LockInvariants.{RunKeeps, run_keeps}
 use Rattle.allruns.proofs.LaunchCounts.{run_at, start_behind}
 use Rattle.allruns.proofs.GroupMatches.{empty_groups_sized}
 use Rattle.layout.specs.Memory.{Masks}
 use Rattle.layout.specs.Views.{part, put_part, log_part, put_log, own_from, global_from, Sized}
-use Rattle.layout.specs.Shared.{group_part, put_groups}
+use Rattle.layout.specs.Shared.{group_part}
 use Rattle.layout.proofs.Parts.{LogFits, part_size, put_size, sized_fits, own_before, own_within, global_within, log_part_fits, put_log_fits, log_part_above, masks_part}
 use Rattle.layout.proofs.GlobalTurn.{group_part_masks}
 use Rattle.banks.specs.Counting.{Older}
 use Rattle.banks.specs.Remembering.{Memo}
-use Rattle.intervals.specs.Records.{in_use, ended, released, costs_up_to, EndAsks, Ledger}
-use Rattle.intervals.proofs.Ledger.{ends_here, rows_word, ledger_opens, ledger_words, ledger_conflicts, ledger_ends}
+use Rattle.intervals.specs.Records.{in_use, released, costs_up_to, EndAsks, Ledger}
+use Rattle.intervals.proofs.Ledger.{rows_word, ledger_opens, ledger_words, ledger_conflicts, ledger_ends}
 use Rattle.stepcounts.proofs.Tallies.{over_zeros}
 use Rattle.placing.specs.Kinds.{kinds_placed}
 use Rattle.placing.proofs.Stretches.{put_behind, put_before, put_front, counts_put}
 use Rattle.placing.proofs.Logs.{log_placed, groups_placed, empty_group_words, log_words_size}
 use Rattle.grouprun.proofs.Recording.{intervals_start}
 use Rattle.grouprun.specs.declared.Ended.{Ended}
-use Rattle.grouprun.specs.Groups.{GroupStart, GroupEnd, GroupRan, SomeStart, followed}
+use Rattle.grouprun.specs.Groups.{GroupStart, GroupEnd, SomeStart, followed}
 use Rattle.spec.specs.declared.Outcome.{Outcome}
 use Rattle.groupturn.specs.Turns.{TurnDone}
 use Rattle.launchend.specs.Ends.{placed_log, Closed}

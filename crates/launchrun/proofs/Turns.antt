@@ -1,5 +1,5 @@
 -- A group's turn in the launch's buffers: what it asks, and what is done with what it leaves. Assumes nothing.
-use mathlib.Core.Path.{◌≡◌, refl, sym, ◌∙◌, ap, subst}
+use mathlib.Core.Path.{◌≡◌, sym, ◌∙◌, ap, subst}
 use mathlib.Core.Logic.{◌⊎◌, inl, inr}
 use mathlib.Core.List.{List, [], ◌++◌}
 use mathlib.Core.Bool.{true, false}
@@ -7,7 +7,7 @@ use Prim.Native.Nat.{ℕ, suc, ◌+◌, ◌-◌, ◌*◌, ◌<◌, ◌≤◌}
 use native.Mathlib.Omega.{arith}
 use lib.ListN.{length, get_or}
 use Rattle.spec.specs.Answers.{is_passed}
-use Rattle.spec.specs.Limits.{log_per_cell, records_lent, groups_per_cell}
+use Rattle.spec.specs.Limits.{log_per_cell, groups_per_cell}
 use Rattle.spec.specs.Shape.{Sizes}
 use Rattle.spec.specs.Table.{rows_of}
 use Rattle.spec.specs.LaunchRun.{group_result}
