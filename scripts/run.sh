@@ -21,7 +21,7 @@ build() {
 run() {
     local command=$1 program=$root/target/bin/$1program
     shift
-    if [ ! -x "$program" ] || [ -n "$(find "$root/crates" "$root/crates.txt" -name out -prune -o -newer "$program" -print -quit)" ]; then
+    if [ ! -x "$program" ] || [ -n "$(find "$root/crates" "$root/crates.txt" -name out -prune -o -type f -newer "$program" -print -quit)" ]; then
         build "$command"
     fi
     exec "$program" "$@"
