@@ -1,7 +1,7 @@
 -- What is printed, by what the whole-file entry and the report writer answer. Assumes nothing.
 use mathlib.Core.Path.{◌≡◌, refl, sym, ap, ap₂, subst, ◌∙◌}
 use mathlib.Core.List.{List}
-use mathlib.Core.Option.{Option, none, some, none-ne-some, some-injective}
+use mathlib.Core.Option.{Option, none, some-injective}
 use Prim.Native.Nat.{ℕ, ◌≤◌}
 use native.Mathlib.Omega.{arith}
 use borrow.Author.Tests.{eq-eqb, le-leb}
@@ -9,12 +9,11 @@ use lib.ListN.{length, take, drop, length-append, length-drop}
 use Rattle.spec.specs.declared.Refusal.{Refusal}
 use Rattle.spec.specs.declared.Written.{Written}
 use Rattle.spec.specs.declared.Written.TheVariants.{Refused, Wrote}
-use Rattle.spec.specs.declared.Subject.TheVariants as subject
 use Rattle.spec.specs.Answers.{unless, or_else, first, refusal_number, refusal_place}
 use Rattle.spec.specs.Launch.{Launch}
 use Rattle.spec.specs.LaunchFile.{Checked, refused, accepted, unless_refused, file_launch}
-use Rattle.spec.specs.Report.{refusal_report, report_of}
-use Rattle.spec.specs.Entries.{over, writer_refusal, written_of, writer_answer, writer_buffer, kept_if, file_lent, and_state, file_checked, launch_report}
+use Rattle.spec.specs.Report.{refusal_report}
+use Rattle.spec.specs.Entries.{over, file_lent, and_state, file_checked, launch_report}
 use Rattle.spec.specs.Entries.{report_length, if_accepted, file_answer, file_output_after, printed, check_prints}
 use Rattle.spec.specs.Demands.{ReportDemand3, FileReadable}
 use Rattle.spec.proofs.Laws.{front_of_lem}

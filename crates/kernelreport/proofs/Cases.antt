@@ -1,8 +1,7 @@
 -- The cases of a kernel's report: its own refusal, the common file's, its run. Assumes nothing.
-use mathlib.Core.Path.{◌≡◌, refl, sym, ap, ap₂, subst, ◌∙◌}
+use mathlib.Core.Path.{◌≡◌, refl, sym, ap, ap₂, ◌∙◌}
 use mathlib.Core.List.{List}
 use Prim.Native.Nat.{ℕ, ◌≤◌}
-use native.Mathlib.Omega.{arith}
 use lib.ListN.{length}
 use Rattle.admission.specs.declared.Admission.{Admission}
 use Rattle.admission.specs.declared.Admission.TheVariants as admission
@@ -12,7 +11,7 @@ use Rattle.spec.specs.Limits.{file_output}
 use Rattle.spec.specs.Launch.{Launch}
 use Rattle.spec.specs.LaunchFile.{Checked, refused, accepted, file_launch}
 use Rattle.spec.specs.Report.{refusal_report}
-use Rattle.spec.specs.Entries.{over, bare_launch, printed, launch_report}
+use Rattle.spec.specs.Entries.{over, bare_launch, printed}
 use Rattle.spec.specs.PairFiles.{sharing, kernel_checked}
 use Rattle.commonfile.specs.CommonRead.{answer_of}
 use Rattle.launchfile.specs.declared.Launch as code
