@@ -496,7 +496,8 @@ module _ (table ends : List ℕ) (n group limit : ℕ) (common : List ℕ) (L : 
     counted : RowSteps (row_at T G.here.row).op G.here done
     counted = row_steps T L (row_at T G.here.row) G.here (row_at T G.here.row).op
 
-    module _ (few_cells_lem : length cells ≤ 1024) (few-common : length common ≤ max_common) (r : Next) (regs' cells' log' saved' openers' global' shared' masks' counts' stamps' memo' records' : List ℕ)
+    module _ (few_cells_lem : length cells ≤ 1024) (few-common : length common ≤ max_common) (r : Next)
+        (regs' cells' log' saved' openers' global' shared' masks' counts' stamps' memo' records' : List ℕ)
         (S : GroupSteps table n group s common regs cells log saved openers global shared masks r regs' cells' log' saved' openers' global' shared' masks')
         (C : NextCounted (get_or table (s.row * 4) 0) s r counts counts')
         (K : RowRecorded (get_or table (s.row * 4) 0) n group (cell_due table s regs) s r records records' stamps' memo') where

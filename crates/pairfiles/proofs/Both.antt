@@ -1,15 +1,12 @@
 -- One kernel's report behind the other's, and what both say. Assumes nothing.
-use mathlib.Core.Path.{◌≡◌, refl, sym, ap, ap₂, subst, ◌∙◌}
+use mathlib.Core.Path.{◌≡◌, refl, sym, ap, subst, ◌∙◌}
 use mathlib.Core.List.{List, ◌++◌}
-use mathlib.Core.Bool.{true, false}
-use mathlib.Core.Option.{Option, none, some}
+use mathlib.Core.Option.{none, some}
 use Prim.Native.Nat.{ℕ, ◌+◌, ◌-◌, ◌<◌, ◌≤◌}
 use native.Mathlib.Omega.{arith}
 use borrow.Author.Tests.{le-leb, lt-leb}
 use lib.ListN.{length, take, drop, length-drop}
 use lib.Seq.{length-take-le, take_all}
-use Rattle.admission.specs.declared.Admission.{Admission}
-use Rattle.spec.specs.declared.Refusal.{Refusal}
 use Rattle.spec.specs.declared.Refusal.TheVariants.{OutputLength}
 use Rattle.spec.specs.declared.Written.{Written}
 use Rattle.spec.specs.declared.Written.TheVariants.{Refused, Wrote}
@@ -18,11 +15,11 @@ use Rattle.spec.specs.Limits.{max_common, file_output, pair_output}
 use Rattle.spec.specs.LaunchFile.{file_launch}
 use Rattle.spec.specs.Entries.{over, kept_if, written_of, printed}
 use Rattle.spec.specs.Demands.{OfWritten}
-use Rattle.spec.specs.PairFiles.{common_cells, kernel_checked, kernel_launch, kernel_prints, pair_prints, pair_refusal, pair_answer, pair_output_after}
+use Rattle.spec.specs.PairFiles.{kernel_checked, kernel_launch, kernel_prints, pair_prints, pair_refusal, pair_answer, pair_output_after}
 use Rattle.spec.specs.PairDemands.{PairDemand3}
 use Rattle.spec.proofs.Laws.{front_of_lem}
 use Rattle.readback.proofs.Pairs.{pair_demand3}
-use Rattle.reportlines.proofs.Writing.{Stands, started, onward, part, back}
+use Rattle.reportlines.proofs.Writing.{started, onward, part, back}
 use Rattle.commonfile.specs.declared.CommonFile.{CommonFile}
 use Rattle.commonfile.specs.CommonRead.{answer_of, CommonRead}
 use Rattle.commonfile.proofs.Prefix.{more_ignored}

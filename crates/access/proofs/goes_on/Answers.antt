@@ -1,4 +1,4 @@
--- `access::goes_on_lem` meets its contract: the cell's number, then the access test. Assumes nothing.
+-- `access::goes_on` meets its contract: the cell's number, then the access test. Assumes nothing.
 use mathlib.Core.Path.{◌∙◌, ap₂}
 use native.Mathlib.Omega.{arith}
 use Prim.Native.Nat.{ℕ, ◌+◌, ◌*◌}

@@ -29,7 +29,6 @@ returns-then-not-goes_on c =
       λ j f. refl,
     )
 
--- Each of the following has come by the cell's number, and by the test that it goes on in the group before that.
 pub rivals-others-requires : goal.rivals-others-requires
 rivals-others-requires c =
     let goes = (passes _ _ c.goes_on.ensures (not_from_true _ c.if-not-goes_on.false)) in

@@ -179,7 +179,8 @@ pub finish-requires-in-Stop : goal.finish-requires-in-Stop
 finish-requires-in-Stop c =
     let stop = c.stop in
     let S = c.requires.12 in
-    (stops (goal.at.finish-requires-in-Stop c).After-group_row (sizes (goal.at.finish-requires-in-Stop c).At-loop-s) _ _ c.in-Stop.is S.shape S.state S.start S.whole S.lent S.more S.ledger).rest stop.new.counts stop.ensures
+    (stops (goal.at.finish-requires-in-Stop c).After-group_row (sizes (goal.at.finish-requires-in-Stop c).At-loop-s) _ _ c.in-Stop.is S.shape S.state S.start
+    S.whole S.lent S.more S.ledger).rest stop.new.counts stop.ensures
 
 pub shape_of-cells-in-Stop : goal.shape_of-cells-in-Stop
 shape_of-cells-in-Stop c = c.group_row.auto.cells ∙ c.loop-s.invariant.0
@@ -204,7 +205,8 @@ returns-in-Stop c =
     let finish = c.finish-in-Stop in
     let stop = c.stop in
     λ L z S whole lent more B.
-    (stops (goal.at.returns-in-Stop c).After-group_row (sizes (goal.at.returns-in-Stop c).At-loop-s) _ _ c.in-Stop.is L z S whole lent more B).ran stop.new.counts finish.new.counts finish.result stop.ensures finish.ensures.answer
+    (stops (goal.at.returns-in-Stop c).After-group_row (sizes (goal.at.returns-in-Stop c).At-loop-s) _ _ c.in-Stop.is L z S whole lent more B).ran stop.new.counts
+    finish.new.counts finish.result stop.ensures finish.ensures.answer
     finish.ensures.counts
 
 pub finish-requires-2 : goal.finish-requires-2

@@ -88,7 +88,8 @@ returns c =
     let found = ap (part at args.k) back ∙ part_put at args.k ys args.cells.now (omega (arith, c.requires.cells_in)) count in
     record {
       ran = subst₂ (λ before after. GroupRan args.table.now args.n args.group args.limit args.rows args.barriers args.common.now before args.global.now
-          args.masks.now args.records.now run.result after c.run_group-r.new.log c.run_group-r.new.global c.run_group-r.new.shared c.run_group-r.new.masks c.run_group-r.new.records c.run_group-r.new.counts
+          args.masks.now args.records.now run.result after c.run_group-r.new.log c.run_group-r.new.global c.run_group-r.new.shared c.run_group-r.new.masks
+          c.run_group-r.new.records c.run_group-r.new.counts
           c.run_group-r.new.stamps c.run_group-r.new.memo) (lent (goal.at.returns c).After-first_thread-by) (sym found) run.ensures;
       cells_are = back ∙ ap (λ own. put_part at own args.cells.now) (sym found);
       log_is = placed.ensures ∙ ap (λ p. kinds_placed 0 args.total p args.k 5 c.run_group-r.new.log args.log.now) (place_is (goal.at.returns c).After-first_thread-by);

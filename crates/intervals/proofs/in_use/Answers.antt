@@ -1,4 +1,4 @@
--- `intervals::in_use_lem` meets its contract. Assumes nothing.
+-- `intervals::in_use` meets its contract. Assumes nothing.
 use native.Mathlib.Omega.{arith}
 use Rattle.intervals.specs.Records.{in_use}
 use Rattle.intervals.proofs.in_use.Goals as goal

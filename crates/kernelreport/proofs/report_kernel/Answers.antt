@@ -31,36 +31,51 @@ found c = c.file_launch-own.ensures.found c.in_default.is
 pub returns-in-Refused-found : goal.returns-in-Refused-found
 returns-in-Refused-found c =
     let args = c.args in
-    common_refused args.file.now args.found args.common.now args.output.now (launch_of_lem (goal.at.returns-in-Refused-found c).In_default) (ends_of (goal.at.returns-in-Refused-found c).In_default) (found (goal.at.returns-in-Refused-found c).In_default) _ c.in-Refused-found.is _ _
+    common_refused args.file.now args.found args.common.now args.output.now (launch_of_lem (goal.at.returns-in-Refused-found c).In_default)
+    (ends_of (goal.at.returns-in-Refused-found c).In_default) (found (goal.at.returns-in-Refused-found c).In_default) _ c.in-Refused-found.is _ _
     (c.report_refusal-in-Refused-found.ensures.long, (c.report_refusal-in-Refused-found.ensures.written, c.report_refusal-in-Refused-found.ensures.fits))
 
 pub overflow_mul-used : goal.overflow_mul-used
-overflow_mul-used c = omega (arith, few_rows_lem (file_of (goal.at.overflow_mul-used c).In_default) (launch_of_lem (goal.at.overflow_mul-used c).In_default) (ends_of (goal.at.overflow_mul-used c).In_default) (found (goal.at.overflow_mul-used c).In_default))
+overflow_mul-used c = omega (
+  arith,
+  few_rows_lem (file_of (goal.at.overflow_mul-used c).In_default) (launch_of_lem (goal.at.overflow_mul-used c).In_default)
+      (ends_of (goal.at.overflow_mul-used c).In_default) (found (goal.at.overflow_mul-used c).In_default),
+)
 
 pub slice_bounds-table-end : goal.slice_bounds-table-end
-slice_bounds-table-end c = table_used (file_of (goal.at.slice_bounds-table-end c).In_default) (launch_of_lem (goal.at.slice_bounds-table-end c).In_default) (ends_of (goal.at.slice_bounds-table-end c).In_default) (found (goal.at.slice_bounds-table-end c).In_default)
+slice_bounds-table-end c = table_used (file_of (goal.at.slice_bounds-table-end c).In_default) (launch_of_lem (goal.at.slice_bounds-table-end c).In_default)
+    (ends_of (goal.at.slice_bounds-table-end c).In_default) (found (goal.at.slice_bounds-table-end c).In_default)
 
 pub slice_bounds-report_own-end : goal.slice_bounds-report_own-end
-slice_bounds-report_own-end c = table_length (file_of (goal.at.slice_bounds-report_own-end c).In_default) (launch_of_lem (goal.at.slice_bounds-report_own-end c).In_default) (ends_of (goal.at.slice_bounds-report_own-end c).In_default) (found (goal.at.slice_bounds-report_own-end c).In_default)
+slice_bounds-report_own-end c = table_length (file_of (goal.at.slice_bounds-report_own-end c).In_default)
+    (launch_of_lem (goal.at.slice_bounds-report_own-end c).In_default) (ends_of (goal.at.slice_bounds-report_own-end c).In_default) (found (goal.at.slice_bounds-report_own-end c).In_default)
 
 pub slice_bounds-words-end : goal.slice_bounds-words-end
-slice_bounds-words-end c = own_used (file_of (goal.at.slice_bounds-words-end c).In_default) (launch_of_lem (goal.at.slice_bounds-words-end c).In_default) (ends_of (goal.at.slice_bounds-words-end c).In_default) (found (goal.at.slice_bounds-words-end c).In_default)
+slice_bounds-words-end c = own_used (file_of (goal.at.slice_bounds-words-end c).In_default) (launch_of_lem (goal.at.slice_bounds-words-end c).In_default)
+    (ends_of (goal.at.slice_bounds-words-end c).In_default) (found (goal.at.slice_bounds-words-end c).In_default)
 
 pub slice_bounds-report_own-end-2 : goal.slice_bounds-report_own-end-2
-slice_bounds-report_own-end-2 c = own_length (file_of (goal.at.slice_bounds-report_own-end-2 c).In_default) (launch_of_lem (goal.at.slice_bounds-report_own-end-2 c).In_default) (ends_of (goal.at.slice_bounds-report_own-end-2 c).In_default) (found (goal.at.slice_bounds-report_own-end-2 c).In_default)
+slice_bounds-report_own-end-2 c = own_length (file_of (goal.at.slice_bounds-report_own-end-2 c).In_default)
+    (launch_of_lem (goal.at.slice_bounds-report_own-end-2 c).In_default) (ends_of (goal.at.slice_bounds-report_own-end-2 c).In_default) (found (goal.at.slice_bounds-report_own-end-2 c).In_default)
 
 pub slice_bounds-shared-end : goal.slice_bounds-shared-end
-slice_bounds-shared-end c = global_used (file_of (goal.at.slice_bounds-shared-end c).In_default) (launch_of_lem (goal.at.slice_bounds-shared-end c).In_default) (ends_of (goal.at.slice_bounds-shared-end c).In_default) (found (goal.at.slice_bounds-shared-end c).In_default)
+slice_bounds-shared-end c = global_used (file_of (goal.at.slice_bounds-shared-end c).In_default) (launch_of_lem (goal.at.slice_bounds-shared-end c).In_default)
+    (ends_of (goal.at.slice_bounds-shared-end c).In_default) (found (goal.at.slice_bounds-shared-end c).In_default)
 
 pub slice_bounds-report_own-end-3 : goal.slice_bounds-report_own-end-3
-slice_bounds-report_own-end-3 c = global_length (file_of (goal.at.slice_bounds-report_own-end-3 c).In_default) (launch_of_lem (goal.at.slice_bounds-report_own-end-3 c).In_default) (ends_of (goal.at.slice_bounds-report_own-end-3 c).In_default) (found (goal.at.slice_bounds-report_own-end-3 c).In_default)
+slice_bounds-report_own-end-3 c = global_length (file_of (goal.at.slice_bounds-report_own-end-3 c).In_default)
+    (launch_of_lem (goal.at.slice_bounds-report_own-end-3 c).In_default) (ends_of (goal.at.slice_bounds-report_own-end-3 c).In_default) (found (goal.at.slice_bounds-report_own-end-3 c).In_default)
 
 pub report_own-requires : goal.report_own-requires
-report_own-requires c =
-    (found_runs (file_of (goal.at.report_own-requires c).In_default) (launch_of_lem (goal.at.report_own-requires c).In_default) (ends_of (goal.at.report_own-requires c).In_default) (found (goal.at.report_own-requires c).In_default) c.args.common.now c.requires.0, c.requires.1)
+report_own-requires c = (
+  found_runs (file_of (goal.at.report_own-requires c).In_default) (launch_of_lem (goal.at.report_own-requires c).In_default)
+      (ends_of (goal.at.report_own-requires c).In_default) (found (goal.at.report_own-requires c).In_default) c.args.common.now c.requires.0,
+  c.requires.1,
+)
 
 pub returns : goal.returns
 returns c =
     let args = c.args in
-    ran args.file.now args.found args.common.now args.output.now (launch_of_lem (goal.at.returns c).In_default) (ends_of (goal.at.returns c).In_default) (found (goal.at.returns c).In_default) c.in_default-found.is _ _
+    ran args.file.now args.found args.common.now args.output.now (launch_of_lem (goal.at.returns c).In_default) (ends_of (goal.at.returns c).In_default)
+    (found (goal.at.returns c).In_default) c.in_default-found.is _ _
     c.report_own.ensures

@@ -61,7 +61,8 @@ run_launch-requires c =
     let l = lent_is (given (goal.at.run_launch-requires c).Start) _ _ _ _ (sym (lent.ensures args.threads) ∙ ap refusal_of c.in-Accepted-lent.is) in
     let own = ap (λ k. args.groups * k) each in
     record {
-      runnable = runnable table _ (readable table (given (goal.at.run_launch-requires c).Start) args.limit n).1 (sym read_table.ensures.answer ∙ ap refusal_of c.in-Accepted-answer.is) read_table.ensures.ends;
+      runnable = runnable table _ (readable table (given (goal.at.run_launch-requires c).Start) args.limit n).1
+          (sym read_table.ensures.answer ∙ ap refusal_of c.in-Accepted-answer.is) read_table.ensures.ends;
       some_threads = f.some_threads;
       few_threads_lem = f.few_threads_lem;
       some_groups = f.some_groups;

@@ -1,4 +1,4 @@
--- `launchend::goes_on_lem` meets its contract. Assumes nothing.
+-- `launchend::goes_on` meets its contract. Assumes nothing.
 use mathlib.Core.Path.{ap, sym}
 use mathlib.Core.Bool.{true≢false}
 use mathlib.Core.Logic.{inl, inr}

@@ -165,11 +165,19 @@ returns-then-not-goes_on c =
 
 pub overflow_add-barriers : goal.overflow_add-barriers
 overflow_add-barriers c =
-    omega (arith, few_groups_lem (due (goal.at.overflow_add-barriers c).After-turn-r), barriers_fit (due (goal.at.overflow_add-barriers c).After-turn-r) (turned (goal.at.overflow_add-barriers c).After-turn-r))
+    omega (
+      arith,
+      few_groups_lem (due (goal.at.overflow_add-barriers c).After-turn-r),
+      barriers_fit (due (goal.at.overflow_add-barriers c).After-turn-r)
+          (turned (goal.at.overflow_add-barriers c).After-turn-r),
+    )
 
 pub release-requires : goal.release-requires
-release-requires c =
-    (omega (arith, (kept (goal.at.release-requires c).After-turn-r).records_long, (due (goal.at.release-requires c).After-turn-r).asks.lent), release_asks (due (goal.at.release-requires c).After-turn-r) (turned (goal.at.release-requires c).After-turn-r))
+release-requires c = (
+  omega (arith, (kept (goal.at.release-requires c).After-turn-r).records_long, (due (goal.at.release-requires c).After-turn-r).asks.lent),
+  release_asks
+      (due (goal.at.release-requires c).After-turn-r) (turned (goal.at.release-requires c).After-turn-r),
+)
 
 pub overflow_add-g : goal.overflow_add-g
 overflow_add-g c = omega (arith, few_groups_lem (due (goal.at.overflow_add-g c).After-turn-r))

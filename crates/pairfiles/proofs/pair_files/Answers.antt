@@ -1,5 +1,4 @@
 -- `pairfiles::pair_files` meets its contract. Assumes nothing.
-use borrow.Author.Rules.{rules}
 use Rattle.pairfiles.proofs.Both.{too_short, reported}
 use Rattle.pairfiles.proofs.pair_files.Goals as goal
 

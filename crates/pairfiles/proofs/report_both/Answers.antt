@@ -1,6 +1,5 @@
 -- `pairfiles::report_both` meets its contract. The trigger's report stands behind the filter's. Assumes nothing.
 use native.Mathlib.Omega.{arith}
-use borrow.Author.Rules.{rules}
 use Rattle.pairfiles.proofs.Both.{rest_room, words_length, words_few, kernel_printed, both}
 use Rattle.pairfiles.proofs.report_both.Goals as goal
 

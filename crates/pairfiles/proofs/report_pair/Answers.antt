@@ -11,17 +11,11 @@ pub returns : goal.returns
 returns c =
     let args = c.args in
     let both = c.report_both.ensures in
-    let told = let room : pair_output ≤ length args.output.now = search rules in (
-      both.long,
-      (
-        both.written,
-        (
-          omega (arith, both.fits, c.report_both.auto.output, room),
-          (
-            said args.filter.now args.trigger.now args.common.now args.output.now room _ _ both,
-            cut_short args.filter.now args.trigger.now args.common.now,
-          ),
-        ),
-      ),
-    ) in
-    record { long = told.0; written = told.1.0; fits = told.1.1.0; runs = told.1.1.1.0; enough = told.1.1.1.1 }
+    let room : pair_output ≤ length args.output.now = search rules in
+    record {
+      long = both.long;
+      written = both.written;
+      fits = omega (arith, both.fits, c.report_both.auto.output, room);
+      runs = said args.filter.now args.trigger.now args.common.now args.output.now room _ _ both;
+      enough = cut_short args.filter.now args.trigger.now args.common.now;
+    }

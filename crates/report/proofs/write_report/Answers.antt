@@ -13,4 +13,10 @@ unfolding without_lines
 returns-in-Refused c =
     let args = c.args in
     let told = whole _ [] [] [] args.out.now _ _ (c.report_refusal.ensures.answer, (c.report_refusal.ensures.buffer, c.report_refusal.ensures.fits)) in
-    record { answer = rw c.in-Refused.is told.0; buffer = rw c.in-Refused.is told.1.0; fits = rw c.in-Refused.is told.1.1.0; refusal = rw c.in-Refused.is told.1.1.1.0; reads = rw c.in-Refused.is told.1.1.1.1 }
+    record {
+      answer = rw c.in-Refused.is told.0;
+      buffer = rw c.in-Refused.is told.1.0;
+      fits = rw c.in-Refused.is told.1.1.0;
+      refusal = rw c.in-Refused.is told.1.1.1.0;
+      reads = rw c.in-Refused.is told.1.1.1.1;
+    }

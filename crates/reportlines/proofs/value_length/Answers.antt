@@ -34,7 +34,15 @@ overflow_sub-result c = (word_at (word (goal.at.overflow_sub-result c).In-Word))
 
 pub returns-in-Word : goal.returns-in-Word
 unfolding starts
-returns-in-Word c = (part_size (word_at (word (goal.at.returns-in-Word c).In-Word)), omega (arith, part_size (word_at (word (goal.at.returns-in-Word c).In-Word)), word_short (word (goal.at.returns-in-Word c).In-Word)))
+returns-in-Word c = (
+  part_size (word_at (word (goal.at.returns-in-Word c).In-Word)),
+  omega (
+    arith,
+    part_size
+        (word_at (word (goal.at.returns-in-Word c).In-Word)),
+    word_short (word (goal.at.returns-in-Word c).In-Word),
+  ),
+)
 
 pub returns-in-Digits : goal.returns-in-Digits
 returns-in-Digits c =
