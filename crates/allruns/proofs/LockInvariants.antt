@@ -63,7 +63,9 @@ module _ (T : Table) (L : Shape) (P : LockState → Type 0) (k : RowsKeep T L P)
   after_enabled f g s h = after_then (in_turn f _ s) _ (after_turns f g _ s h) (λ z p. k.onward z _ _ _ p)
 
   after_access : (p : Space) (m : Mem) (r : ℕ) (s : LockState) (t : ℕ) → P s → After (access_turn L p m (row_at T r) s t)
-  after_access p m r s t h = turn_cases L p m (row_at T r) s t After (λ l u. h) (λ v l u. k.takes s r t v p _ _ u h) (λ l u. h) (λ o y l a. h) (λ g y l a b. h) (λ l a b. k.accesses s r t _ p m l h)
+  after_access p m r s t h =
+      turn_cases L p m (row_at T r) s t After (λ l u. h) (λ v l u. k.takes s r t v p _ _ u h) (λ l u. h) (λ o y l a. h)
+      (λ g y l a b. h) (λ l a b. k.accesses s r t _ p m l h)
 
   after_while : (s : LockState) (v : List Saved) (m : Mask) → P s → P (leave_or_stay T s v m)
   unfolding leave_or_stay

@@ -209,7 +209,9 @@ unfolding computing
 crossing_passes = (refl, refl)
 
 -- One step each for the seven rows, no bank conflict, and the two stores in the log.
-pub crossing_counts : (launch_steps crossing ≡ 7 ∷ 7 ∷ []) × ((launch_outcome crossing).conflicts ≡ 0) × (launch_log crossing ≡ 0 ∷ 0 ∷ 2 ∷ 1 ∷ 0 ∷ 0 ∷ 88 ∷ 77 ∷ replicate 8 0)
+pub crossing_counts :
+    (launch_steps crossing ≡ 7 ∷ 7 ∷ []) × ((launch_outcome crossing).conflicts ≡ 0)
+    × (launch_log crossing ≡ 0 ∷ 0 ∷ 2 ∷ 1 ∷ 0 ∷ 0 ∷ 88 ∷ 77 ∷ replicate 8 0)
 unfolding computing
 crossing_counts = (refl, refl, refl)
 
@@ -257,7 +259,9 @@ moved l ones zeros =
     (map (λ t. of_group 0 (row t)) (replicate ones 1 ++ replicate zeros 0))
 
 -- Thread 1 to its end and then thread 0: a common load is one move, and no store races with it.
-pub threads_load : ((moved crossing 7 7).cells ≡ 88 ∷ 77 ∷ []) × ((moved crossing 7 7).bad ≡ false) × (map (λ p. map (λ t. t.row) p.threads) (moved crossing 7 6).parts ≡ (6 ∷ 7 ∷ []) ∷ [])
+pub threads_load :
+    ((moved crossing 7 7).cells ≡ 88 ∷ 77 ∷ []) × ((moved crossing 7 7).bad ≡ false)
+    × (map (λ p. map (λ t. t.row) p.threads) (moved crossing 7 6).parts ≡ (6 ∷ 7 ∷ []) ∷ [])
 unfolding computing moved
 threads_load = (refl, refl, refl)
 

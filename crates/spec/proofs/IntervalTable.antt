@@ -87,7 +87,8 @@ unfolding computing four_threads
 used_cells_lem = refl
 
 pub row_costs : map (λ x. row_cost x (four_threads (replicate 4 true)) x.op)
-    (row_of 16 1 2 0 ∷ row_of 16 2 1 0 ∷ row_of 16 1 1 0 ∷ row_of 16 0 3 0 ∷ row_of 17 1 2 0 ∷ row_of 17 2 1 0 ∷ row_of 17 3 0 0 ∷ row_of 18 1 2 0 ∷ row_of 18 2 1 0 ∷ row_of 18 3 0 0 ∷ [])
+    (row_of 16 1 2 0 ∷ row_of 16 2 1 0 ∷ row_of 16 1 1 0 ∷ row_of 16 0 3 0 ∷ row_of 17 1 2 0 ∷ row_of 17 2 1 0 ∷ row_of 17 3 0 0
+    ∷ row_of 18 1 2 0 ∷ row_of 18 2 1 0 ∷ row_of 18 3 0 0 ∷ [])
     ≡ 0 ∷ 3 ∷ 3 ∷ 2 ∷ 3 ∷ 0 ∷ 2 ∷ 3 ∷ 0 ∷ 2 ∷ []
 unfolding computing four_threads
 row_costs = refl
