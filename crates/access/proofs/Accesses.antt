@@ -25,8 +25,8 @@ use Rattle.spec.specs.Log.{logged, conflict_mask, race_kind}
 use Rattle.spec.specs.LockStep.{LockState, Step, continues, stops, update, reg, set_reg, made_access, enter_group, rivals, try_access, past_turn, access_turn}
 use Rattle.masks.proofs.Bits.{or_less}
 use Rattle.masks.proofs.Words.{any_none, any_some, lowest_is}
-use Rattle.layout.specs.declared.Access.{Access}
-use Rattle.layout.specs.declared.Access.TheVariants.{Done, Stop}
+use Rattle.layout.specs.Memory.{Access}
+use Rattle.std.specs.Prelude.{Ok, Err}
 use Rattle.layout.specs.declared.Halt.{Halt}
 use Rattle.layout.specs.Memory.{Regs, LogIs, Memory, Kept, Did, OneTurn, AccessOne, KeptBut, AccessAsks, shape_by, cell_by, Transferred}
 use Rattle.layout.specs.Memory.{CellRegister, CellNumber, TestAsks, goes_on, takes_common, TurnMade, Halted}
@@ -175,12 +175,12 @@ turn_still n t y x common cells₀ regs cells log regs' cells' log' r e d =
     subst (λ k. OneTurn (access_turn (shape_of (with_common common (sizes n k 1 0)) 0) OWN y x) n t regs cells log r regs' cells' log') e d
 
 -- What a loop over a row's threads has shown where it halts at thread r .thread, m being what is left of the mask.
-pub halted_at : (op n mask d a : ℕ) (common regs₀ cells₀ log₀ : List ℕ) (r : Halt) (m : ℕ) (regs cells log : List ℕ) → r.thread < n → m % 2 ≡ 1
-    → length cells ≡ length cells₀ → r.bit ≡ 2 ^ r.thread → CellNumber op d a r.thread regs r.cell
-    → goes_on op (get_or regs (a * 32 + r.thread) 0) r.bit r.cell cells log ≡ false
-    → takes_common op r.cell common ≡ false
+pub halted_at : (op n mask d a : ℕ) (common regs₀ cells₀ log₀ : List ℕ) (r : Halt) (m : ℕ) (regs cells log : List ℕ) → r.turn.thread < n → m % 2 ≡ 1
+    → length cells ≡ length cells₀ → r.turn.bit ≡ 2 ^ r.turn.thread → CellNumber op d a r.turn.thread regs r.turn.cell
+    → goes_on op (get_or regs (a * 32 + r.turn.thread) 0) r.turn.bit r.turn.cell cells log ≡ false
+    → takes_common op r.turn.cell common ≡ false
     → ((y : Mem) (x : Row) → op_of op ≡ MEM OWN y → x.d ≡ d → x.a ≡ a
-    → Turns (access_turn (shape_by n cells₀ common) OWN y x) n mask regs₀ cells₀ log₀ r.thread m regs cells log)
+    → Turns (access_turn (shape_by n cells₀ common) OWN y x) n mask regs₀ cells₀ log₀ r.turn.thread m regs cells log)
     → Halted op n mask d a common regs₀ cells₀ log₀ r regs cells log
 halted_at op n mask d a common regs₀ cells₀ log₀ r m regs cells log h odd e b N g u T =
     record {
@@ -190,16 +190,16 @@ halted_at op n mask d a common regs₀ cells₀ log₀ r m regs cells log h odd 
       refused = g;
       untaken = u;
       stops = λ v D y x o ed ea s q l M.
-          turn_stop (access_turn (shape_by n cells₀ common) OWN y x) n s r.thread m regs cells log (T y x o ed ea s q l M) v regs cells log h odd
-          (turn_still n r.thread y x common cells₀ _ _ _ _ _ _ _ e (D n y x o h ed ea));
+          turn_stop (access_turn (shape_by n cells₀ common) OWN y x) n s r.turn.thread m regs cells log (T y x o ed ea s q l M) v regs cells log h odd
+          (turn_still n r.turn.thread y x common cells₀ _ _ _ _ _ _ _ e (D n y x o h ed ea));
     }
 
 -- The same of a thread's turn that did not go on.
 pub halted_turn : (op n mask d a : ℕ) (common regs₀ cells₀ log₀ : List ℕ) (r : Halt) (m : ℕ) (regs cells log : List ℕ) (w : Bool) (regs' cells' log' : List ℕ)
-    → r.thread < n → m % 2 ≡ 1 → length cells ≡ length cells₀ → r.bit ≡ 2 ^ r.thread → CellNumber op d a r.thread regs r.cell
-    → TurnMade op r.thread d a r.cell r.bit common regs cells log w regs' cells' log' → not w ≡ true
+    → r.turn.thread < n → m % 2 ≡ 1 → length cells ≡ length cells₀ → r.turn.bit ≡ 2 ^ r.turn.thread → CellNumber op d a r.turn.thread regs r.turn.cell
+    → TurnMade op r.turn.thread d a r.turn.cell r.turn.bit common regs cells log w regs' cells' log' → not w ≡ true
     → ((y : Mem) (x : Row) → op_of op ≡ MEM OWN y → x.d ≡ d → x.a ≡ a
-    → Turns (access_turn (shape_by n cells₀ common) OWN y x) n mask regs₀ cells₀ log₀ r.thread m regs cells log)
+    → Turns (access_turn (shape_by n cells₀ common) OWN y x) n mask regs₀ cells₀ log₀ r.turn.thread m regs cells log)
     → Halted op n mask d a common regs₀ cells₀ log₀ r regs' cells' log'
 halted_turn op n mask d a common regs₀ cells₀ log₀ r m regs cells log w regs' cells' log' h odd e b N S q T =
     let at = S.stays (halts w w refl q) in
@@ -264,10 +264,10 @@ module _ (n t : ℕ) (s : LockState) (regs cells log : List ℕ) (M : Memory n s
         turn_at ∙ ap (λ z. cond z (past_turn s t d i (past shape OWN i kind)) (try_access shape OWN s t d i kind)) (le-leb (length cells) i g)
         ∙ ap (λ z. past_turn s t d i (cond z (at_common kind (get_or common (i - common_from) 0)) nowhere)) e
 
-    pub outside_did : (v : ℕ) → v ≡ i → length cells ≤ i → in_common common i ≡ false → Did n s turn (Stop (Outside t v)) regs cells log
+    pub outside_did : (v : ℕ) → v ≡ i → length cells ≤ i → in_common common i ≡ false → Did n s turn (Err (Outside t v)) regs cells log
     outside_did v ev g f =
         did (stops (Outside t i) s) _ regs cells log (beyond g false f ∙ (unfold past_turn in refl))
-        (record { answer = ap (λ z. Stop (Outside t z)) ev; memory = M; kept = kept_none s })
+        (record { answer = ap (λ z. Err (Outside t z)) ev; memory = M; kept = kept_none s })
 
     -- a common cell: a LOAD takes its word, any other access stops
     kind_load : op ≡ 16 → kind ≡ load
@@ -291,7 +291,7 @@ module _ (n t : ℕ) (s : LockState) (regs cells log : List ℕ) (M : Memory n s
         }
 
     pub taken_did : (regs' : List ℕ) → op ≡ 16 → length cells ≤ i → in_common common i ≡ true
-        → regs' ≡ set regs (d * 32 + j) (get_or common (i - common_from) 0) → Did n s turn Done regs' cells log
+        → regs' ≡ set regs (d * 32 + j) (get_or common (i - common_from) 0) → Did n s turn (Ok tt) regs' cells log
     taken_did regs' e g f er =
         let v = get_or common (i - common_from) 0 in
         did (continues (set_reg s t d v)) _ regs' cells log
@@ -301,10 +301,10 @@ module _ (n t : ℕ) (s : LockState) (regs cells log : List ℕ) (M : Memory n s
         kept_taken : (v : ℕ) → Kept s (set_reg s t d v)
         kept_taken v = unfold set_reg update in (record { row_same_lem = refl; enabled_same = refl; saved_same_lem = refl; rows_same = refl; barriers_same_lem = refl })
 
-    pub changed_did : (v : ℕ) → v ≡ i → (op ≡ 16 → ⊥) → length cells ≤ i → in_common common i ≡ true → Did n s turn (Stop (Common t v)) regs cells log
+    pub changed_did : (v : ℕ) → v ≡ i → (op ≡ 16 → ⊥) → length cells ≤ i → in_common common i ≡ true → Did n s turn (Err (Common t v)) regs cells log
     changed_did v ev f g e =
         did (stops (Common t i) s) _ regs cells log (beyond g true e ∙ by (which op p q))
-        (record { answer = ap (λ z. Stop (Common t z)) ev; memory = M; kept = kept_none s })
+        (record { answer = ap (λ z. Err (Common t z)) ev; memory = M; kept = kept_none s })
       where
         w : ℕ
         w = get_or common (i - common_from) 0
@@ -352,7 +352,7 @@ module _ (n t : ℕ) (s : LockState) (regs cells log : List ℕ) (M : Memory n s
 
       pub race_did : (u c : ℕ) (k : AccessKind) → c ≡ i → (met ≡ bit → ⊥) → u ≡ count_trailing_zeros 32 (met - bit)
           → k ≡ kind_word op v (length cells) i u log
-          → Did n s turn (Stop (Race t u k c)) regs cells log
+          → Did n s turn (Err (Race t u k c)) regs cells log
       race_did u c k ec ne eu K =
           let ek : k ≡ race_kind s.log i u kind =
           K ∙ ap (λ y. kind_word op y (length cells) i u log) value_is ∙ kind_means op (length cells) i log n (reg s t x.a) m s.log o p q l log_here u in
@@ -360,7 +360,7 @@ module _ (n t : ℕ) (s : LockState) (regs cells log : List ℕ) (M : Memory n s
           let low : u ≡ lowest others = eu ∙ ap (count_trailing_zeros 32) ew ∙ lowest_is others 32 (omega (arith, size, M.few)) some in
           did (stops (Race t (lowest others) (race_kind s.log i (lowest others) kind) i) s) _ regs cells log (inside ∙ rw some)
           (record {
-            answer = ap₂ (λ y z. Stop (Race t u y z)) ek ec ∙ ap (λ y. Stop (Race t y (race_kind s.log i y kind) i)) low;
+            answer = ap₂ (λ y z. Err (Race t u y z)) ek ec ∙ ap (λ y. Err (Race t y (race_kind s.log i y kind) i)) low;
             memory = M;
             kept = kept_none s;
           })
@@ -417,7 +417,7 @@ module _ (n t : ℕ) (s : LockState) (regs cells log : List ℕ) (M : Memory n s
       goes_turn z = let none : any others ≡ false = any_none others (sym ew ∙ omega (arith, z)) in inside ∙ rw none
 
       pub made_did : (regs' cells' log' : List ℕ) → met ≡ bit → Transferred op (d * 32 + j) (a * 32 + j) i regs cells regs' cells'
-          → log' ≡ entered_words op v (length cells) i bit log → Did n s turn Done regs' cells' log'
+          → log' ≡ entered_words op v (length cells) i bit log → Did n s turn (Ok tt) regs' cells' log'
       made_did regs' cells' log' z T E =
           let G : LogIs n (length s.cells) (logged s.log i t kind) log' =
           subst₂ (λ k g. LogIs n k (logged s.log i t kind) g) cells_size (sym (E ∙ ap (λ y. entered_words op y (length cells) i bit log) value_is))
@@ -432,7 +432,7 @@ module _ (n t : ℕ) (s : LockState) (regs cells log : List ℕ) (M : Memory n s
 
 -- A STORE or an ATOMIC ADD to a common cell.
 pub common_stops : (op d a t i : ℕ) (common regs cells log : List ℕ) → AccessAsks op d a cells log → CellNumber op d a t regs i → in_common common i ≡ true
-    → takes_common op i common ≡ false → AccessOne op t d a common regs cells log (Stop (Common t i)) regs cells log
+    → takes_common op i common ≡ false → AccessOne op t d a common regs cells log (Err (Common t i)) regs cells log
 common_stops op d a t i common regs cells log A N c f n m x o h ed ea s M =
     changed_did n t s regs cells log M h op d a t i m x o A.known A.small N ed ea A.target A.source refl common i refl
     (λ e. false≢true (sym f ∙ sym (takes_load op i common e) ∙ c)) (let far = common_is common i c in omega (arith, far.0, A.cells_few)) c

@@ -1,41 +1,33 @@
-// One thread's LOAD (16), STORE (17) or ATOMIC ADD (18): one path for all three.
+// One thread's LOAD, STORE or ATOMIC ADD: one path for all three.
 #![tactic(auto)]
 
-ghost use Rattle.std.specs.Prelude.{◌≡◌, true, false, ◌+◌, ◌*◌, ◌^◌, ◌<◌, length, get_or};
+ghost use Rattle.std.specs.Prelude.{Ok, ◌≡◌, true, false, ◌+◌, ◌*◌, ◌^◌, ◌<◌, ◌≤◌, length, get_or};
+ghost use Rattle.layout.specs.Ops.{number};
 ghost use Rattle.layout.specs.Logging.{SameBut};
-ghost use Rattle.layout.specs.declared.Access.TheVariants as access;
 ghost use Rattle.spec.specs.Shape.{in_common};
 ghost use Rattle.layout.specs.Memory.{AccessAsks, AccessOne, AccessMade, AccessStopped, TurnMade, takes_common, KeptBut, Transferred, CellRegister, CellNumber, TestAsks, goes_on};
 
-fn index(x: u32) -> usize
-    ensures { result ≡ x }
+// One more than the highest thread of this mask of n: a loop over threads ends there.
+pub fn reaching(mask: u32, n: u32) -> u32
+    requires { (n ≤ 32) × (mask < 2 ^ n) }
+    ensures { (mask < 2 ^ result) × (result ≤ n) }
 {
-    x as usize
+    32 - mask.leading_zeros()
 }
 
 // The access itself: what a LOAD puts in its register, what a STORE or an ATOMIC ADD puts in its cell.
-fn transfer(
-    regs: &mut [u32; 512],
-    cells: &mut [u32],
-    j: usize,
-    i: usize,
-    op: u8,
-    d: usize,
-    a: usize,
-)
-    requires { (j < 32) × (i < length cells.old) × (d < 16) × (a < 16) }
-    ensures { Transferred op (d * 32 + j) (a * 32 + j) i regs.old cells.old regs.new cells.new }
+fn transfer(regs: &mut [u32; 512], cells: &mut [u32], j: usize, i: usize, row: layout::AccessRow)
+    requires { (j < 32) × (i < length cells.old) × (row.d < 16) × (row.a < 16) }
+    ensures { Transferred (number row.op) (row.d * 32 + j) (row.a * 32 + j) i regs.old cells.old regs.new cells.new }
 {
-    if op == 16 {
-        regs[d * 32 + j] = cells[i];
-    } else if op == 17 {
-        cells[i] = regs[a * 32 + j];
-    } else {
-        cells[i] = words::add(cells[i], regs[a * 32 + j]);
+    match row.op {
+        layout::AccessOp::Load => regs[row.d * 32 + j] = cells[i],
+        layout::AccessOp::Store => cells[i] = regs[row.a * 32 + j],
+        layout::AccessOp::Add => cells[i] = words::add(cells[i], regs[row.a * 32 + j]),
     }
 }
 
-// The register with the cell's number: a LOAD has it in Ra, the others in Rd.
+// The register with the cell's number: a LOAD has it in Ra, the others in Rd. By the op's byte, and for any other byte too, as docs/ has these two.
 pub fn cell_register(op: u8, d: usize, a: usize) -> usize
     requires { (d < 16) × (a < 16) }
     ensures { CellRegister op d a result }
@@ -43,37 +35,40 @@ pub fn cell_register(op: u8, d: usize, a: usize) -> usize
     if op == 16 { a } else { d }
 }
 
-// The number of the cell that thread t accesses.
-pub fn cell_number(regs: &[u32; 512], t: u32, op: u8, d: usize, a: usize) -> u32
-    requires { (t < 32) × (d < 16) × (a < 16) }
-    ensures { CellNumber op d a t regs.now result }
+// The number of the cell that a thread accesses.
+pub fn cell_number(regs: &[u32; 512], thread: u32, op: u8, d: usize, a: usize) -> u32
+    requires { (thread < 32) × (d < 16) × (a < 16) }
+    ensures { CellNumber op d a thread regs.now result }
 {
-    let j = index(t);
-    let b = cell_register(op, d, a);
-    regs[b * 32 + j]
+    regs[cell_register(op, d, a) * 32 + thread as usize]
 }
 
-// Whether thread t's access, of the cell numbered x, goes on. The thread's bit is handed down, so that it is not shifted into place for each access.
+// The same of a row of accesses.
+pub fn accessed_cell(regs: &[u32; 512], thread: u32, row: layout::AccessRow) -> u32
+    requires { (thread < 32) × (row.d < 16) × (row.a < 16) }
+    ensures { CellNumber (number row.op) row.d row.a thread regs.now result }
+{
+    cell_number(regs, thread, row.op.byte(), row.d, row.a)
+}
+
+// Whether a thread's access goes on. The thread's bit is handed down, so that it is not shifted into place for each access.
 pub fn goes_on(
     regs: &[u32; 512],
     cells: &[u32],
     log: &[u32],
-    x: u32,
-    t: u32,
-    bit: u32,
-    op: u8,
-    a: usize,
+    turn: layout::Turn,
+    row: layout::AccessRow,
 ) -> bool
-    requires { (t < 32) × TestAsks op a cells.now log.now }
-    ensures { result ≡ goes_on op (get_or regs.now (a * 32 + t) 0) bit x cells.now log.now }
+    requires { (turn.thread < 32) × TestAsks (number row.op) row.a cells.now log.now }
+    ensures { result ≡ goes_on (number row.op) (get_or regs.now (row.a * 32 + turn.thread) 0) turn.bit turn.cell cells.now log.now }
 {
-    let j = index(t);
-    let i = index(x);
+    let i = turn.cell as usize;
     let n = cells.len();
     if n <= i {
         return false;
     }
-    accesslog::met(log, n, i, bit, regs[a * 32 + j], op) == bit
+    let v = regs[row.a * 32 + turn.thread as usize];
+    accesslog::met(log, n, i, turn.bit, v, row.op) == turn.bit
 }
 
 // The access itself, and its thread in the log.
@@ -81,120 +76,106 @@ pub fn make(
     regs: &mut [u32; 512],
     cells: &mut [u32],
     log: &mut [u32],
-    x: u32,
-    t: u32,
-    bit: u32,
-    op: u8,
-    d: usize,
-    a: usize,
+    turn: layout::Turn,
+    row: layout::AccessRow,
 )
-    requires { (t < 32) × AccessAsks op d a cells.old log.old × (bit ≡ 2 ^ t) × CellNumber op d a t regs.old x
-        × (goes_on op (get_or regs.old (a * 32 + t) 0) bit x cells.old log.old ≡ true) }
-    ensures { AccessMade op t d a regs.old cells.old log.old
-        regs.new cells.new log.new × KeptBut d (t + 1) regs.old regs.new
-        × SameBut x (length cells.old) log.old log.new }
+    requires { (turn.thread < 32) × AccessAsks (number row.op) row.d row.a cells.old log.old × (turn.bit ≡ 2 ^ turn.thread)
+        × CellNumber (number row.op) row.d row.a turn.thread regs.old turn.cell
+        × (goes_on (number row.op) (get_or regs.old (row.a * 32 + turn.thread) 0) turn.bit turn.cell cells.old log.old ≡ true) }
+    ensures { AccessMade (number row.op) turn.thread row.d row.a regs.old cells.old log.old
+        regs.new cells.new log.new × KeptBut row.d (turn.thread + 1) regs.old regs.new
+        × SameBut turn.cell (length cells.old) log.old log.new }
 {
-    let j = index(t);
-    let i = index(x);
+    let j = turn.thread as usize;
+    let i = turn.cell as usize;
     let n = cells.len();
-    let v = regs[a * 32 + j];
+    let v = regs[row.a * 32 + j];
     // The log comes last, where a LOAD of a common cell has nothing like it: so the compiler keeps the two apart.
-    transfer(regs, cells, j, i, op, d, a);
-    logentry::enter(log, n, i, bit, v, op);
+    transfer(regs, cells, j, i, row);
+    logentry::enter(log, n, i, turn.bit, v, row.op);
 }
 
 // Whether x is the number of a common cell.
 pub fn is_common(common: &[u32], x: u32) -> bool
     ensures { result ≡ in_common common.now x }
 {
-    if x < 65536 {
-        return false;
-    }
-    index(x - 65536) < common.len()
+    65536 <= x && ((x - 65536) as usize) < common.len()
 }
 
-// Thread t's LOAD of the common cell numbered x: nothing is logged.
+// A thread's LOAD of a common cell: nothing is logged.
 pub fn take(
     regs: &mut [u32; 512],
     cells: &[u32],
     log: &[u32],
     common: &[u32],
-    x: u32,
-    t: u32,
-    d: usize,
-    a: usize,
+    turn: layout::Turn,
+    row: layout::AccessRow,
 )
-    requires { (t < 32) × AccessAsks 16 d a cells.now log.now × CellNumber 16 d a t regs.old x × (in_common common.now x ≡ true) }
-    ensures { AccessOne 16 t d a common.now regs.old cells.now log.now access.Done
-        regs.new cells.now log.now × KeptBut d (t + 1) regs.old regs.new }
+    requires { (turn.thread < 32) × AccessAsks 16 row.d row.a cells.now log.now × CellNumber 16 row.d row.a turn.thread regs.old turn.cell
+        × (in_common common.now turn.cell ≡ true) }
+    ensures { AccessOne 16 turn.thread row.d row.a common.now regs.old cells.now log.now (Ok tt)
+        regs.new cells.now log.now × KeptBut row.d (turn.thread + 1) regs.old regs.new }
 {
-    let j = index(t);
-    let i = index(x - 65536);
-    regs[d * 32 + j] = common[i];
+    regs[row.d * 32 + turn.thread as usize] = common[(turn.cell - 65536) as usize];
 }
 
-// Why thread t's access, of the cell numbered x, does not go on, where that is no common cell's number.
+// Why a thread's access does not go on, where its number is no common cell's.
 pub fn verdict(
     regs: &[u32; 512],
     cells: &[u32],
     log: &[u32],
-    x: u32,
-    t: u32,
-    bit: u32,
-    op: u8,
-    d: usize,
-    a: usize,
+    turn: layout::Turn,
+    row: layout::AccessRow,
 ) -> spec::Verdict
-    requires { (t < 32) × AccessAsks op d a cells.now log.now × (bit ≡ 2 ^ t) × CellNumber op d a t regs.now x
-        × (goes_on op (get_or regs.now (a * 32 + t) 0) bit x cells.now log.now ≡ false) }
-    ensures { AccessStopped op t d a x regs.now cells.now log.now result }
+    requires { (turn.thread < 32) × AccessAsks (number row.op) row.d row.a cells.now log.now × (turn.bit ≡ 2 ^ turn.thread)
+        × CellNumber (number row.op) row.d row.a turn.thread regs.now turn.cell
+        × (goes_on (number row.op) (get_or regs.now (row.a * 32 + turn.thread) 0) turn.bit turn.cell cells.now log.now ≡ false) }
+    ensures { AccessStopped (number row.op) turn.thread row.d row.a turn.cell regs.now cells.now log.now result }
 {
-    let j = index(t);
-    let i = index(x);
+    let i = turn.cell as usize;
     let n = cells.len();
     if n <= i {
-        return spec::Verdict::Outside(t, x);
+        return spec::Verdict::Outside(turn.thread, turn.cell);
     }
-    let v = regs[a * 32 + j];
-    let met = accesslog::met(log, n, i, bit, v, op);
-    let other = masks::lowest(met - bit);
-    let kind = accesslog::race_kind(log, n, i, other, v, op);
-    spec::Verdict::Race(t, other, kind, x)
+    let v = regs[row.a * 32 + turn.thread as usize];
+    let met = accesslog::met(log, n, i, turn.bit, v, row.op);
+    let other = masks::lowest(met - turn.bit);
+    let kind = accesslog::race_kind(log, n, i, other, v, row.op);
+    spec::Verdict::Race(turn.thread, other, kind, turn.cell)
 }
 
 // Whether an access by op that does not go on is a LOAD of a common cell.
-fn takes(common: &[u32], x: u32, op: u8) -> bool
-    ensures { result ≡ takes_common op x common.now }
+fn takes(common: &[u32], x: u32, op: layout::AccessOp) -> bool
+    ensures { result ≡ takes_common (number op) x common.now }
 {
-    if op == 16 {
-        return is_common(common, x);
+    match op {
+        layout::AccessOp::Load => is_common(common, x),
+        _ => false,
     }
-    false
 }
 
-// Thread t's access, of the cell numbered x: whether it went on. Common cells are looked at only where it does not go on among the others.
+// A thread's access: whether it went on. Common cells are looked at only where it does not go on among the others.
+// It stands in the loop of each op, in which what the op decides is known.
+#[inline(always)]
 pub fn turn(
     regs: &mut [u32; 512],
     cells: &mut [u32],
     log: &mut [u32],
     common: &[u32],
-    x: u32,
-    t: u32,
-    bit: u32,
-    op: u8,
-    d: usize,
-    a: usize,
+    turn: layout::Turn,
+    row: layout::AccessRow,
 ) -> bool
-    requires { (t < 32) × AccessAsks op d a cells.old log.old × (bit ≡ 2 ^ t) × CellNumber op d a t regs.old x }
-    ensures { TurnMade op t d a x bit common.now regs.old cells.old log.old result
+    requires { (turn.thread < 32) × AccessAsks (number row.op) row.d row.a cells.old log.old × (turn.bit ≡ 2 ^ turn.thread)
+        × CellNumber (number row.op) row.d row.a turn.thread regs.old turn.cell }
+    ensures { TurnMade (number row.op) turn.thread row.d row.a turn.cell turn.bit common.now regs.old cells.old log.old result
         regs.new cells.new log.new }
 {
-    if goes_on(regs, cells, log, x, t, bit, op, a) {
-        make(regs, cells, log, x, t, bit, op, d, a);
+    if goes_on(regs, cells, log, turn, row) {
+        make(regs, cells, log, turn, row);
         return true;
     }
-    if takes(common, x, op) {
-        take(regs, cells, log, common, x, t, d, a);
+    if takes(common, turn.cell, row.op) {
+        take(regs, cells, log, common, turn, row);
         return true;
     }
     false

@@ -1,2 +1,3 @@
+-- Laws that callers cite. Assumes nothing.
 pub mod Answers
-pub mod Tests
+pub mod Opened

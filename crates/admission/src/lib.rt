@@ -8,41 +8,29 @@ ghost use Rattle.admission.specs.Refusing.{refusal_of, LentIs};
 
 use spec::Refusal;
 
-// Whether an input is accepted, and if not, why.
-#[derive(Clone, Copy)]
-pub enum Admission {
-    Accepted,
-    Refused(Refusal),
-}
-
 // Whether x is neither less nor greater than it may be.
 pub fn within(x: u32, low: u32, high: u32) -> bool
     ensures { result ≡ (leb low x && leb x high) }
 {
-    low <= x && x <= high
-}
-
-pub fn wide(x: u32) -> usize
-    ensures { result ≡ x }
-{
-    x as usize
+    (low..=high).contains(&x)
 }
 
 // The own cells of all groups. Any two words have a product that fits.
 pub fn own_cells(groups: u32, cells: u32) -> usize
     ensures { result ≡ groups * cells }
 {
-    wide(groups) * wide(cells)
+    groups as usize * cells as usize
 }
 
 // These and the global ones.
 pub fn all_cells(groups: u32, cells: u32, global: u32) -> usize
     ensures { result ≡ groups * cells + global }
 {
-    own_cells(groups, cells) + wide(global)
+    own_cells(groups, cells) + global as usize
 }
 
 // Refusals 1, 2, 8, 9, 32, 33 and 10 of a bare launch.
+#[tactic(auto, using(std::proofs::lemmas::Bool::Decides::nat_tests), unfolding(crate::proofs::Opened::opened))]
 pub fn numbers(
     bytes: usize,
     threads: u32,
@@ -50,36 +38,37 @@ pub fn numbers(
     groups: u32,
     global: u32,
     limit: u32,
-) -> Admission
+) -> Result<(), Refusal>
     ensures { refusal_of result ≡ bare_numbers bytes (sizes threads cells groups global) limit }
 {
     if bytes % 4 != 0 {
-        return Admission::Refused(Refusal::TableLength);
+        return Err(Refusal::TableLength);
     }
     if 256 < bytes / 4 {
-        return Admission::Refused(Refusal::TooManyRows(0));
+        return Err(Refusal::TooManyRows(0));
     }
     if !within(threads, 1, 32) {
-        return Admission::Refused(Refusal::ThreadsOutOfRange(0));
+        return Err(Refusal::ThreadsOutOfRange(0));
     }
     if !within(cells, 1, 1024) {
-        return Admission::Refused(Refusal::CellsOutOfRange(0));
+        return Err(Refusal::CellsOutOfRange(0));
     }
     if !within(groups, 1, 8) {
-        return Admission::Refused(Refusal::GroupsOutOfRange(0));
+        return Err(Refusal::GroupsOutOfRange(0));
     }
     let total = all_cells(groups, cells, global);
     if 1024 < total {
-        return Admission::Refused(Refusal::TooManyCells(0));
+        return Err(Refusal::TooManyCells(0));
     }
     if 1000000 < limit {
-        return Admission::Refused(Refusal::LimitOutOfRange(0));
+        return Err(Refusal::LimitOutOfRange(0));
     }
-    Admission::Accepted
+    Ok(())
 }
 
 // Refusals 20, 21 and 30 of a bare launch, by the lengths of its own cells, global cells, log and records. Eight times the cells need not fit: the log's
 // length is divided.
+#[tactic(auto, using(std::proofs::lemmas::Bool::Decides::nat_tests), unfolding(crate::proofs::Opened::opened))]
 pub fn lent(
     groups: u32,
     cells: u32,
@@ -88,51 +77,43 @@ pub fn lent(
     shared: usize,
     logged: usize,
     recorded: usize,
-) -> Admission
+) -> Result<(), Refusal>
     ensures { LentIs groups cells global held shared logged recorded (refusal_of result) }
 {
-    if held != own_cells(groups, cells) {
-        return Admission::Refused(Refusal::CellsLength);
+    if held != own_cells(groups, cells) || shared != global as usize {
+        return Err(Refusal::CellsLength);
     }
-    if shared != wide(global) {
-        return Admission::Refused(Refusal::CellsLength);
-    }
-    if logged % 8 != 0 {
-        return Admission::Refused(Refusal::LogLength);
-    }
-    if logged / 8 != all_cells(groups, cells, global) {
-        return Admission::Refused(Refusal::LogLength);
+    if logged % 8 != 0 || logged / 8 != all_cells(groups, cells, global) {
+        return Err(Refusal::LogLength);
     }
     if recorded < 3075 {
-        return Admission::Refused(Refusal::RecordsLength);
+        return Err(Refusal::RecordsLength);
     }
-    Admission::Accepted
+    Ok(())
 }
 
 // Refusals 20, 21, 30 and 24 of a launch file, by the lengths of the lent buffers.
+#[tactic(auto, using(std::proofs::lemmas::Bool::Decides::nat_tests), unfolding(crate::proofs::Opened::opened))]
 pub fn lent_for_file(
     held: usize,
     shared: usize,
     logged: usize,
     recorded: usize,
     room: usize,
-) -> Admission
+) -> Result<(), Refusal>
     ensures { refusal_of result ≡ file_lent held shared logged recorded room }
 {
-    if held != 1024 {
-        return Admission::Refused(Refusal::CellsLength);
-    }
-    if shared != 1024 {
-        return Admission::Refused(Refusal::CellsLength);
+    if held != 1024 || shared != 1024 {
+        return Err(Refusal::CellsLength);
     }
     if logged != 8192 {
-        return Admission::Refused(Refusal::LogLength);
+        return Err(Refusal::LogLength);
     }
     if recorded < 3075 {
-        return Admission::Refused(Refusal::RecordsLength);
+        return Err(Refusal::RecordsLength);
     }
     if room < 24576 {
-        return Admission::Refused(Refusal::OutputLength);
+        return Err(Refusal::OutputLength);
     }
-    Admission::Accepted
+    Ok(())
 }

@@ -1,4 +1,5 @@
 -- What an outcome's words say of it: all but the row and the group of a launch that has passed. Assumes nothing.
+use Rattle.std.specs.Prelude.{Result, Ok, Err}
 use mathlib.Core.Path.{◌≡◌, refl, sym, ◌∙◌, subst}
 use mathlib.Core.List.{List}
 use Prim.Native.Nat.{ℕ}
@@ -8,8 +9,7 @@ use Rattle.spec.specs.declared.AccessKind.TheVariants.{ReadWrite, WriteRead, Wri
 use Rattle.spec.specs.declared.Verdict.{Verdict}
 use Rattle.spec.specs.declared.Verdict.TheVariants.{Passed, Race, GroupRace, Outside, Common, Diverged, Spent}
 use Rattle.spec.specs.declared.Outcome.{Outcome}
-use Rattle.spec.specs.declared.Written.{Written}
-use Rattle.spec.specs.declared.Written.TheVariants.{Refused, Wrote}
+use Rattle.spec.specs.declared.Refusal.{Refusal}
 use Rattle.spec.specs.Table.{Table}
 use Rattle.spec.specs.Shape.{Sizes}
 use Rattle.spec.specs.LaunchRun.{counted_barriers}
@@ -66,7 +66,7 @@ words_demand T Z cells limit o steps final d =
     demand_of T Z cells limit o (outcome_from (outcome_words o)) steps final (same_back o).0 refl refl d
 
 -- A report's length is 0 only where none was written.
-pub of_length : (P : List ℕ → Type 0) (r : Written) (size : ℕ) (output : List ℕ) → size ≡ length_in r → OfWritten P r output → OfLength P size output
+pub of_length : (P : List ℕ → Type 0) (r : Result ℕ Refusal) (size : ℕ) (output : List ℕ) → size ≡ length_in r → OfWritten P r output → OfLength P size output
 unfolding length_in
-of_length P (Refused why) size output e h l = absurd (omega arith)
-of_length P (Wrote n) size output e h l = rw e h
+of_length P (Err why) size output e h l = absurd (omega arith)
+of_length P (Ok n) size output e h l = rw e h

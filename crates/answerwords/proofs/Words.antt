@@ -1,30 +1,21 @@
 -- An outcome's words, filled in one by one from the values of the report's lines. Assumes nothing.
 use mathlib.Core.Path.{◌≡◌, refl, sym, ap, ◌∙◌}
-use mathlib.Core.List.{List, [], ◌++◌, map}
-use Prim.Native.Nat.{ℕ, ◌+◌, ◌<◌}
-use native.Mathlib.Decide.{ℕ_discrete}
+use mathlib.Core.List.{List, [], ◌++◌}
+use Prim.Native.Nat.{ℕ, ◌<◌}
 use native.Mathlib.Omega.{arith}
-use lib.ListN.{length, get_or, set, length-set, length-map, get_or-append, get_or-map}
-use lib.Seq.{get_or-set_same, get_or-set_other, ext_get_or}
+use lib.ListN.{length, get_or, length-map, get_or-map}
+use lib.Seq.{ext_get_or}
 use Rattle.spec.specs.declared.Outcome.{Outcome}
 use Rattle.spec.specs.declared.Value.{Value}
 use Rattle.spec.specs.declared.Value.TheVariants as value
 use Rattle.spec.specs.Report.{Line, head_with, head_lines, interval_lines}
-use Rattle.reportvalues.specs.Values.{values_of, run_values}
+use Rattle.reporttable.specs.Values.{run_values}
 use Rattle.answerwords.specs.Codes.{value_code, word_count, outcome_words}
 
 -- The first i words are the codes of the first i values.
 pub record Coded (values : List Value) (i : ℕ) (words : List ℕ) : Type 0 where
   pub whole : length words ≡ word_count
   pub each : (k : ℕ) → k < i → get_or words k 0 ≡ value_code (get_or values k value.Hyphen)
-
-pub code_more : (values : List Value) (i : ℕ) (words : List ℕ) (w : ℕ) → Coded values i words → i < word_count → w ≡ value_code (get_or values i value.Hyphen)
-    → Coded values (i + 1) (set words i w)
-code_more values i words w d h e = record { whole = length-set words i w ∙ d.whole; each = λ k l. by k l (ℕ_discrete k i) }
-  where
-    by : (k : ℕ) → k < i + 1 → Dec (k ≡ i) → get_or (set words i w) k 0 ≡ value_code (get_or values k value.Hyphen)
-    by k l (yes q) = rw q (get_or-set_same words i w 0 (omega (arith, d.whole)) ∙ e)
-    by k l (no n) = get_or-set_other words i k w 0 n ∙ d.each k (omega arith)
 
 blank : Line
 blank = record { key = []; value = value.Hyphen }
@@ -38,12 +29,9 @@ unfolding head_lines head_with interval_lines
 coded_many o = refl
 
 code_at : (o : Outcome) (k : ℕ) → k < word_count → value_code (get_or (run_values o) k value.Hyphen) ≡ get_or (outcome_words o) k 0
-unfolding run_values values_of outcome_words value_code blank
+unfolding run_values outcome_words value_code blank
 code_at o k h =
-    let value : Line → Value = λ l. l.value in
-    ap value_code (get_or-append (map value (coded o)) _ _ k (omega (arith, length-map (coded o) value, coded_many o))
-    ∙ get_or-map value (coded o) k blank)
-    ∙ sym (get_or-map (λ (l : Line). value_code l.value) (coded o) k blank)
+    ap value_code (get_or-map (λ (l : Line). l.value) (coded o) k blank) ∙ sym (get_or-map (λ (l : Line). value_code l.value) (coded o) k blank)
 
 pub all_coded : (o : Outcome) (values : List Value) (i : ℕ) (words : List ℕ) → Coded values i words → i ≡ word_count → values ≡ run_values o → words ≡ outcome_words o
 unfolding outcome_words

@@ -1,16 +1,13 @@
 -- Answers as words: a length with a refusal's number and place beside it, and an outcome as eleven words. Assumes nothing.
-use Rattle.std.specs.Prelude.{◌≡◌, List, [], ◌∷◌, ◌++◌, map, Bool, true, false, cond, ℕ, eqb, get_or, take, replicate}
+use Rattle.std.specs.Prelude.{◌≡◌, List, [], ◌∷◌, ◌++◌, map, Bool, true, false, cond, ℕ, eqb, get_or, take, replicate, Result, Ok, Err}
 use Rattle.spec.specs.declared.AccessKind.{AccessKind}
 use Rattle.spec.specs.declared.AccessKind.TheVariants.{ReadWrite, WriteRead, WriteWrite, ReadAdd, AddRead, WriteAdd, AddWrite}
 use Rattle.spec.specs.declared.Verdict.{Verdict}
 use Rattle.spec.specs.declared.Verdict.TheVariants.{Passed, Race, GroupRace, Outside, Common, Diverged, Spent}
 use Rattle.spec.specs.declared.Outcome.{Outcome}
-use Rattle.spec.specs.declared.Answer.{Answer}
-use Rattle.spec.specs.declared.Answer.TheVariants as answer
-use Rattle.spec.specs.declared.Written.{Written}
-use Rattle.spec.specs.declared.Written.TheVariants as written
 use Rattle.spec.specs.declared.Value.{Value}
 use Rattle.spec.specs.declared.Value.TheVariants as value
+use Rattle.spec.specs.declared.Refusal.{Refusal}
 use Rattle.refusals.specs.Words.{refusal_words}
 use Rattle.spec.specs.Shape.{Sizes, all_threads}
 use Rattle.spec.specs.Report.{Line, head_lines, interval_lines}
@@ -18,13 +15,13 @@ use Rattle.spec.specs.Entries.{bare_launch}
 use Rattle.spec.specs.Demands.{LaunchDemand3}
 
 -- A length with a refusal's number and place beside it; 0, and two zeros, where there is none.
-unfoldable pub length_in : Written → ℕ
-length_in (written.Refused why) = 0
-length_in (written.Wrote n) = n
+unfoldable pub length_in : Result ℕ Refusal → ℕ
+length_in (Err why) = 0
+length_in (Ok n) = n
 
-unfoldable pub refusal_in : Written → List ℕ
-refusal_in (written.Refused why) = refusal_words why
-refusal_in (written.Wrote n) = 0 ∷ 0 ∷ []
+unfoldable pub refusal_in : Result ℕ Refusal → List ℕ
+refusal_in (Err why) = refusal_words why
+refusal_in (Ok n) = 0 ∷ 0 ∷ []
 
 -- A verdict's code is never 0, so that words that were never written are no verdict. A race with another group has one of its own, so that the way back is exact.
 unfoldable pub verdict_code : Verdict → ℕ
@@ -60,17 +57,17 @@ word_count = 11
 unfoldable pub outcome_words : Outcome → List ℕ
 outcome_words o = map (λ (l : Line). value_code l.value) (head_lines o ++ interval_lines o)
 
-unfoldable pub ran_in : Answer → Bool
-ran_in (answer.Refused why) = false
-ran_in (answer.Ran o) = true
+unfoldable pub ran_in : Result Outcome Refusal → Bool
+ran_in (Err why) = false
+ran_in (Ok o) = true
 
-unfoldable pub outcome_in : Answer → List ℕ
-outcome_in (answer.Refused why) = replicate word_count 0
-outcome_in (answer.Ran o) = outcome_words o
+unfoldable pub outcome_in : Result Outcome Refusal → List ℕ
+outcome_in (Err why) = replicate word_count 0
+outcome_in (Ok o) = outcome_words o
 
-unfoldable pub why_in : Answer → List ℕ
-why_in (answer.Refused why) = refusal_words why
-why_in (answer.Ran o) = 0 ∷ 0 ∷ []
+unfoldable pub why_in : Result Outcome Refusal → List ℕ
+why_in (Err why) = refusal_words why
+why_in (Ok o) = 0 ∷ 0 ∷ []
 
 -- The way back, for the report writer. A code that there is none of is read as spent, so that no slip becomes passed.
 unfoldable pub kind_from : ℕ → AccessKind

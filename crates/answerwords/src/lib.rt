@@ -4,8 +4,10 @@
 ghost use Rattle.std.specs.Prelude.{◌≡◌};
 ghost use Rattle.answerwords.specs.Codes.{length_in, refusal_in, verdict_code, kind_code, value_code, outcome_words, kind_from, verdict_from, outcome_from};
 
-use spec::{AccessKind, Outcome, Value, Verdict, Written};
+use spec::{AccessKind, Outcome, Refusal, Value, Verdict};
 
+// No `From` to codes, and none from refusals to words: a crate implements it only between types of which one is its own.
+#[tactic(auto, unfolding(crate::specs::Codes::kind_code))]
 fn kind_code(kind: AccessKind) -> u32
     ensures { result ≡ kind_code kind }
 {
@@ -20,6 +22,7 @@ fn kind_code(kind: AccessKind) -> u32
     }
 }
 
+#[tactic(auto, unfolding(crate::specs::Codes::verdict_code))]
 fn verdict_code(verdict: Verdict) -> u32
     ensures { result ≡ verdict_code verdict }
 {
@@ -34,6 +37,7 @@ fn verdict_code(verdict: Verdict) -> u32
     }
 }
 
+#[tactic(auto, unfolding(crate::specs::Codes::value_code))]
 fn value_code(value: Value) -> u32
     ensures { result ≡ value_code value }
 {
@@ -49,67 +53,49 @@ fn value_code(value: Value) -> u32
 // How many words an outcome has.
 pub const WORDS: usize = 11;
 
+#[tactic(auto, using(crate::proofs::Words::all_coded))]
 pub fn outcome_words(outcome: Outcome) -> [u32; WORDS]
     ensures { result ≡ outcome_words outcome }
 {
     let values = reportvalues::run_values(outcome);
     let mut words = [0u32; WORDS];
-    let mut i = 0;
-    while i < WORDS {
+    for i in 0..WORDS {
         words[i] = value_code(values[i]);
-        i += 1;
     }
     words
 }
 
+#[tactic(auto, unfolding(crate::specs::Codes::kind_from))]
 fn kind_from(code: u32) -> AccessKind
     ensures { result ≡ kind_from code }
 {
-    if code == 1 {
-        return AccessKind::ReadWrite;
+    match code {
+        1 => AccessKind::ReadWrite,
+        2 => AccessKind::WriteRead,
+        4 => AccessKind::ReadAdd,
+        5 => AccessKind::AddRead,
+        6 => AccessKind::WriteAdd,
+        7 => AccessKind::AddWrite,
+        _ => AccessKind::WriteWrite,
     }
-    if code == 2 {
-        return AccessKind::WriteRead;
-    }
-    if code == 4 {
-        return AccessKind::ReadAdd;
-    }
-    if code == 5 {
-        return AccessKind::AddRead;
-    }
-    if code == 6 {
-        return AccessKind::WriteAdd;
-    }
-    if code == 7 {
-        return AccessKind::AddWrite;
-    }
-    AccessKind::WriteWrite
 }
 
+#[tactic(auto, unfolding(crate::specs::Codes::verdict_from))]
 fn verdict_from(code: u32, othergroup: u32, thread: u32, other: u32, kind: u32, at: u32) -> Verdict
     ensures { result ≡ verdict_from code othergroup thread other kind at }
 {
-    if code == 1 {
-        return Verdict::Passed;
+    match code {
+        1 => Verdict::Passed,
+        2 => Verdict::Race(thread, other, kind_from(kind), at),
+        3 => Verdict::Outside(thread, at),
+        4 => Verdict::Diverged(thread, other),
+        6 => Verdict::GroupRace(thread, othergroup, kind_from(kind), at),
+        7 => Verdict::Common(thread, at),
+        _ => Verdict::Spent,
     }
-    if code == 2 {
-        return Verdict::Race(thread, other, kind_from(kind), at);
-    }
-    if code == 3 {
-        return Verdict::Outside(thread, at);
-    }
-    if code == 4 {
-        return Verdict::Diverged(thread, other);
-    }
-    if code == 6 {
-        return Verdict::GroupRace(thread, othergroup, kind_from(kind), at);
-    }
-    if code == 7 {
-        return Verdict::Common(thread, at);
-    }
-    Verdict::Spent
 }
 
+#[tactic(auto, unfolding(crate::specs::Codes::outcome_from))]
 pub fn outcome_from(words: &[u32; WORDS]) -> Outcome
     ensures { result ≡ outcome_from words.now }
 {
@@ -124,16 +110,17 @@ pub fn outcome_from(words: &[u32; WORDS]) -> Outcome
     }
 }
 
-pub fn tell_written(answer: Written, refusal: &mut [u32; 2]) -> usize
+#[tactic(auto, unfolding(crate::specs::Codes::length_in, crate::specs::Codes::refusal_in))]
+pub fn tell_written(answer: Result<usize, Refusal>, refusal: &mut [u32; 2]) -> usize
     ensures size { result ≡ length_in answer }
     ensures why { refusal.new ≡ refusal_in answer }
 {
     match answer {
-        Written::Refused(why) => {
+        Err(why) => {
             *refusal = refusals::words(why);
             0
         }
-        Written::Wrote(size) => {
+        Ok(size) => {
             *refusal = [0, 0];
             size
         }

@@ -6,11 +6,12 @@ use mathlib.Core.Bool.{Bool, true, false, cond, false≢true}
 use Prim.Native.Nat.{ℕ, suc, ◌+◌, ◌-◌, ◌/◌, ◌%◌, ◌^◌, ◌<◌, ◌≤◌}
 use native.Mathlib.Omega.{arith}
 use borrow.Author.Tests.{lt-ltb, le-ltb}
+use native.Mathlib.Nat.{div-eq_of_lt, lt_of_lt_of_le}
+use lib.Pow.{shr-shr, pow_mono}
 use lib.ListN.{length, get_or, replicate, get_or-replicate}
 use Rattle.spec.specs.Mask.{Mask, mask_word, members, members_from}
 use Rattle.spec.specs.Lists.{any_of, passing}
 use Rattle.spec.specs.Banks.{different, in_bank, most_in_bank, conflict_cost}
-use Rattle.masks.proofs.Bits.{left_some, left_half}
 use Rattle.masks.proofs.Words.{word_half, word_odd}
 use Rattle.banks.specs.Counting.{Older, Banked, Fit, Counted, AllCells, cells_of, RowCounted}
 use Rattle.banks.proofs.Near.{all_pass}
@@ -49,7 +50,6 @@ pub record Costing (cell : ℕ → ℕ) (E : Mask) (stamp t m : ℕ) (stamps cou
   pub rest : Mask
   pub used : List ℕ
   pub mask : m ≡ mask_word rest
-  pub left : t + length rest ≡ length E
   pub same : turned (cells_of (map cell (members_from t rest))) used ≡ turned (cells_of (map cell (members E))) []
   pub banked : Banked used stamp stamps counts most
   pub all_cells_lem : far ≡ 0 → AllCells (map cell (members_from t rest)) → AllCells (map cell (members E))
@@ -67,7 +67,6 @@ costing_start cell E stamp mask stamps e O =
       rest = E;
       used = [];
       mask = e;
-      left = omega arith;
       same = refl;
       banked = record {
         size = O.size;
@@ -92,16 +91,15 @@ nobody_left (false ∷ m) t e = nobody_left m (suc t) (omega arith)
 
 -- One thread further, whether it is enabled or not.
 further : (cell : ℕ → ℕ) (E : Mask) (stamp t m : ℕ) (stamps counts : List ℕ) (most far : ℕ) (here : Bool) (rest : Mask) (used : List ℕ)
-    → m ≡ mask_word (here ∷ rest) → suc t + length rest ≡ length E
+    → m ≡ mask_word (here ∷ rest)
     → turned (cells_of (map cell (members_from (suc t) rest))) used ≡ turned (cells_of (map cell (members E))) [] → Banked used stamp stamps counts most
     → (far ≡ 0 → AllCells (map cell (members_from (suc t) rest)) → AllCells (map cell (members E))) → Costing cell E stamp (t + 1) (m / 2) stamps counts most far
-further cell E stamp t m stamps counts most far here rest used e l q B g =
+further cell E stamp t m stamps counts most far here rest used e q B g =
     let u : t + 1 ≡ suc t = omega arith in
     record {
       rest = rest;
       used = used;
       mask = ap (λ z. z / 2) e ∙ word_half here rest;
-      left = omega arith;
       same = ap (λ z. turned (cells_of (map cell (members_from z rest))) used) u ∙ q;
       banked = B;
       all_cells_lem = λ z c. g z (subst (λ k. AllCells (map cell (members_from k rest))) u c);
@@ -112,16 +110,15 @@ module _ (cell : ℕ → ℕ) (E : Mask) (stamp t m : ℕ) (stamps counts : List
       → ((cs : List ℕ) → turned (cells_of (cell t ∷ cs)) C.used ≡ turned (cells_of cs) used') → Banked used' stamp stamps' counts' most'
       → (far' ≡ 0 → (cell t < 1024) × (far ≡ 0)) → Costing cell E stamp (t + 1) (m / 2) stamps' counts' most' far'
   unfolding members_from
-  enabled odd stamps' counts' most' far' used' move B near = by C.rest C.mask C.left C.same C.all_cells_lem
+  enabled odd stamps' counts' most' far' used' move B near = by C.rest C.mask C.same C.all_cells_lem
     where
-      by : (rest : Mask) → m ≡ mask_word rest → t + length rest ≡ length E
-          → turned (cells_of (map cell (members_from t rest))) C.used ≡ turned (cells_of (map cell (members E))) []
+      by : (rest : Mask) → m ≡ mask_word rest → turned (cells_of (map cell (members_from t rest))) C.used ≡ turned (cells_of (map cell (members E))) []
           → (far ≡ 0 → AllCells (map cell (members_from t rest)) → AllCells (map cell (members E)))
           → Costing cell E stamp (t + 1) (m / 2) stamps' counts' most' far'
-      by [] e l q g = absurd (none_odd m e odd)
-      by (false ∷ rest) e l q g = let z : ◌≡◌ {A = ℕ} 0 1 = sym (word_odd false rest) ∙ sym (ap (λ z. z % 2) e) ∙ odd in absurd (omega arith)
-      by (true ∷ rest) e l q g =
-          further cell E stamp t m stamps' counts' most' far' true rest used' e (omega arith) (sym (move (map cell (members_from (suc t) rest))) ∙ q) B
+      by [] e q g = absurd (none_odd m e odd)
+      by (false ∷ rest) e q g = let z : ◌≡◌ {A = ℕ} 0 1 = sym (word_odd false rest) ∙ sym (ap (λ z. z % 2) e) ∙ odd in absurd (omega arith)
+      by (true ∷ rest) e q g =
+          further cell E stamp t m stamps' counts' most' far' true rest used' e (sym (move (map cell (members_from (suc t) rest))) ∙ q) B
           (λ z c. g (near z).1 ((near z).0, c))
 
   -- an enabled thread's number is a cell's, which is one of the used ones then
@@ -140,17 +137,16 @@ module _ (cell : ℕ → ℕ) (E : Mask) (stamp t m : ℕ) (stamps counts : List
       enabled odd stamps counts most 32 C.used
       (λ cs. ap (λ b. turned (cond b (cell t ∷ cells_of cs) (cells_of cs)) C.used) (le-ltb (cell t) 1024 h)) C.banked (λ z. absurd (omega arith))
 
-  pub costing_out : (m ≡ 0 → ⊥) → (m % 2 ≡ 1 → ⊥) → Costing cell E stamp (t + 1) (m / 2) stamps counts most far
+  pub costing_out : (m % 2 ≡ 1 → ⊥) → Costing cell E stamp (t + 1) (m / 2) stamps counts most far
   unfolding members_from mask_word
-  costing_out some even = by C.rest C.mask C.left C.same C.all_cells_lem
+  costing_out even = by C.rest C.mask C.same C.all_cells_lem
     where
-      by : (rest : Mask) → m ≡ mask_word rest → t + length rest ≡ length E
-          → turned (cells_of (map cell (members_from t rest))) C.used ≡ turned (cells_of (map cell (members E))) []
+      by : (rest : Mask) → m ≡ mask_word rest → turned (cells_of (map cell (members_from t rest))) C.used ≡ turned (cells_of (map cell (members E))) []
           → (far ≡ 0 → AllCells (map cell (members_from t rest)) → AllCells (map cell (members E)))
           → Costing cell E stamp (t + 1) (m / 2) stamps counts most far
-      by [] e l q g = absurd (some e)
-      by (true ∷ rest) e l q g = absurd (even (ap (λ z. z % 2) e ∙ word_odd true rest))
-      by (false ∷ rest) e l q g = further cell E stamp t m stamps counts most far false rest C.used e (omega arith) q C.banked g
+      by [] e q g = record { rest = []; used = C.used; mask = ap (λ z. z / 2) e; same = q; banked = C.banked; all_cells_lem = g }
+      by (true ∷ rest) e q g = absurd (even (ap (λ z. z % 2) e ∙ word_odd true rest))
+      by (false ∷ rest) e q g = further cell E stamp t m stamps counts most far false rest C.used e q C.banked g
 
   -- with nothing left of the mask all cells are counted
   module _ (z : m ≡ 0) where
@@ -168,51 +164,49 @@ module _ (cell : ℕ → ℕ) (E : Mask) (stamp t m : ℕ) (stamps counts : List
     costing_cells f = C.all_cells_lem f (subst (λ ts. AllCells (map cell ts)) (sym nobody) tt)
 
 -- The loop over a row's threads: what is left of the mask is of the threads from t on.
-pub record Going (cell : ℕ → ℕ) (mask stamp t m : ℕ) (stamps counts : List ℕ) (most far : ℕ) : Type 0 where
-  pub left : m < 2 ^ (32 - t)
+pub record Going (cell : ℕ → ℕ) (mask stamp t : ℕ) (stamps counts : List ℕ) (most far : ℕ) : Type 0 where
   pub come : t ≤ 32
   pub flag : (far ≡ 0) ⊎ (far ≡ 32)
   pub tracking : Tracking stamp t stamps counts most
-  pub costings : Costings cell mask stamp t m stamps counts most far
+  pub costings : Costings cell mask stamp t (mask / 2 ^ t) stamps counts most far
 
-pub going_start : (cell : ℕ → ℕ) (mask stamp : ℕ) (stamps : List ℕ) → mask < 4294967296 → Older stamp stamps → Going cell mask stamp 0 mask stamps (replicate 16 0) 0 0
-going_start cell mask stamp stamps h O =
+pub going_start : (cell : ℕ → ℕ) (mask stamp : ℕ) (stamps : List ℕ) → Older stamp stamps → Going cell mask stamp 0 stamps (replicate 16 0) 0 0
+going_start cell mask stamp stamps O =
     record {
-      left = h;
       come = omega arith;
       flag = inl refl;
       tracking = tracking_start stamp stamps O;
-      costings = λ E e l. costing_start cell E stamp mask stamps e O;
+      costings = λ E e l. costing_start cell E stamp (mask / 1) stamps ((let q : mask / 1 ≡ mask = omega arith in q) ∙ e) O;
     }
 
-module _ (cell : ℕ → ℕ) (mask stamp t m : ℕ) (stamps counts : List ℕ) (most far : ℕ) (G : Going cell mask stamp t m stamps counts most far) where
-  module _ (some : m ≡ 0 → ⊥) where
-    more : t < 32
-    more = left_some 32 t m G.left some
-
+module _ (cell : ℕ → ℕ) (mask stamp t : ℕ) (stamps counts : List ℕ) (most far : ℕ) (G : Going cell mask stamp t stamps counts most far) where
+  module _ (more : t < 32) where
     going_as : (stamps' counts' : List ℕ) (most' far' : ℕ) → (far' ≡ 0) ⊎ (far' ≡ 32)
-        → Tracking stamp (t + 1) stamps' counts' most' → Costings cell mask stamp (t + 1) (m / 2) stamps' counts' most' far'
-        → Going cell mask stamp (t + 1) (m / 2) stamps' counts' most' far'
+        → Tracking stamp (t + 1) stamps' counts' most' → Costings cell mask stamp (t + 1) (mask / 2 ^ t / 2) stamps' counts' most' far'
+        → Going cell mask stamp (t + 1) stamps' counts' most' far'
     going_as stamps' counts' most' far' f K C =
-        record { left = left_half 32 t m more G.left; come = omega (arith, more); flag = f; tracking = K; costings = C }
+        record {
+          come = omega (arith, more);
+          flag = f;
+          tracking = K;
+          costings = subst (λ m. Costings cell mask stamp (t + 1) m stamps' counts' most' far') (shr-shr mask t 1) C;
+        }
 
-    pub going_in : m % 2 ≡ 1 → (i : ℕ) (stamps' counts' : List ℕ) (most' : ℕ) → i ≡ cell t → i < 1024 → Counted stamp i stamps counts most stamps' counts' most'
-        → Going cell mask stamp (t + 1) (m / 2) stamps' counts' most' far
-    going_in odd i stamps' counts' most' ei inside D =
-        going_as stamps' counts' most' far G.flag (tracking_in stamp t stamps counts most G.tracking i stamps' counts' most' D)
-        (λ E e l.
-        costing_in cell E stamp t m stamps counts most far (G.costings E e l) odd (omega arith) stamps' counts' most'
-        (subst (λ j. Counted stamp j stamps counts most stamps' counts' most') ei D))
+    pub going_in : mask / 2 ^ t % 2 ≡ 1 → (stamps' counts' : List ℕ) (most' : ℕ) → cell t < 1024 → Counted stamp (cell t) stamps counts most stamps' counts' most'
+        → Going cell mask stamp (t + 1) stamps' counts' most' far
+    going_in odd stamps' counts' most' inside D =
+        going_as stamps' counts' most' far G.flag (tracking_in stamp t stamps counts most G.tracking (cell t) stamps' counts' most' D)
+        (λ E e l. costing_in cell E stamp t (mask / 2 ^ t) stamps counts most far (G.costings E e l) odd inside stamps' counts' most' D)
 
-    pub going_far : m % 2 ≡ 1 → 1024 ≤ cell t → Going cell mask stamp (t + 1) (m / 2) stamps counts most 32
+    pub going_far : mask / 2 ^ t % 2 ≡ 1 → 1024 ≤ cell t → Going cell mask stamp (t + 1) stamps counts most 32
     going_far odd h =
         going_as stamps counts most 32 (inr refl) (tracking_out stamp t stamps counts most G.tracking)
-        (λ E e l. costing_far cell E stamp t m stamps counts most far (G.costings E e l) odd h)
+        (λ E e l. costing_far cell E stamp t (mask / 2 ^ t) stamps counts most far (G.costings E e l) odd h)
 
-    pub going_out : (m % 2 ≡ 1 → ⊥) → Going cell mask stamp (t + 1) (m / 2) stamps counts most far
+    pub going_out : (mask / 2 ^ t % 2 ≡ 1 → ⊥) → Going cell mask stamp (t + 1) stamps counts most far
     going_out even =
         going_as stamps counts most far G.flag (tracking_out stamp t stamps counts most G.tracking)
-        (λ E e l. costing_out cell E stamp t m stamps counts most far (G.costings E e l) some even)
+        (λ E e l. costing_out cell E stamp t (mask / 2 ^ t) stamps counts most far (G.costings E e l) even)
 
   pub going_small : most - 1 + far ≤ 63
   going_small = by G.flag
@@ -221,21 +215,27 @@ module _ (cell : ℕ → ℕ) (mask stamp t m : ℕ) (stamps counts : List ℕ) 
       by (inl e) = omega (arith, G.tracking.few, G.come)
       by (inr e) = omega (arith, G.tracking.few, G.come)
 
-  pub going_whole : m ≡ 0 → (r : ℕ) → r ≡ most - 1 + far → RowCounted cell 32 mask stamp r stamps
-  going_whole z r e =
+  pub going_whole : 32 ≤ t → mask < 2 ^ 32 → (r : ℕ) → r ≡ most - 1 + far → RowCounted cell 32 mask stamp r stamps
+  going_whole all small r e =
       record {
         whole = λ l E q k.
             let C = G.costings E q k in
-            let all = costing_cells cell E stamp t m stamps counts most far C z (none_far l G.flag) in (
-              all,
-              (let y : r ≡ most - 1 = omega (arith, none_far l G.flag) in y) ∙ costing_whole cell E stamp t m stamps counts most far C z
-                  ∙ ap conflict_cost (all_pass 1024 (omega arith) (map cell (members E)) all),
+            let cells = costing_cells cell E stamp t (mask / 2 ^ t) stamps counts most far C none (none_far l G.flag) in (
+              cells,
+              (let y : r ≡ most - 1 = omega (arith, none_far l G.flag) in y)
+                  ∙ costing_whole cell E stamp t (mask / 2 ^ t) stamps counts most far C none
+                  ∙ ap conflict_cost (all_pass 1024 (omega arith) (map cell (members E)) cells),
             );
-        part = λ l E q k. (let y : r - 32 ≡ most - 1 = omega (arith, some_far l G.flag) in y) ∙ costing_whole cell E stamp t m stamps counts most far (G.costings E q k) z;
+        part = λ l E q k.
+            (let y : r - 32 ≡ most - 1 = omega (arith, some_far l G.flag) in y)
+            ∙ costing_whole cell E stamp t (mask / 2 ^ t) stamps counts most far (G.costings E q k) none;
         few = omega (arith, going_small);
         older = G.tracking.older;
       }
     where
+      none : mask / 2 ^ t ≡ 0
+      none = div-eq_of_lt (lt_of_lt_of_le small (pow_mono {i = 32} {j = t} all))
+
       none_far : r < 32 → (far ≡ 0) ⊎ (far ≡ 32) → far ≡ 0
       none_far l (inl f) = f
       none_far l (inr f) = absurd (omega arith)
@@ -243,8 +243,3 @@ module _ (cell : ℕ → ℕ) (mask stamp t m : ℕ) (stamps counts : List ℕ) 
       some_far : 32 ≤ r → (far ≡ 0) ⊎ (far ≡ 32) → far ≡ 32
       some_far l (inl f) = absurd (omega (arith, G.tracking.few, G.come))
       some_far l (inr f) = f
-
--- The same in other words.
-pub going_same : (cell : ℕ → ℕ) (mask stamp t m : ℕ) (stamps counts : List ℕ) (most far : ℕ) → Going cell mask stamp t m stamps counts most far
-    → (stamps' counts' : List ℕ) (most' far' : ℕ) → stamps' ≡ stamps → counts' ≡ counts → most' ≡ most → far' ≡ far → Going cell mask stamp t m stamps' counts' most' far'
-going_same cell mask stamp t m stamps counts most far G stamps' counts' most' far' es ec em ef = rw (es, ec, em, ef) G

@@ -9,7 +9,7 @@ use native.Mathlib.Decide.{ℕ_discrete}
 use borrow.Author.Tests.{eq-eqb, ne_eqb}
 use lib.Dec.{eqb}
 use lib.ListN.{length}
-use Rattle.spec.specs.Word.{sub, equal}
+use Rattle.spec.specs.Word.{sub}
 use Rattle.spec.specs.Lists.{any_of}
 use Rattle.spec.specs.Mask.{Mask, members, members_from}
 use Rattle.spec.specs.Banks.{different, in_bank, most_in_bank, conflict_cost}
@@ -105,39 +105,8 @@ cost_same n cell other E l D a b = by (lt_or_le (sub (cell 0) (other 0)) 1024)
         sym (ap conflict_cost (moved_row (4294967296 - sub (cell 0) (other 0)) 0 other cell E (λ t q u v. let s = D t (omega arith) in omega arith) b a)
         ∙ cost_moved (4294967296 - sub (cell 0) (other 0)) (map cell (members E)))
 
--- The test for equality, counted.
-pub equal_one : (x y : ℕ) → (equal x y ≤ 1) × (equal x y ≡ 1 → x ≡ y)
-equal_one x y = by (ℕ_discrete x y)
-  where
-    by : Dec (x ≡ y) → (equal x y ≤ 1) × (equal x y ≡ 1 → x ≡ y)
-    by (yes e) = (let z = eq-eqb x y e in rw z (omega arith), λ q. e)
-    by (no n) = (rw (ne_eqb x y n) (omega arith), λ q. absurd (let z : ◌≡◌ {A = ℕ} 0 1 = sym (ap (λ b. cond b 1 0) (ne_eqb x y n)) ∙ q in omega arith))
-
-abbrev pub AllAt : (distance : ℕ) → (cell other : ℕ → ℕ) → (n : ℕ) → Type 0
-AllAt distance cell other n = (t : ℕ) → t < n → sub (cell t) (other t) ≡ distance
-
 -- The numbers of the first t threads, compared one after the other.
 pub record Comparing (cell other : ℕ → ℕ) (distance n same t : ℕ) : Type 0 where
   pub come : t ≤ n
   pub few : same ≤ t
   pub alike : same ≡ t → (j : ℕ) → j < t → sub (cell j) (other j) ≡ distance
-
-pub comparing_none : (cell other : ℕ → ℕ) (distance n : ℕ) → Comparing cell other distance n 0 0
-comparing_none cell other distance n = record { come = omega arith; few = omega arith; alike = λ e j h. absurd (omega arith) }
-
-module _ (cell other : ℕ → ℕ) (distance n same t : ℕ) (C : Comparing cell other distance n same t) where
-  pub comparing_more : (d e : ℕ) → t < n → d ≡ sub (cell t) (other t) → e ≡ equal d distance → Comparing cell other distance n (same + e) (t + 1)
-  comparing_more d e h ed ee =
-      let one = equal_one d distance in
-      record {
-        come = omega arith;
-        few = omega (arith, one.0, C.few);
-        alike = λ q j l. by j l (ℕ_discrete j t) (omega (arith, one.0, C.few)) (one.1 (omega (arith, one.0, C.few)));
-      }
-    where
-      by : (j : ℕ) → j < t + 1 → Dec (j ≡ t) → same ≡ t → d ≡ distance → sub (cell j) (other j) ≡ distance
-      by j l (yes p) q r = ap (λ (z : ℕ). sub (cell z) (other z)) p ∙ sym ed ∙ r
-      by j l (no p) q r = C.alike q j (omega (arith, p))
-
-  pub comparing_all : n ≤ t → same ≡ n → AllAt distance cell other n
-  comparing_all h e j l = let c = C.come in C.alike (omega arith) j (omega arith)

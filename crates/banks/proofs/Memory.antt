@@ -1,5 +1,5 @@
 -- The slots of the remembered costs. Assumes nothing.
-use mathlib.Core.Path.{◌≡◌, refl, sym, ◌∙◌, ap, subst}
+use mathlib.Core.Path.{◌≡◌, sym, ◌∙◌, ap, subst}
 use mathlib.Core.Logic.{◌⊎◌, inl, inr}
 use mathlib.Core.List.{List, [], ◌∷◌, map}
 use mathlib.Core.Bool.{Bool, true, false, cond}
@@ -7,72 +7,19 @@ use Prim.Native.Nat.{ℕ, suc, ◌+◌, ◌-◌, ◌*◌, ◌<◌, ◌≤◌}
 use native.Mathlib.Omega.{arith}
 use native.Mathlib.Decide.{ℕ_discrete}
 use lib.Dec.{ltb}
-use lib.ListN.{length, get_or, set, length-set, replicate, length-replicate, get_or-replicate}
-use lib.Seq.{get_or-set_same, get_or-set_other}
+use lib.Seq.{get_or-take, get_or-drop}
+use lib.ListN.{take, drop, length, get_or, replicate, length-replicate, get_or-replicate}
 use Rattle.spec.specs.Mask.{Mask, members, members_from}
 use Rattle.spec.specs.Banks.{different, in_bank, most_in_bank, conflict_cost}
 use Rattle.spec.proofs.BankLaws.{cost_bound}
 use Rattle.spec.proofs.Laws.{lt_or_le, map_members}
 use Rattle.spec.specs.Limits.{common_from}
 use Rattle.spec.specs.Lists.{passing}
-use Rattle.banks.specs.Counting.{AllCells, Older, RowCounted, own}
+use Rattle.banks.specs.Counting.{AllCells, Known, Older, RowCounted, own, numbers_in, numbers_of}
 use Rattle.banks.specs.Remembering.{AtOneDistance, Nearby, CostOf, lanes_from, Memo, Remembered, RowCosts}
 use Rattle.banks.proofs.Costing.{nobody_left}
 use Rattle.banks.proofs.Near.{all_pass, cells_own, recalled_near}
 use Rattle.banks.proofs.Distance.{cost_same}
-
--- The numbers of the first t threads, written from `at` on.
-pub record Writing (cell : ℕ → ℕ) (at : ℕ) (memo₀ memo : List ℕ) (t : ℕ) : Type 0 where
-  pub come : t ≤ 32
-  pub size : length memo ≡ length memo₀
-  pub lanes : (j : ℕ) → j < t → lanes_from memo at j ≡ cell j
-  pub others : (i : ℕ) → (i < at) ⊎ (at + 32 ≤ i) → get_or memo i 0 ≡ get_or memo₀ i 0
-
-pub writing_none : (cell : ℕ → ℕ) (at : ℕ) (memo : List ℕ) → Writing cell at memo memo 0
-writing_none cell at memo = record { come = omega arith; size = refl; lanes = λ j h. absurd (omega arith); others = λ i h. refl }
-
-beside : (i at t : ℕ) → (i < at) ⊎ (at + 32 ≤ i) → t < 32 → i ≡ at + t → ⊥
-beside i at t (inl h) l e = omega arith
-beside i at t (inr h) l e = omega arith
-
-module _ (cell : ℕ → ℕ) (at : ℕ) (memo₀ memo : List ℕ) (t : ℕ) (W : Writing cell at memo₀ memo t) (room : at + 34 ≤ length memo₀) where
-  pub writing_more : t < 32 → Writing cell at memo₀ (set memo (at + t) (cell t)) (t + 1)
-  writing_more h =
-      record {
-        come = omega arith;
-        size = length-set memo (at + t) (cell t) ∙ W.size;
-        lanes = λ j l. by j l (ℕ_discrete j t);
-        others = λ i o. get_or-set_other memo (at + t) i (cell t) 0 (beside i at t o h) ∙ W.others i o;
-      }
-    where
-      by : (j : ℕ) → j < t + 1 → Dec (j ≡ t) → lanes_from (set memo (at + t) (cell t)) at j ≡ cell j
-      by j l (yes e) =
-          ap (λ (z : ℕ). get_or (set memo (at + t) (cell t)) (at + z) 0) e ∙ get_or-set_same memo (at + t) (cell t) 0 (omega (arith, W.size)) ∙ ap cell (sym e)
-      by j l (no n) = get_or-set_other memo (at + t) (at + j) (cell t) 0 (λ z. n (omega arith)) ∙ W.lanes j (omega (arith, n))
-
-  pub writing_all : 32 ≤ t → (mask cost : ℕ) → Remembered cell mask cost at memo₀ (set (set memo (at + 32) mask) (at + 33) cost)
-  writing_all h mask cost =
-      let long : length (set memo (at + 32) mask) ≡ length memo₀ = length-set memo (at + 32) mask ∙ W.size in
-      record {
-        size = length-set (set memo (at + 32) mask) (at + 33) cost ∙ long;
-        lanes = λ j l.
-            get_or-set_other (set memo (at + 32) mask) (at + 33) (at + j) cost 0 (λ e. omega arith)
-            ∙ get_or-set_other memo (at + 32) (at + j) mask 0 (λ e. omega arith) ∙ W.lanes j (omega arith);
-        mask_is_lem = get_or-set_other (set memo (at + 32) mask) (at + 33) (at + 32) cost 0 (λ e. omega arith)
-            ∙ get_or-set_same memo (at + 32) mask 0 (omega (arith, W.size));
-        cost_is = get_or-set_same (set memo (at + 32) mask) (at + 33) cost 0 (omega (arith, long));
-        others = λ i o.
-            get_or-set_other (set memo (at + 32) mask) (at + 33) i cost 0 (λ e. off i o e (omega arith))
-            ∙ get_or-set_other memo (at + 32) i mask 0 (λ e. off i o e (omega arith)) ∙ W.others i (apart i o);
-      }
-    where
-      off : (i : ℕ) {j : ℕ} → (i < at) ⊎ (at + 34 ≤ i) → i ≡ at + j → j < 34 → ⊥
-      off i (inl h) e l = omega arith
-      off i (inr h) e l = omega arith
-
-      apart : (i : ℕ) → (i < at) ⊎ (at + 34 ≤ i) → (i < at) ⊎ (at + 32 ≤ i)
-      apart i (inl h) = inl h
-      apart i (inr h) = inr (omega arith)
 
 -- A cost is that of equal numbers.
 cost_as : (f g : ℕ → ℕ) (mask cost mask' cost' : ℕ) → ((t : ℕ) → t < 32 → g t ≡ f t) → mask' ≡ mask → cost' ≡ cost → CostOf f mask cost → CostOf g mask' cost'
@@ -197,3 +144,20 @@ module _ (cell : ℕ → ℕ) (n mask stamp : ℕ) (stamps memo : List ℕ) (M :
           older = C.older;
           memo = memo_more cell mask r slot memo memo' M R (omega arith) (C.whole small);
         }
+
+-- The numbers in a register are those of its own words.
+pub costs_there : (regs : List ℕ) (r k n mask stamp cost : ℕ) (stamps memo : List ℕ) → 32 ≤ k → n ≤ 32
+    → RowCosts (numbers_of (take k (drop (r * 32) regs))) n mask stamp cost stamps memo → RowCosts (numbers_in regs r) n mask stamp cost stamps memo
+unfolding members
+costs_there regs r k n mask stamp cost stamps memo h few C =
+    record {
+      cost_is = λ E e l K.
+          let same = map_members (numbers_in regs r) (numbers_of (take k (drop (r * 32) regs))) 0 E (λ t q m. here t (omega arith)) in
+          C.cost_is E e l (subst Known same K) ∙ ap (λ cs. conflict_cost (own cs)) (sym same);
+      few = C.few;
+      older = C.older;
+      memo = C.memo;
+    }
+  where
+    here : (t : ℕ) → t < 32 → numbers_in regs r t ≡ numbers_of (take k (drop (r * 32) regs)) t
+    here t q = sym (get_or-take k (drop (r * 32) regs) t 0 (omega arith) ∙ get_or-drop (r * 32) regs t 0)

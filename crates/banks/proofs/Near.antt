@@ -1,18 +1,17 @@
 -- Item 12: which numbers of a row's threads can cost something; and why a row with common numbers is never told by what is remembered. Assumes nothing.
-use mathlib.Core.Path.{◌≡◌, refl, sym, ◌∙◌, ap, ap₂, subst}
+use mathlib.Core.Path.{◌≡◌, refl, sym, ◌∙◌, ap, ap₂}
 use mathlib.Core.Logic.{◌⊎◌, inl, inr}
 use mathlib.Core.List.{List, [], ◌∷◌, map}
-use mathlib.Core.Bool.{Bool, true, false, cond}
+use mathlib.Core.Bool.{true, false, cond}
 use Prim.Native.Nat.{ℕ, suc, ◌+◌, ◌<◌, ◌≤◌}
 use native.Mathlib.Omega.{arith}
-use borrow.Author.Tests.{lt-ltb, le-ltb, ltb-false}
+use borrow.Author.Tests.{lt-ltb, le-ltb}
 use lib.Dec.{ltb}
 use lib.ListN.{length}
 use Rattle.spec.specs.Limits.{common_from}
 use Rattle.spec.specs.Lists.{passing}
 use Rattle.spec.specs.Mask.{Mask, members, members_from}
-use Rattle.spec.specs.Word.{add, sub, less, truth}
-use Rattle.spec.proofs.Laws.{lt_or_le}
+use Rattle.spec.specs.Word.{add, sub}
 use Rattle.spec.proofs.BankLaws.{cost_bound}
 use Rattle.banks.specs.Counting.{AllCells, AllFar, Known, Older, RowCounted, own, cells_of}
 
@@ -52,36 +51,6 @@ pub record Looking (cell : ℕ → ℕ) (n near t : ℕ) : Type 0 where
   pub few : near ≤ t
   pub far : near ≡ 0 → AllFar t cell
 
-less_few : (x k : ℕ) → less x k ≤ 1
-less_few x k = by (ltb x k)
-  where
-    by : (b : Bool) → truth b ≤ 1
-    by true = omega arith
-    by false = omega arith
-
-not_less : (x k : ℕ) → less x k ≡ 0 → k ≤ x
-not_less x k = by (ltb x k) refl
-  where
-    by : (b : Bool) → ltb x k ≡ b → truth b ≡ 0 → k ≤ x
-    by true q e = absurd (omega (arith, e))
-    by false q e = ltb-false x k q
-
-pub looking_none : (cell : ℕ → ℕ) (n : ℕ) → Looking cell n 0 0
-looking_none cell n = record { come = omega arith; few = omega arith; far = λ e t h. absurd (omega arith) }
-
-pub looking_few : (cell : ℕ → ℕ) (n near t v : ℕ) → Looking cell n near t → v ≡ less (cell t) common_from → near + v ≤ t + 1
-looking_few cell n near t v L e = omega (arith, L.few, e, less_few (cell t) common_from)
-
-pub looking_more : (cell : ℕ → ℕ) (n near t v : ℕ) → Looking cell n near t → t < n → v ≡ less (cell t) common_from → Looking cell n (near + v) (t + 1)
-looking_more cell n near t v L h e =
-    record { come = omega arith; few = looking_few cell n near t v L e; far = λ z i l. by z i (lt_or_le i t) l }
-  where
-    by : near + v ≡ 0 → (i : ℕ) → (i < t) ⊎ (t ≤ i) → i < t + 1 → common_from ≤ cell i
-    by z i (inl l) m = L.far (omega (arith, z)) i l
-    by z i (inr l) m =
-        let same : t ≡ i = omega arith in
-        subst (λ j. common_from ≤ cell j) same (not_less (cell t) common_from (sym e ∙ (let y : v ≡ 0 = omega (arith, z) in y)))
-
 -- So none of them is a cell's.
 none_near : (cell : ℕ → ℕ) (k : ℕ) (E : Mask) → AllFar (k + length E) cell → cells_of (map cell (members_from k E)) ≡ []
 unfolding members_from passing
@@ -92,7 +61,7 @@ none_near cell k (true ∷ E) F =
     ap (λ b. cond b (cell k ∷ cells_of (map cell (members_from (suc k) E))) (cells_of (map cell (members_from (suc k) E)))) (le-ltb (cell k) 1024 (omega (arith, far)))
     ∙ none_near cell (suc k) E (λ t l. F t (omega arith))
 
--- A row of such numbers is counted at once, and every row of fewer threads is counted as one of 32 at most.
+-- A row of such numbers is counted at once.
 pub counted_far : (cell : ℕ → ℕ) (n mask stamp : ℕ) (stamps : List ℕ) → AllFar n cell → Older (stamp + 1) stamps → RowCounted cell n mask stamp 32 stamps
 unfolding members
 counted_far cell n mask stamp stamps F O =
@@ -105,7 +74,3 @@ counted_far cell n mask stamp stamps F O =
       few = omega arith;
       older = O;
     }
-
-pub counted_fewer : (cell : ℕ → ℕ) (n mask stamp r : ℕ) (stamps : List ℕ) → n ≤ 32 → RowCounted cell 32 mask stamp r stamps → RowCounted cell n mask stamp r stamps
-counted_fewer cell n mask stamp r stamps h C =
-    record { whole = C.whole; part = λ s E e l. C.part s E e (omega arith); few = C.few; older = C.older }

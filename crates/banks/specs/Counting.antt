@@ -35,6 +35,10 @@ pub record Counted (stamp i : ℕ) (stamps counts : List ℕ) (most : ℕ) (stam
 abbrev pub numbers_in : (regs : List ℕ) → (r t : ℕ) → ℕ
 numbers_in regs r t = get_or regs (r * 32 + t) 0
 
+-- The same of the register's own words.
+abbrev pub numbers_of : (numbers : List ℕ) → (t : ℕ) → ℕ
+numbers_of numbers t = get_or numbers t 0
+
 -- Each of these numbers is a cell's.
 abbrev pub AllCells : List ℕ → Type 0
 AllCells [] = Unit {0}

@@ -1,4 +1,5 @@
 -- The whole-file entry: what its tests leave known, and its answer. Assumes nothing.
+use Rattle.std.specs.Prelude.{Result, Err}
 use mathlib.Core.Path.{◌≡◌, refl, sym, ap, ap₂, subst, ◌∙◌}
 use mathlib.Core.List.{List}
 use mathlib.Core.Option.{Option, none, some, none-ne-some}
@@ -6,8 +7,6 @@ use Prim.Native.Nat.{ℕ, ◌≤◌}
 use borrow.Author.Tests.{eqb-true, leb-true}
 use lib.ListN.{length}
 use Rattle.spec.specs.declared.Refusal.{Refusal}
-use Rattle.spec.specs.declared.Written.{Written}
-use Rattle.spec.specs.declared.Written.TheVariants as written
 use Rattle.spec.specs.Answers.{first, told, told_in}
 use Rattle.spec.specs.Launch.{Launch, launch_intervals, launch_log, own_after, global_after}
 use Rattle.spec.specs.LaunchFile.{Checked, refused, accepted, unless_refused, file_launch}
@@ -37,85 +36,91 @@ lent_is held shared logged recorded room e =
       leb-true _ _ ((unless_none _ _).0 output-tested.0),
     )
 
-module _ (file cells global log records output : List ℕ) where
-  -- The answer, by its case and by number and place, the buffers, and what may be read from the report.
-  abbrev pub Entry : Written → (cells' global' log' records' output' : List ℕ) → Type 0
-  Entry r cells' global' log' records' output' =
-      (r ≡ file_answer file cells global log records output)
-      × ((told_in r ≡ told (checked_refusal (file_checked file cells global log records output)))
-      × ((cells' ≡ file_cells_after file cells global log records output)
-      × ((global' ≡ file_global_after file cells global log records output)
-      × ((log' ≡ file_log_after file cells global log records output)
-      × ((records' ≡ file_records_after file cells global log records output)
-      × ((output' ≡ file_output_after file cells global log records output)
-      × (OfWritten (FileReadable file) r output' × OfWritten (ReportDemand3 file) r output')))))))
+-- The answer, by its case and by number and place, the buffers, and what may be read from the report.
+pub record Entry (file cells global log records output : List ℕ) (r : Result ℕ Refusal) (cells' global' log' records' output' : List ℕ) : Type 0 where
+  pub answer : r ≡ file_answer file cells global log records output
+  pub refusal : told_in r ≡ told (checked_refusal (file_checked file cells global log records output))
+  pub cells_are : cells' ≡ file_cells_after file cells global log records output
+  pub global_are : global' ≡ file_global_after file cells global log records output
+  pub log_is : log' ≡ file_log_after file cells global log records output
+  pub records_are : records' ≡ file_records_after file cells global log records output
+  pub output_is : output' ≡ file_output_after file cells global log records output
+  pub reads : OfWritten (FileReadable file) r output'
+  pub runs : OfWritten (ReportDemand3 file) r output'
 
+told_in_lem : (x : Checked Launch) → told_in (report_length x) ≡ told (checked_refusal x)
+unfolding report_length told_in told checked_refusal
+told_in_lem (refused why) = refl
+told_in_lem (accepted launch) = refl
+
+-- A launch that is run is the file's.
+checked_launch : (x : Checked Launch) (state : Option Refusal) (launch : Launch) → and_state x state ≡ accepted launch → x ≡ accepted launch
+unfolding and_state unless_refused checked_refusal
+checked_launch (refused why) state launch e = e
+checked_launch (accepted l) none launch e = e
+checked_launch (accepted l) (some why) launch e = absurd (none-ne-some why (sym (ap checked_refusal e)))
+
+module _ (file cells global log records output : List ℕ) where
   abbrev by_state : Option Refusal
   by_state = file_lent (length cells) (length global) (length log) (length records) (length output)
 
-  told_in_lem : (x : Checked Launch) → told_in (report_length x) ≡ told (checked_refusal x)
-  unfolding report_length told_in told checked_refusal
-  told_in_lem (refused why) = refl
-  told_in_lem (accepted launch) = refl
-
-  -- A launch that is run is the file's.
-  checked_launch : (x : Checked Launch) (state : Option Refusal) (launch : Launch) → and_state x state ≡ accepted launch → x ≡ accepted launch
-  unfolding and_state unless_refused checked_refusal
-  checked_launch (refused why) state launch e = e
-  checked_launch (accepted l) none launch e = e
-  checked_launch (accepted l) (some why) launch e = absurd (none-ne-some why (sym (ap checked_refusal e)))
+  abbrev checked : Checked Launch
+  checked = file_checked file cells global log records output
 
   -- What is written is what `check` prints.
   of_written : (P : List ℕ → Type 0) → P (check_prints file) → OfWritten P (file_answer file cells global log records output) (file_output_after file cells global log records output)
   unfolding file_answer file_output_after file_checked report_length if_accepted
-  of_written P h = by (file_checked file cells global log records output) refl
+  of_written P h = by checked refl
     where
-      by : (x : Checked Launch) → file_checked file cells global log records output ≡ x → OfWritten P (report_length x) (if_accepted x output launch_report)
+      by : (x : Checked Launch) → checked ≡ x → OfWritten P (report_length x) (if_accepted x output launch_report)
       by (refused why) e = tt
       by (accepted launch) e =
           rw (front_of_lem (launch_report launch) output (over (launch_report launch) output) refl)
           (subst P (launch_printed file launch (checked_launch (file_launch file) by_state launch e)) h)
 
-  entry : (r : Written) (cells' global' log' records' output' : List ℕ) → r ≡ file_answer file cells global log records output
-      → cells' ≡ file_cells_after file cells global log records output → global' ≡ file_global_after file cells global log records output → log' ≡ file_log_after file cells
-      global log records output → records' ≡ file_records_after file cells global log records output
-      → output' ≡ file_output_after file cells global log records output → Entry r cells' global' log' records' output'
-  unfolding file_answer
-  entry r cells' global' log' records' output' a c g l w o =
-      let written : (P : List ℕ → Type 0) → P (check_prints file) → OfWritten P r output' = λ P h. rw (a, o) (of_written P h) in (
-        a,
-        (
-          ap told_in a ∙ told_in_lem (file_checked file cells global log records output),
-          (c, (g, (l, (w, (o, (written (FileReadable file) (file_readable file), written (ReportDemand3 file) (report_demand3 file))))))),
-        ),
-      )
+  -- The entry, by what the file and the state come to.
+  by_checked : (x : Checked Launch) → checked ≡ x → (r : Result ℕ Refusal) (cells' global' log' records' output' : List ℕ) → r ≡ report_length x
+      → cells' ≡ if_accepted x cells own_after → global' ≡ if_accepted x global global_after → log' ≡ if_accepted x log launch_log
+      → records' ≡ if_accepted x records (λ launch. record_words (launch_intervals launch)) → output' ≡ if_accepted x output launch_report
+      → Entry file cells global log records output r cells' global' log' records' output'
+  unfolding file_answer file_cells_after file_global_after file_log_after file_records_after file_output_after
+  by_checked x e r cells' global' log' records' output' a c g l w o =
+      let answer : r ≡ file_answer file cells global log records output = rw e a in
+      let out : output' ≡ file_output_after file cells global log records output = rw e o in
+      let written : (P : List ℕ → Type 0) → P (check_prints file) → OfWritten P r output' = λ P h. rw (answer, out) (of_written P h) in
+      record {
+        answer = answer;
+        refusal = ap told_in answer ∙ told_in_lem checked;
+        cells_are = rw e c;
+        global_are = rw e g;
+        log_is = rw e l;
+        records_are = rw e w;
+        output_is = out;
+        reads = written (FileReadable file) (file_readable file);
+        runs = written (ReportDemand3 file) (report_demand3 file);
+      }
 
-  turned_back : (why : Refusal) → file_checked file cells global log records output ≡ refused why → Entry (written.Refused why) cells global log records output
-  unfolding file_answer file_cells_after file_global_after file_log_after file_records_after file_output_after report_length if_accepted
-  turned_back why e =
-      entry (written.Refused why) cells global log records output (sym (ap report_length e))
-      (sym (ap (λ x. if_accepted x cells own_after) e)) (sym (ap (λ x. if_accepted x global global_after) e)) (sym (ap (λ x. if_accepted x log launch_log) e))
-      (sym (ap (λ x. if_accepted x records (λ launch. record_words (launch_intervals launch))) e)) (sym (ap (λ x. if_accepted x output launch_report) e))
+  turned_back : (why : Refusal) → checked ≡ refused why → Entry file cells global log records output (Err why) cells global log records output
+  unfolding report_length if_accepted
+  turned_back why e = by_checked (refused why) e (Err why) cells global log records output refl refl refl refl refl refl
 
   -- From the input, and from the state.
-  pub file_refuses : (why : Refusal) → file_launch file ≡ refused why → Entry (written.Refused why) cells global log records output
+  pub file_refuses : (why : Refusal) → file_launch file ≡ refused why → Entry file cells global log records output (Err why) cells global log records output
   unfolding file_checked and_state
   file_refuses why e = turned_back why (ap (λ x. and_state x by_state) e)
 
-  pub state_refuses : (launch : Launch) (why : Refusal) → file_launch file ≡ accepted launch → by_state ≡ some why → Entry (written.Refused why) cells global log records output
+  pub state_refuses : (launch : Launch) (why : Refusal) → file_launch file ≡ accepted launch → by_state ≡ some why
+      → Entry file cells global log records output (Err why) cells global log records output
   unfolding file_checked and_state unless_refused
   state_refuses launch why e q = turned_back why (ap₂ and_state e q)
 
-  pub ran : (launch : Launch) (r : Written) (cells' global' log' records' output' : List ℕ) → file_launch file ≡ accepted launch → by_state ≡ none
-      → ReportedLaunch launch cells global log records output r cells' global' log' records' output' → Entry r cells' global' log' records' output'
-  unfolding file_checked and_state unless_refused file_answer file_cells_after file_global_after file_log_after file_records_after file_output_after report_length if_accepted
+  pub ran : (launch : Launch) (r : Result ℕ Refusal) (cells' global' log' records' output' : List ℕ) → file_launch file ≡ accepted launch → by_state ≡ none
+      → ReportedLaunch launch cells global log records output r cells' global' log' records' output'
+      → Entry file cells global log records output r cells' global' log' records' output'
+  unfolding file_checked and_state unless_refused report_length if_accepted
   ran launch r cells' global' log' records' output' e q d =
-      let taken : file_checked file cells global log records output ≡ accepted launch = ap₂ and_state e q in
-      entry r cells' global' log' records' output' (d.answered ∙ sym (ap report_length taken))
-      (d.cells_left ∙ sym (ap (λ x. if_accepted x cells own_after) taken)) (d.global_left ∙ sym (ap (λ x. if_accepted x global global_after) taken))
-      (d.log_left ∙ sym (ap (λ x. if_accepted x log launch_log) taken))
-      (d.records_left ∙ sym (ap (λ x. if_accepted x records (λ l. record_words (launch_intervals l))) taken))
-      (d.report_written ∙ sym (ap (λ x. if_accepted x output launch_report) taken))
+      by_checked (accepted launch) (ap₂ and_state e q) r cells' global' log' records' output'
+      d.answered d.cells_left d.global_left d.log_left d.records_left d.report_written
 
   -- What running the launch asks of the buffers.
   pub roomy : by_state ≡ none → Lent cells global log records × (file_output ≤ length output)

@@ -6,8 +6,7 @@ ghost use Rattle.spec.specs.Answers.{told, told_in};
 ghost use Rattle.spec.specs.Entries.{checked_refusal, file_checked, file_answer, file_cells_after, file_global_after, file_log_after, file_records_after, file_output_after};
 ghost use Rattle.spec.specs.Demands.{ReportDemand3, FileReadable, OfWritten};
 
-use admission::Admission;
-use spec::Written;
+use spec::Refusal;
 
 // The entry for whoever has a launch file. The lent own cells and global cells are 1,024 words each, the log 8,192, the records 3,075 or more, the output
 // 24,576 bytes or more. A refusal leaves all five as they were lent.
@@ -18,7 +17,7 @@ pub fn check_file(
     log: &mut [u32],
     records: &mut [u32],
     output: &mut [u8],
-) -> Written
+) -> Result<usize, Refusal>
     ensures answer { result ≡ file_answer file.now cells.old global.old log.old records.old output.old }
     ensures refusal { told_in result ≡ told (checked_refusal (file_checked file.now
         cells.old global.old log.old records.old output.old)) }
@@ -35,44 +34,14 @@ pub fn check_file(
     ensures reads { OfWritten (FileReadable file.now) result output.new }
     ensures runs { OfWritten (ReportDemand3 file.now) result output.new }
 {
-    let found = filelaunch::file_launch(file);
-    let answer = found.answer;
-    let launch = found.launch;
-    let ends = found.ends;
-    if let Admission::Refused(why) = answer {
-        return Written::Refused(why);
-    }
-    match admission::lent_for_file(
+    let found = filelaunch::file_launch(file)?;
+    admission::lent_for_file(
         cells.len(),
         global.len(),
         log.len(),
         records.len(),
         output.len(),
-    ) {
-        Admission::Refused(why) => return Written::Refused(why),
-        Admission::Accepted => {}
-    }
-    let table = launch.table;
-    let words = launch.cells;
-    let shared = launch.global;
-    let used = 4 * launch.rows;
-    let count = launch.count;
-    let more = launch.shared;
+    )?;
     let none: [u32; 0] = [];
-    filerun::report_launch(
-        &table[..used],
-        &ends,
-        launch.threads,
-        launch.groups,
-        launch.each,
-        launch.limit,
-        &none,
-        &words[..count],
-        &shared[..more],
-        cells,
-        global,
-        log,
-        records,
-        output,
-    )
+    filerun::report_launch(found.over(&none), cells, global, log, records, output)
 }

@@ -1,12 +1,12 @@
 -- What the lines of the common file come to: the first that is not due, or the cells. Assumes nothing.
-use mathlib.Core.Path.{◌≡◌, refl, sym, ◌∙◌, subst}
+use mathlib.Core.Path.{◌≡◌, refl, ◌∙◌}
 use mathlib.Core.List.{List}
 use mathlib.Core.Bool.{Bool, true, false}
 use mathlib.Core.Option.{none, some}
 use Prim.Native.Nat.{ℕ, suc, ◌+◌, ◌<◌, ◌≤◌}
 use native.Mathlib.Omega.{arith}
 use borrow.Author.Tests.{lt-ltb, le-ltb, le-leb, lt-leb}
-use lib.ListN.{length, take, length-replicate}
+use lib.ListN.{length, take}
 use Rattle.spec.specs.Text.{text}
 use Rattle.spec.specs.Limits.{max_common}
 use Rattle.spec.specs.Answers.{refusal_place}
@@ -16,13 +16,13 @@ use Rattle.filelines.specs.Lines.{keyed_value, next_in, line_read}
 use Rattle.filelines.specs.Values.{exact_bytes, word_in}
 use Rattle.filelines.proofs.DueLines.{due_line, due_word, ended, not_ended}
 use Rattle.contents.specs.Taken.{taken, CellsTaken}
-use Rattle.admission.specs.declared.Admission.TheVariants.{Accepted}
-use Rattle.commonfile.specs.declared.CommonFile.{CommonFile}
-use Rattle.commonfile.specs.CommonRead.{refused_at, CommonRead}
+use Rattle.std.specs.Prelude.{Ok, Err}
+use Rattle.spec.specs.declared.Refusal.{Refusal}
+use Rattle.commonfile.specs.CommonRead.{CommonRead}
 use Rattle.spec.specs.declared.Refusal.TheVariants as refusal
 
-pub refuses : {file : List ℕ} {line : ℕ} {r : CommonFile} → r ≡ refused_at line → common_cells file ≡ refused (refusal.CommonFile line) → CommonRead file r
-refuses {file} e q = subst (CommonRead file) (sym e) (record { cells = q; few = omega arith; long = length-replicate {A = ℕ} max_common 0 })
+pub refuses : {file : List ℕ} {line : ℕ} {why : Refusal} → why ≡ refusal.CommonFile line → common_cells file ≡ refused (refusal.CommonFile line) → CommonRead file (Err why)
+refuses e q = record { cells = rw e q; few = tt; long = tt }
 
 module _ (file : List ℕ) where
   pub no_number : keyed_value (text "common") number file ≡ none → common_cells file ≡ refused (refusal.CommonFile 1)
@@ -59,6 +59,6 @@ module _ (file : List ℕ) where
               let e : suc (2 + n) ≡ 3 + n = omega arith in
               rw (at_end_lem, f, ← m, not_ended (suc (2 + n)) more l, e)
 
-          pub accepts : length old ≡ max_common → length more ≡ 0 → CommonRead file (record { answer = Accepted; count = n; words = words })
+          pub accepts : length old ≡ max_common → length more ≡ 0 → CommonRead file (Ok (record { count = n; words = words }))
           unfolding common_cells common_checked continue line_read ◌>>◌ gives
           accepts o l = record { cells = rw (at_end_lem, f, ← m, ended (suc (2 + n)) more l); few = h; long = C.long ∙ o }

@@ -1,23 +1,22 @@
 -- What the reader answers is what the definition makes of the file. Assumes nothing.
-use Rattle.std.specs.Prelude.{◌≡◌, List, ℕ, ◌≤◌, length, take, replicate}
+use denote.Ref.{Bor}
+use Rattle.std.specs.Prelude.{◌≡◌, Result, Ok, Err, IfOk, List, ℕ, ◌≤◌, length, take}
+use Rattle.spec.specs.declared.Refusal.{Refusal}
 use Rattle.spec.specs.Limits.{max_common}
 use Rattle.spec.specs.LaunchFile.{Checked, refused, accepted}
 use Rattle.spec.specs.PairFiles.{common_cells}
-use Rattle.spec.specs.declared.Refusal.TheVariants as refusal
-use Rattle.admission.specs.declared.Admission.{Admission}
-use Rattle.admission.specs.declared.Admission.TheVariants.{Accepted, Refused}
 use Rattle.commonfile.specs.declared.CommonFile.{CommonFile}
 
--- A refusal comes with no cells.
-abbrev pub refused_at : ℕ → CommonFile
-refused_at line = record { answer = Refused (refusal.CommonFile line); count = 0; words = replicate max_common 0 }
-
 -- A refusal, or the cells that were read.
-abbrev pub answer_of : Admission → (cells : List ℕ) → Checked (List ℕ)
-answer_of (Refused why) cells = refused why
-answer_of Accepted cells = accepted cells
+abbrev pub answer_of : Result (Bor (List ℕ)) Refusal → Checked (List ℕ)
+answer_of (Err why) = refused why
+answer_of (Ok cells) = accepted cells.now
 
-pub record CommonRead (file : List ℕ) (r : CommonFile) : Type 0 where
-  pub cells : common_cells file ≡ answer_of r.answer (take r.count r.words)
-  pub few : r.count ≤ max_common
-  pub long : length r.words ≡ max_common
+abbrev pub cells_in : Result CommonFile Refusal → Checked (List ℕ)
+cells_in (Err why) = refused why
+cells_in (Ok found) = accepted (take found.count found.words)
+
+pub record CommonRead (file : List ℕ) (r : Result CommonFile Refusal) : Type 0 where
+  pub cells : common_cells file ≡ cells_in r
+  pub few : IfOk r (λ found. found.count ≤ max_common)
+  pub long : IfOk r (λ found. length found.words ≡ max_common)

@@ -1,60 +1,58 @@
 // The reader of the common file: one pass over its lines, as with a launch file. Every fault in it is refusal 37, at its line.
 #![tactic(auto)]
 
-ghost use Rattle.std.specs.Prelude.{◌≡◌};
-ghost use Rattle.commonfile.specs.CommonRead.{refused_at, CommonRead};
+ghost use Rattle.std.specs.Prelude.{◌≡◌, ◌<◌, ◌≤◌, ◌^◌, length, take};
+ghost use Rattle.spec.specs.declared.Refusal.TheVariants as refusal;
+ghost use Rattle.commonfile.specs.CommonRead.{CommonRead};
 
-use admission::Admission;
 use spec::Refusal;
-use text::Number;
 
-// The `count` common cells are the first words of `words`.
+// The `count` common cells are the first words of `words`: fixed memory, as in `launchfile::Launch`.
 #[derive(Clone, Copy)]
 pub struct CommonFile {
-    pub answer: Admission,
     pub count: usize,
     pub words: [u32; 256],
 }
 
-fn refused(line: u32) -> CommonFile
-    ensures { result ≡ refused_at line }
-{
-    let words = [0u32; 256];
-    CommonFile {
-        answer: Admission::Refused(Refusal::CommonFile(line)),
-        count: 0,
-        words,
+impl CommonFile {
+    // The words of the common cells.
+    pub fn cells(&self) -> &[u32]
+        requires { self.now.count ≤ length self.now.words }
+        ensures { result.now ≡ take self.now.count self.now.words }
+    {
+        &self.words[..self.count]
     }
 }
 
+fn fault(line: usize) -> Refusal
+    requires { line < 2 ^ 32 }
+    ensures { result ≡ refusal.CommonFile line }
+{
+    Refusal::CommonFile(line as u32)
+}
+
 // The common cells that a file gives, or the first refusal of its lines.
-pub fn read_common(file: &[u8]) -> CommonFile
+pub fn read_common(file: &[u8]) -> Result<CommonFile, Refusal>
     ensures { CommonRead file.now result }
 {
-    let Number::Value(found) = filelines::number_line(file, b"common") else {
-        return refused(1);
+    let Some(found) = filelines::number_line(file, b"common") else {
+        return Err(fault(1));
     };
     if 256 < found {
-        return refused(1);
+        return Err(fault(1));
     }
     let count = found as usize;
     let cells = filelines::next(file);
     let mut words = [0u32; 256];
-    let mut good: usize = 0;
-    let end = contents::read_cells(cells, b"cell", count, &mut words, &mut good);
-    if good < count {
-        return refused((2 + good) as u32);
-    }
+    let end = match contents::read_cells(cells, b"cell", count, &mut words) {
+        Ok(end) => end,
+        Err(undue) => return Err(fault(2 + undue.good)),
+    };
     if !filelines::word_line(end, b"end", b"common") {
-        return refused((2 + count) as u32);
+        return Err(fault(2 + count));
     }
-    let more = filelines::next(end);
-    if more.len() != 0 {
-        return refused((3 + count) as u32);
+    if !filelines::next(end).is_empty() {
+        return Err(fault(3 + count));
     }
-    CommonFile {
-        answer: Admission::Accepted,
-        count,
-        words,
-    }
+    Ok(CommonFile { count, words })
 }

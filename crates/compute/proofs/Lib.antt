@@ -1,3 +1,4 @@
+mod Ops
 mod Values
 mod Putting
 mod Stored

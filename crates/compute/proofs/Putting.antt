@@ -6,14 +6,37 @@ use Prim.Native.Nat.{ℕ, suc, ◌+◌, ◌-◌, ◌*◌, ◌/◌, ◌%◌, ◌^
 use native.Mathlib.Nat.{not-suc-le-zero}
 use native.Mathlib.Omega.{arith}
 use native.Mathlib.Decide.{ℕ_discrete}
-use borrow.Author.Rules.{rules}
 use borrow.Author.Tests.{eq-eqb, ne_eqb}
 use lib.Dec.{eqb}
 use lib.Pow.{pow_pos, ones_split, ones_lt, high}
 use lib.ListN.{length, set, length-set}
 use lib.Seq.{get_or-set_same, get_or-set_other}
 use Rattle.layout.specs.Memory.{Puts, lane, stored}
-use Rattle.compute.specs.RowLanes.{given}
+use Rattle.compute.specs.RowLanes.{given, Stores}
+
+module _ {d : ℕ} {R : ℕ → ℕ → Type 0} {regs regs' : List ℕ} {t : ℕ} (S : Stores d R regs regs' t) where
+  -- The lane that is next is as it was.
+  pub stores_old : lane d regs' t ≡ lane d regs t
+  stores_old = S.above (d * 32 + t) (λ j k e. omega arith)
+
+  -- One more lane is stored.
+  pub stores_more : (x : ℕ) → d < 16 → length regs ≡ 512 → t < 32 → R t x → Stores d R regs (set regs' (d * 32 + t) x) (t + 1)
+  stores_more x l s h r =
+      record {
+        size = length-set regs' (d * 32 + t) x ∙ S.size;
+        below = λ j q. by j q (ℕ_discrete j t);
+        above = λ k n. get_or-set_other regs' (d * 32 + t) k x 0 (λ e. n t (omega arith) e) ∙ S.above k (λ j q e. n j (omega arith) e);
+      }
+    where
+      by : (j : ℕ) → j < t + 1 → Dec (j ≡ t) → R j (lane d (set regs' (d * 32 + t) x) j)
+      by j q (yes e) =
+          subst (λ i. R i (lane d (set regs' (d * 32 + t) x) i)) (sym e)
+          (subst (R t) (sym (get_or-set_same regs' (d * 32 + t) x 0 (omega (arith, S.size)))) r)
+      by j q (no n) = subst (R j) (sym (get_or-set_other regs' (d * 32 + t) (d * 32 + j) x 0 (λ e. n (omega arith)))) (S.below j (omega (arith, n)))
+
+  -- What each lane is told to hold it holds.
+  pub stores_puts : (F : ℕ → ℕ) → t ≤ 32 → ((j x : ℕ) → j < t → R j x → x ≡ F j) → Puts d F regs regs' t
+  stores_puts F l told = record { few = l; size = S.size; below = λ j h. told j _ h (S.below j h); above = S.above }
 
 module _ (d : ℕ) (F : ℕ → ℕ) (regs : List ℕ) where
   pub puts_none : Puts d F regs regs 0
@@ -26,21 +49,7 @@ module _ (d : ℕ) (F : ℕ → ℕ) (regs : List ℕ) where
 
     pub puts_more : (x : ℕ) → d < 16 → length regs ≡ 512 → t < 32 → x ≡ F t → Puts d F regs (set regs' (d * 32 + t) x) (t + 1)
     puts_more x l s h ex =
-        record {
-          few = omega arith;
-          size = length-set regs' (d * 32 + t) x ∙ P.size;
-          below = λ j q. by j q (ℕ_discrete j t);
-          above = λ k n. get_or-set_other regs' (d * 32 + t) k x 0 (λ e. n t (omega arith) e) ∙ P.above k (λ j q e. n j (omega arith) e);
-        }
-      where
-        by : (j : ℕ) → j < t + 1 → Dec (j ≡ t) → lane d (set regs' (d * 32 + t) x) j ≡ F j
-        by j q (yes e) = ap (lane d (set regs' (d * 32 + t) x)) e ∙ get_or-set_same regs' (d * 32 + t) x 0 (omega (arith, P.size)) ∙ ex ∙ ap F (sym e)
-        by j q (no n) = get_or-set_other regs' (d * 32 + t) (d * 32 + j) x 0 (λ e. n (omega arith)) ∙ P.below j (omega (arith, n))
-
-    pub puts_all : 32 ≤ t → Puts d F regs regs' 32
-    puts_all h = subst (Puts d F regs regs') (let e : t ≡ 32 = omega (arith, P.few) in e) P
-
-pub ruleset putting = (puts_none, puts_more, puts_all, rules)
+        stores_puts (stores_more (record { size = P.size; below = P.below; above = P.above }) x l s h ex) F (omega arith) (λ j y k e. e)
 
 -- Two that put the same into the lanes of n threads agree there.
 pub puts_agree : (d n : ℕ) (F G : ℕ → ℕ) (regs ys zs : List ℕ) → n ≤ 32 → Puts d F regs ys 32 → Puts d G regs zs n
@@ -58,9 +67,6 @@ puts_same d F G regs ys P same = record { few = P.few; size = P.size; below = λ
 -- A lane, by whether it is on.
 pub given_on : (on x d : ℕ) (regs : List ℕ) (t : ℕ) → on ≡ 1 → x ≡ given on x d regs t
 given_on on x d regs t e = sym (rw (eq-eqb on 1 e))
-
-pub given_off : (on x d : ℕ) (regs : List ℕ) (t : ℕ) → (on ≡ 1 → ⊥) → lane d regs t ≡ given on x d regs t
-given_off on x d regs t n = sym (rw (ne_eqb on 1 n))
 
 -- Every bit of 2 ^ n - 1 is 1.
 all_bits : (j t : ℕ) → (2 ^ (suc j + t) - 1) / 2 ^ t % 2 ≡ 1

@@ -18,12 +18,12 @@ module _ {c : Calc} {group n mask d a b all : ℕ} {regs v regs' : List ℕ} (B 
       puts_same d (λ t. get_or v t 0) (computed_lane c group n mask d a b regs) regs regs' P
       (λ t h. B.at t h ∙ sym (ap (λ x. cond x (value c n t (group * n + t) a b (lane a regs t) (lane b regs t)) (lane d regs t)) (stored_all n mask t (e ∙ ea))))
 
-  pub some_stored : {on : List ℕ} → (mask ≡ all → ⊥) → all ≡ 2 ^ n - 1 → Filled (λ t. mask / 2 ^ t % 2) on 32 → Puts d (picked v on d regs) regs regs' 32
+  pub some_stored : (on : List ℕ) → (mask ≡ all → ⊥) → all ≡ 2 ^ n - 1 → Filled (λ t. mask / 2 ^ t % 2) on 32 → Puts d (picked v on d regs) regs regs' 32
       → Puts d (computed_lane c group n mask d a b regs) regs regs' 32
   unfolding computed_lane
-  some_stored {on} ne ea F P =
+  some_stored on ne ea F P =
       puts_same d (picked v on d regs) (computed_lane c group n mask d a b regs) regs regs' P (λ t h.
-      ap (λ (y : ℕ). cond (eqb y 1) (get_or v t 0) (lane d regs t)) (F.below t h)
+      ap (λ (y : ℕ). cond (eqb y 1) (get_or v t 0) (lane d regs t)) (F.1 t h)
       ∙ ap (λ (y : ℕ). cond (eqb (mask / 2 ^ t % 2) 1) y (lane d regs t)) (B.at t h)
       ∙ sym (ap (λ x. cond x (value c n t (group * n + t) a b (lane a regs t) (lane b regs t)) (lane d regs t)) (stored_some n mask t (λ e. ne (e ∙ sym ea)))))
 

@@ -13,7 +13,7 @@ use Rattle.spec.specs.Mask.{mask_word, members}
 use Rattle.spec.specs.Op.{Calc, LAUNCHTID, CALC, op_of, value}
 use Rattle.spec.specs.Table.{Row}
 use Rattle.spec.specs.LockStep.{LockState, Step, in_turn, compute_turn, set_reg, update, reg}
-use Rattle.layout.specs.declared.Access.TheVariants.{Done}
+use Rattle.std.specs.Prelude.{Ok}
 use Rattle.layout.specs.Memory.{Regs, Memory, Did, OneTurn, ComputeAsks, lane, Puts, computed_lane, Computed}
 use Rattle.layout.proofs.Buffers.{regs_set}
 use Rattle.layout.proofs.Turning.{Turning, turn_start, turn_in, turn_out, turn_end, turn_whole}
@@ -22,7 +22,7 @@ use Rattle.compute.proofs.Putting.{puts_none, puts_old, puts_more, puts_agree, s
 
 -- Buffers that are the same where registers stand are those of the same state.
 did_alike : (n : ℕ) (s : LockState) (o : Step) (regs regs' cells log : List ℕ) → length regs' ≡ 512 → ((t r : ℕ) → t < n → lane r regs' t ≡ lane r regs t)
-    → Did n s o Done regs cells log → Did n s o Done regs' cells log
+    → Did n s o (Ok tt) regs cells log → Did n s o (Ok tt) regs' cells log
 did_alike n s o regs regs' cells log l e D =
     let M = D.memory in
     let R = M.regs_are in
@@ -43,7 +43,7 @@ module _ (c : Calc) (group n : ℕ) (x : Row) where
 
   one_turn : (t y : ℕ) (regs cells log : List ℕ) → t < n → x.d < 16
       → ((s : LockState) → Memory n s regs cells log → value c n t (group * n + t) x.a x.b (reg s t x.a) (reg s t x.b) ≡ y)
-      → OneTurn turn n t regs cells log Done (set regs (x.d * 32 + t) y) cells log
+      → OneTurn turn n t regs cells log (Ok tt) (set regs (x.d * 32 + t) y) cells log
   unfolding turn compute_turn set_reg update
   one_turn t y regs cells log h l e s M =
       record {
@@ -93,10 +93,10 @@ module _ (c : Calc) (group n mask d a b : ℕ) (regs : List ℕ) (target : d < 1
         ap (λ j. get_or (get_or z.regs t []) j 0) e ∙ sym (Z.regs_are.at t r h l)
         ∙ (after_puts t (omega (arith, M.few))).above (r * 32 + t) (λ j k q. omega (arith, M.few))
 
-    turn_of : (t : ℕ) → t < n → mask / 2 ^ t % 2 ≡ 1 → OneTurn (turn c group n x) n t (after t) cells log Done (after (suc t)) cells log
+    turn_of : (t : ℕ) → t < n → mask / 2 ^ t % 2 ≡ 1 → OneTurn (turn c group n x) n t (after t) cells log (Ok tt) (after (suc t)) cells log
     unfolding after
     turn_of t h q =
-        subst (λ i. OneTurn (turn c group n x) n t (after t) cells log Done (set (after t) (i * 32 + t) (new t)) cells log) ed
+        subst (λ i. OneTurn (turn c group n x) n t (after t) cells log (Ok tt) (set (after t) (i * 32 + t) (new t)) cells log) ed
         (one_turn c group n x t (new t) (after t) cells log h (omega (arith, ed, target)) (λ z Z.
         ap₂ (λ i j. value c n t (group * n + t) i j (reg z t x.a) (reg z t x.b)) ea eb
         ∙ there t (group * n + t) (reg z t x.a) (reg z t x.b) (lane a regs t) (lane b regs t)
@@ -129,14 +129,14 @@ module _ (c : Calc) (group n mask d a b : ℕ) (regs : List ℕ) (target : d < 1
             subst (λ rs. Turning (turn c group n x) n s (suc t) (mask / 2 ^ suc t) rs cells log) (turn_off t h q)
             (step t (after t) (turn_out (turn c group n x) n s t (mask / 2 ^ t) (after t) cells log T h q))
 
-    row_did : Did n s (in_turn (turn c group n x) (members s.enabled) s) Done (after n) cells log
+    row_did : Did n s (in_turn (turn c group n x) (members s.enabled) s) (Ok tt) (after n) cells log
     row_did =
         let T = turns n (le_refl n) in
         let none = turn_end (turn c group n x) n s n (mask / 2 ^ n) (after n) cells log T (le_refl n) in
         turn_whole (turn c group n x) n s n (mask / 2 ^ n) (after n) cells log T none
 
     -- So do the words that a row of this op leaves.
-    calc_did : (regs' : List ℕ) → Puts d new regs regs' 32 → Did n s (in_turn (turn c group n x) (members s.enabled) s) Done regs' cells log
+    calc_did : (regs' : List ℕ) → Puts d new regs regs' 32 → Did n s (in_turn (turn c group n x) (members s.enabled) s) (Ok tt) regs' cells log
     calc_did regs' P =
         did_alike n s (in_turn (turn c group n x) (members s.enabled) s) (after n) regs' cells log (P.size ∙ size)
         (puts_agree d n new new regs regs' (after n) M.few P (after_puts n M.few) (λ t h. refl))
@@ -146,13 +146,13 @@ module _ (c : Calc) (group n mask d a b : ℕ) (regs : List ℕ) (target : d < 1
 module _ (n mask d : ℕ) (regs : List ℕ) (size : length regs ≡ 512) (x : Row) (ed : x.d ≡ d) (cells log : List ℕ) (s : LockState)
     (em : mask ≡ mask_word s.enabled) (el : length s.enabled ≡ n) (M : Memory n s regs cells log) (regs' : List ℕ) (group : ℕ) where
   pub compute_did : (op a b : ℕ) → ComputeAsks op d a b → (c : Calc) → op_of op ≡ CALC c → x.a ≡ a → x.b ≡ b → Computed op n mask d a b regs regs'
-      → Did n s (in_turn (compute_turn x (λ t p q. value c n t (group * n + t) x.a x.b p q)) (members s.enabled) s) Done regs' cells log
+      → Did n s (in_turn (compute_turn x (λ t p q. value c n t (group * n + t) x.a x.b p q)) (members s.enabled) s) (Ok tt) regs' cells log
   unfolding turn
   compute_did op a b A c o ea eb C =
       calc_did c group n mask d a b regs A.target (reads_there op d a b n c o A) size x ed ea eb cells log s em el M regs' (C c o group)
 
   pub launch_did : d < 16 → Puts d (computed_lane LAUNCHTID group n mask d 0 0 regs) regs regs' 32
-      → Did n s (in_turn (compute_turn x (λ t p q. value LAUNCHTID n t (group * n + t) x.a x.b p q)) (members s.enabled) s) Done regs' cells log
+      → Did n s (in_turn (compute_turn x (λ t p q. value LAUNCHTID n t (group * n + t) x.a x.b p q)) (members s.enabled) s) (Ok tt) regs' cells log
   unfolding turn computed_lane value
   launch_did target P =
       calc_did LAUNCHTID group n mask d x.a x.b regs target (launch_reads n x.a x.b) size x ed refl refl cells log s em el M regs' P

@@ -4,11 +4,11 @@ use mathlib.Core.List.{List}
 use Prim.Native.Nat.{ℕ, ◌+◌, ◌*◌, ◌<◌, ◌≤◌}
 use native.Mathlib.Omega.{arith}
 use native.Mathlib.Decide.{ℕ_discrete}
-use lib.ListN.{replicate, get_or-replicate}
+use lib.ListN.{replicate, get_or, get_or-replicate}
 use Rattle.spec.specs.Op.{Calc, SET, TID, COUNT, LAUNCHTID, CALC, value, op_table, op_of}
 use Rattle.layout.specs.Memory.{ComputeAsks, lane}
-use Rattle.lanes.specs.Lanes.{Filled, zip}
-use Rattle.lanes.proofs.Ops.{OpIs, same_op}
+use Rattle.lanes.specs.Lanes.{Filled}
+use Rattle.compute.proofs.Ops.{OpIs, same_op}
 use Rattle.compute.specs.RowLanes.{RowLanes}
 
 module _ {op n a b : ℕ} {regs : List ℕ} where
@@ -26,7 +26,7 @@ module _ {op n a b : ℕ} {regs : List ℕ} where
   by_tid e L =
       record {
         of = λ c o g. record {
-          at = λ t h. L.below t h ∙ ap (λ z. value z n t (g * n + t) a b (lane a regs t) (lane b regs t)) (same_op op 2 c TID e refl o);
+          at = λ t h. L.1 t h ∙ ap (λ z. value z n t (g * n + t) a b (lane a regs t) (lane b regs t)) (same_op op 2 c TID e refl o);
         };
       }
 
@@ -39,13 +39,12 @@ module _ {op n a b : ℕ} {regs : List ℕ} where
         };
       }
 
-  pub by_registers : {k : ℕ} {x y v : List ℕ} {d : Calc} {f : ℕ → ℕ → ℕ} → op ≡ k → OpIs k d f → Filled (lane a regs) x 32 → Filled (lane b regs) y 32
-      → Filled (zip f x y) v 32 → RowLanes op n a b regs v
-  by_registers {k} {x} {y} {v} {d} {f} e I X Y L =
+  pub by_registers : {k : ℕ} {v : List ℕ} {d : Calc} {f : ℕ → ℕ → ℕ} → op ≡ k → OpIs k d f
+      → ((t : ℕ) → t < 32 → get_or v t 0 ≡ f (lane a regs t) (lane b regs t)) → RowLanes op n a b regs v
+  by_registers {k} {v} {d} e I L =
       record {
         of = λ c o g. record {
-          at = λ t h. L.below t h ∙ ap₂ f (X.below t h) (Y.below t h)
-              ∙ ap (λ v. v n t (g * n + t) a b (lane a regs t) (lane b regs t)) (sym I.gives ∙ ap value (same_op op k c d e I.op_is o));
+          at = λ t h. L t h ∙ ap (λ v. v n t (g * n + t) a b (lane a regs t) (lane b regs t)) (sym I.gives ∙ ap value (same_op op k c d e I.op_is o));
         };
       }
 

@@ -1,7 +1,7 @@
 -- What a computing row gives each lane, and what its store does there. Assumes nothing.
-use Rattle.std.specs.Prelude.{◌≡◌, List, cond, ℕ, ◌+◌, ◌*◌, ◌/◌, ◌%◌, ◌^◌, ◌<◌, eqb, get_or}
+use Rattle.std.specs.Prelude.{◌≡◌, List, length, cond, ℕ, ◌+◌, ◌*◌, ◌/◌, ◌%◌, ◌^◌, ◌<◌, eqb, get_or}
 use Rattle.spec.specs.Op.{Calc, CALC, value, op_of}
-use Rattle.layout.specs.Memory.{lane}
+use Rattle.layout.specs.Memory.{lane, KeptBut}
 
 -- The values of an op in all 32 lanes, in this group of the launch.
 pub record CalcLanes (c : Calc) (group n a b : ℕ) (regs v : List ℕ) : Type 0 where
@@ -21,3 +21,9 @@ picked v on d regs t = given (get_or on t 0) (get_or v t 0) d regs t
 -- The launch numbers, where the bit of `on` is 1.
 abbrev pub numbered : (group n on d : ℕ) (regs : List ℕ) → ℕ → ℕ
 numbered group n on d regs t = given (on / 2 ^ t % 2) (group * n + t) d regs t
+
+-- R tells of each of the first t lanes of register d, and all else is as it was.
+pub record Stores (d : ℕ) (R : ℕ → ℕ → Type 0) (regs regs' : List ℕ) (t : ℕ) : Type 0 where
+  pub size : length regs' ≡ length regs
+  pub below : (j : ℕ) → j < t → R j (lane d regs' j)
+  pub above : KeptBut d t regs regs'

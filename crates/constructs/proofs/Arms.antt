@@ -10,8 +10,8 @@ use Rattle.spec.specs.Table.{Table, Row, end_of}
 use Rattle.spec.specs.Shape.{Shape}
 use Rattle.spec.specs.LockStep.{LockState, Step, continues, if_row, else_row, endif_row, while_row, endwhile_row, barrier_row, run_row}
 use Rattle.layout.specs.declared.State.{State}
-use Rattle.layout.specs.declared.Next.{Next}
-use Rattle.layout.specs.declared.Next.TheVariants as next
+use Rattle.layout.specs.Next.{Next}
+use Rattle.layout.specs.Next as next
 use Rattle.layout.specs.Memory.{shape_by}
 use Rattle.layout.specs.Represents.{Represents, After, DepthAsks}
 use Rattle.layout.specs.Constructs.{construct_state, saving, saved_after, openers_after, ConstructDone, barrier_next, barrier_log}

@@ -18,7 +18,7 @@ use Rattle.spec.specs.Mask.{mask_word, any, full, lowest}
 use Rattle.spec.specs.LockStep.{LockState, barrier_row, pass_barrier}
 use Rattle.masks.proofs.Words.{any_none, any_some, word_minus, word_all, full_is, not_full, rest_any, rest_is, rest_size, lowest_is}
 use Rattle.layout.specs.declared.State.{State}
-use Rattle.layout.specs.declared.Next.TheVariants as next
+use Rattle.layout.specs.Next as next
 use Rattle.layout.proofs.LogBuffer.{cleared_is}
 use Rattle.layout.proofs.Reach.{empty_cleared, zeros_empty}
 use Rattle.layout.proofs.Turning.{kept_none}

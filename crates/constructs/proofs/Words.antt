@@ -9,7 +9,7 @@ use lib.ListN.{get_or, set}
 use Rattle.spec.specs.declared.Verdict.TheVariants.{Diverged}
 use Rattle.spec.specs.Log.{cells_cleared}
 use Rattle.layout.specs.declared.State.{State}
-use Rattle.layout.specs.declared.Next.TheVariants as next
+use Rattle.layout.specs.Next as next
 use Rattle.layout.specs.Memory.{holding_word}
 use Rattle.layout.specs.Represents.{Counted, gone_on, moved_on}
 use Rattle.layout.specs.Constructs.{if_state, else_state, endif_state, while_state, endwhile_state, construct_state, saving, saved_after}
@@ -49,12 +49,12 @@ module _ (op a e : ℕ) (regs : List ℕ) (s : State) (saved openers : List ℕ)
   unfolding construct_state
   by_while q D = by_op 35 q D.0 D.1 D.2 D.3
 
-module _ (op a e : ℕ) (regs : List ℕ) (s : State) (saved openers : List ℕ) {r : State} where
-  pub by_else : {openers' : List ℕ} → op ≡ 33 → Counted s r × (r ≡ else_state saved s) × (openers' ≡ set openers (s.depth - 1) s.row)
-      → ConstructDone op a e regs s saved openers r saved openers'
+  pub by_else : op ≡ 33 → Counted s r × (r ≡ else_state saved s) × (saved' ≡ saved) × (openers' ≡ set openers (s.depth - 1) s.row)
+      → ConstructDone op a e regs s saved openers r saved' openers'
   unfolding construct_state saved_after openers_after saving
-  by_else q D = by_op op a e regs s saved openers 33 q D.0 D.1 refl D.2
+  by_else q D = by_op 33 q D.0 D.1 D.2 D.3
 
+module _ (op a e : ℕ) (regs : List ℕ) (s : State) (saved openers : List ℕ) {r : State} where
   pub by_endif : op ≡ 34 → Counted s r × (r ≡ endif_state saved s) → ConstructDone op a e regs s saved openers r saved openers
   unfolding construct_state saved_after openers_after saving
   by_endif q D = by_op op a e regs s saved openers 34 q D.0 D.1 refl refl

@@ -1,5 +1,5 @@
 -- What holds after each cell that was read, and what it comes to at the end. Assumes nothing.
-use mathlib.Core.Path.{◌≡◌, refl, ap, ◌∙◌}
+use mathlib.Core.Path.{◌≡◌, refl, ap, ◌∙◌, subst}
 use mathlib.Core.List.{List}
 use mathlib.Core.Option.{Option, none, some}
 use Prim.Native.Nat.{ℕ, ◌+◌, ◌<◌, ◌≤◌}
@@ -48,13 +48,13 @@ module _ {key file : List ℕ} {n : ℕ} {cells after rest : List ℕ} {k : ℕ}
         kept = g.kept;
       }
 
-  pub cells_end : n ≤ k → CellsTaken key n file cells after k rest
-  cells_end h =
-      let e : k ≡ n = omega (arith, g.under) in
-      record {
+  pub cells_end : k ≡ n → CellsTaken key n file cells after n rest
+  cells_end e =
+      subst (λ m. CellsTaken key n file cells after m rest) e
+      (record {
         within = omega arith;
         lines = λ name w line. ends name number file k rest (take k after) (g.going name w) n e line ∙ ap (λ (m : ℕ). taken n line k (take m after) rest) e;
         front = λ name w. fronts name number file k rest (take k after) (g.going name w);
         long = g.long;
         kept = g.kept;
-      }
+      })

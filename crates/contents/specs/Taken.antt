@@ -1,6 +1,8 @@
 -- So many lines of one kind, of which the first `good` were due: what they say, and what is left behind them. Assumes nothing.
-use Rattle.std.specs.Prelude.{◌≡◌, List, [], ◌∷◌, cond, ℕ, ◌+◌, ◌*◌, ◌≤◌, ltb, length, take, drop, set}
+use denote.Ref.{Bor}
+use Rattle.std.specs.Prelude.{◌≡◌, Result, Ok, Err, List, [], ◌∷◌, cond, ℕ, ◌+◌, ◌*◌, ◌<◌, ◌≤◌, ltb, length, take, drop, set}
 use Prim.Native.String.{String}
+use Rattle.contents.specs.declared.Undue.{Undue}
 use Rattle.spec.specs.Text.{text}
 use Rattle.spec.specs.LaunchFile.{Read, stop, read, times, due, number}
 use Rattle.filelines.specs.Values.{row_bytes}
@@ -36,3 +38,12 @@ pub record CellsTaken (key : List ℕ) (n : ℕ) (file cells after : List ℕ) (
   pub front : (name : String) → text name ≡ key → (line : ℕ) → times good (due name number) line file ≡ read (take good after) (line + good) rest
   pub long : length after ≡ length cells
   pub kept : drop good after ≡ drop good cells
+
+-- All n lines were due, or only so many before one that was not.
+abbrev pub RowsRead : (n : ℕ) → (file table after : List ℕ) → Result (Bor (List ℕ)) Undue → Type 0
+RowsRead n file table after (Ok rest) = RowsTaken n file table after n rest.now
+RowsRead n file table after (Err u) = (u.good < n) × RowsTaken n file table after u.good u.rest.now
+
+abbrev pub CellsRead : (key : List ℕ) (n : ℕ) → (file cells after : List ℕ) → Result (Bor (List ℕ)) Undue → Type 0
+CellsRead key n file cells after (Ok rest) = CellsTaken key n file cells after n rest.now
+CellsRead key n file cells after (Err u) = (u.good < n) × CellsTaken key n file cells after u.good u.rest.now

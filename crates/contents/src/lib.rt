@@ -1,67 +1,65 @@
 // The rows and the cells of a launch file, line by line.
 #![tactic(auto)]
 
-ghost use Rattle.std.specs.Prelude.{◌≡◌, ◌*◌, ◌<◌, ◌≤◌, length};
-ghost use Rattle.contents.specs.Taken.{put_row, RowsTaken, CellsTaken};
+ghost use Rattle.std.specs.Prelude.{◌≡◌, ◌*◌, ◌<◌, ◌≤◌, get_or, length};
+ghost use Rattle.contents.specs.Taken.{put_row, RowsRead, CellsRead};
 
-use filelines::Bytes;
-use text::Number;
+// The first line that was due and is not there: how many of them stand before it, and what is left of the file from it on.
+#[derive(Clone, Copy)]
+pub struct Undue<'a> {
+    pub good: usize,
+    pub rest: &'a [u8],
+}
 
-fn put_row(table: &mut [u8; 1024], row: usize, op: u8, d: u8, a: u8, b: u8)
+fn put_row(table: &mut [u8; 1024], row: usize, bytes: [u8; 4])
     requires { row < 256 }
-    ensures { table.new ≡ put_row table.old (4 * row) op d a b }
+    ensures { table.new ≡ put_row table.old (4 * row) (get_or bytes 0 0) (get_or bytes 1 0) (get_or bytes 2 0) (get_or bytes 3 0) }
 {
     let at = 4 * row;
+    let [op, d, a, b] = bytes;
     table[at] = op;
     table[at + 1] = d;
     table[at + 2] = a;
     table[at + 3] = b;
 }
 
-// Reads n rows, up to the first line that is not one, and answers what is left. `good` is how many it read.
-pub fn read_rows<'a>(file: &'a [u8], n: usize, table: &mut [u8; 1024], good: &mut usize) -> &'a [u8]
+// Reads n rows, and answers what is left of the file; or up to where it read, at the first line that is not one.
+pub fn read_rows<'a>(
+    file: &'a [u8],
+    n: usize,
+    table: &mut [u8; 1024],
+) -> Result<&'a [u8], Undue<'a>>
     requires { (n ≤ 256) × (length table.old ≡ 1024) }
-    ensures { RowsTaken n file.now table.old table.new good.new result.now }
+    ensures { RowsRead n file.now table.old table.new result }
 {
     let mut rest = file;
-    let mut k = 0;
-    while k < n {
-        let Bytes::Four(op, d, a, b) = filelines::row_line(rest) else {
-            *good = k;
-            return rest;
+    for k in 0..n {
+        let Some(bytes) = filelines::row_line(rest) else {
+            return Err(Undue { good: k, rest });
         };
-        put_row(&mut *table, k, op, d, a, b);
-        let after = filelines::next(rest);
-        rest = after;
-        k += 1;
+        put_row(table, k, bytes);
+        rest = filelines::next(rest);
     }
-    *good = k;
-    rest
+    Ok(rest)
 }
 
-// Reads n cells whose lines have this key, up to the first line that is not one, and answers what is left. `good` is how many it read.
+// Reads n cells whose lines have this key, and answers what is left of the file; or up to where it read, at the first line that is not one.
 pub fn read_cells<'a>(
     file: &'a [u8],
     key: &[u8],
     n: usize,
     cells: &mut [u32],
-    good: &mut usize,
-) -> &'a [u8]
+) -> Result<&'a [u8], Undue<'a>>
     requires { n ≤ length cells.old }
-    ensures { CellsTaken key.now n file.now cells.old cells.new good.new result.now }
+    ensures { CellsRead key.now n file.now cells.old cells.new result }
 {
     let mut rest = file;
-    let mut k = 0;
-    while k < n {
-        let Number::Value(word) = filelines::number_line(rest, key) else {
-            *good = k;
-            return rest;
+    for k in 0..n {
+        let Some(word) = filelines::number_line(rest, key) else {
+            return Err(Undue { good: k, rest });
         };
         cells[k] = word;
-        let after = filelines::next(rest);
-        rest = after;
-        k += 1;
+        rest = filelines::next(rest);
     }
-    *good = k;
-    rest
+    Ok(rest)
 }

@@ -4,7 +4,6 @@
 
 ghost use Rattle.std.specs.Prelude.{◌≡◌, ◌<◌, ◌≤◌, length, take};
 
-use programio::Input;
 use std::env::Env;
 use std::fs::Files;
 
@@ -13,20 +12,14 @@ fn read_named(rt: &(impl Env + Files), i: usize, buffer: &mut [u8]) -> usize
     ensures inside { result ≤ length buffer.new }
     ensures long { result ≡ length (take result buffer.new) }
 {
-    match programio::read_named(rt, i, buffer) {
-        Input::Bytes(size) => size,
-        Input::Failed => 0,
-    }
+    programio::read_named(rt, i, buffer).unwrap_or(0)
 }
 
 // Argument i at the start of the buffer; none where it is missing or longer.
 fn name_of(rt: &impl Env, i: usize, name: &mut [u8]) -> usize
     ensures { result ≤ length name.new }
 {
-    match rt.arg(i, name) {
-        Ok(size) => size,
-        Err(_) => 0,
-    }
+    rt.arg(i, name).unwrap_or(0)
 }
 
 fn print_name(rt: &(impl Env + Print), i: usize) {
@@ -38,14 +31,14 @@ fn print_name(rt: &(impl Env + Print), i: usize) {
 fn is_word(rt: &impl Env, i: usize, word: &[u8]) -> bool {
     let mut name = [0u8; 4096];
     let size = name_of(rt, i, &mut name);
-    text::same(&name[..size], word)
+    &name[..size] == word
 }
 
 // The end of an example's line: whether it gives what the file has that argument i names. Where it does not, what it gives.
 fn compare_with(rt: &(impl Env + Files + Print), report: &[u8], i: usize) {
     let mut wanted = [0u8; 65536];
     let long = read_named(rt, i, &mut wanted);
-    if text::same(report, &wanted[..long]) {
+    if report == &wanted[..long] {
         programio::print(rt, b" gives its report\n");
     } else {
         programio::print(rt, b" gives\n");
@@ -116,6 +109,7 @@ fn compare_at(rt: &(impl Env + Files + Print), k: usize, count: usize) -> usize
 fn main(rt: HostRuntime) {
     let count = programio::argument_count(&rt);
     let mut k = 1;
+    // No `for`: an example has two arguments or five, and only a look at the first of them tells how far the next example is.
     while k < count {
         k = compare_at(&rt, k, count);
     }

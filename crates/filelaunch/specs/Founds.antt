@@ -1,15 +1,15 @@
 -- What is found in a launch file: a refusal, or a launch that can be run. Assumes nothing.
-use Rattle.std.specs.Prelude.{◌≡◌, List, ℕ, ◌*◌, length, take}
+use Rattle.std.specs.Prelude.{◌≡◌, Result, Ok, Err, List, ℕ, ◌*◌, length, take}
 use Rattle.spec.specs.declared.Refusal.{Refusal}
 use Rattle.spec.specs.Shape.{sizes, all_own}
 use Rattle.spec.specs.Launch as definition
 use Rattle.spec.specs.LaunchFile.{refused, accepted, file_launch}
 use Rattle.spec.specs.Entries.{bare_launch}
-use Rattle.admission.specs.declared.Admission.TheVariants as admission
 use Rattle.layout.specs.Running.{Runnable}
 use Rattle.launchfile.specs.declared.Launch.{Launch}
 use Rattle.launchfile.specs.Parsed.{Within, sizes_of}
 use Rattle.filelaunch.specs.declared.Found.{Found}
+use Rattle.filelaunch.specs.declared.Loaded.{Loaded}
 
 -- The bytes of its table, and the words of both kinds of its cells, stand at the front of their arrays.
 abbrev pub table_bytes : Launch → List ℕ
@@ -34,6 +34,19 @@ pub record FoundLaunch (file : List ℕ) (l : Launch) (ends : List ℕ) : Type 0
   pub cells_long : length l.cells ≡ 1024
   pub global_long : length l.global ≡ 1024
 
-pub record FoundIs (file : List ℕ) (r : Found) : Type 0 where
-  pub turned_back : (why : Refusal) → r.answer ≡ admission.Refused why → file_launch file ≡ refused why
-  pub found : r.answer ≡ admission.Accepted → FoundLaunch file r.launch r.ends
+-- What the file is refused for, or its launch.
+abbrev pub FoundIs : (file : List ℕ) → Result Found Refusal → Type 0
+FoundIs file (Err why) = file_launch file ≡ refused why
+FoundIs file (Ok f) = FoundLaunch file f.launch f.ends
+
+-- What is handed to the run is the launch that was found, over these common cells.
+pub record LoadedFrom (f : Found) (common : List ℕ) (l : Loaded) : Type 0 where
+  pub table : l.kernel.table.now ≡ table_bytes f.launch
+  pub ends : l.kernel.ends.now ≡ f.ends
+  pub threads : l.kernel.threads ≡ f.launch.threads
+  pub each : l.kernel.each ≡ f.launch.each
+  pub groups : l.kernel.groups ≡ f.launch.groups
+  pub limit : l.kernel.limit ≡ f.launch.limit
+  pub over : l.kernel.common.now ≡ common
+  pub cells : l.cells.now ≡ own_words f.launch
+  pub global : l.global.now ≡ global_words f.launch

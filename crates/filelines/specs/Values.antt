@@ -1,16 +1,15 @@
 -- Values as the source answers them, and as the definition does. Assumes nothing.
+use Rattle.std.specs.Prelude as std
 use Rattle.std.specs.Prelude.{List, [], ◌∷◌, Bool, true, false, cond, ℕ, get_or}
 use Rattle.std.proofs.Math.Option.{Option, none, some}
 use Rattle.spec.specs.Lists.{equal_list}
 use Rattle.spec.specs.Text.{comma, split_at}
 use Rattle.spec.specs.LaunchFile.{given, byte}
 use Rattle.spec.specs.Table.{Row, row_of}
-use Rattle.filelines.specs.declared.Bytes.{Bytes}
-use Rattle.filelines.specs.declared.Bytes.TheVariants.{Four, Bad}
 
-abbrev pub bytes_in : Bytes → Option (List ℕ)
-bytes_in (Four op d a b) = some (op ∷ d ∷ a ∷ b ∷ [])
-bytes_in Bad = none
+abbrev pub bytes_in : std.Option (List ℕ) → Option (List ℕ)
+bytes_in (std.Some bytes) = some bytes
+bytes_in std.None = none
 
 abbrev pub word_in : Bool → Option (Unit {0})
 word_in true = some tt

@@ -5,8 +5,6 @@ ghost use Rattle.std.specs.Prelude.{◌≡◌, ◌≤◌, length, take};
 ghost use Rattle.spec.specs.Entries.{over, check_prints};
 ghost use Rattle.spec.specs.Demands.{ReportDemand3, FileReadable};
 
-use spec::Written;
-
 pub fn report_file(file: &[u8], output: &mut [u8; 24576]) -> usize
     ensures long { result ≡ length (check_prints file.now) }
     ensures written { output.new ≡ over (check_prints file.now) output.old }
@@ -26,7 +24,7 @@ pub fn report_file(file: &[u8], output: &mut [u8; 24576]) -> usize
         &mut records,
         output,
     ) {
-        Written::Wrote(size) => size,
-        Written::Refused(why) => refusalreport::report_refusal(why, output),
+        Ok(size) => size,
+        Err(why) => refusalreport::report_refusal(why, output),
     }
 }

@@ -4,19 +4,12 @@ use mathlib.Core.List.{List, ◌++◌}
 use Prim.Native.Nat.{ℕ, ◌+◌, ◌≤◌}
 use native.Mathlib.Omega.{arith}
 use lib.ListN.{length, take, drop}
-use lib.Seq.{take_at, drop_at, length-take-le}
+use lib.Seq.{drop_at, length-take-le}
 use Rattle.spec.specs.Entries.{over}
 use Rattle.layout.specs.Views.{put_part}
 
 pub front_length : (k : ℕ) (xs : List ℕ) → k ≤ length xs → k ≡ length (take k xs)
 front_length k xs h = sym (length-take-le k xs h)
-
-pub front_kept : (k : ℕ) (ys rest : List ℕ) → length ys ≡ k → take k (ys ++ rest) ≡ ys
-front_kept k ys rest e = take_at ys rest k e
-
--- A part keeps its length while it is lent.
-pub as_long : (k : ℕ) (ys xs : List ℕ) → length ys ≡ length (take k xs) → k ≤ length xs → length ys ≡ k
-as_long k ys xs e h = e ∙ length-take-le k xs h
 
 -- As much given back at the front stands over what was there at first.
 pub given_back : (k : ℕ) (ys xs : List ℕ) → length ys ≡ k → ys ++ drop k xs ≡ over ys xs

@@ -18,8 +18,8 @@ use Rattle.spec.specs.Mask.{Mask, mask_word, any, lowest}
 use Rattle.spec.specs.GroupLog.{GroupLog, group_conflict_mask, group_race_kind, group_logged, group_words}
 use Rattle.spec.specs.LockStep.{LockState, Step, continues, stops, update, reg, made_access, enter_group, access_turn}
 use Rattle.masks.proofs.Words.{any_none, any_some, lowest_is}
-use Rattle.layout.specs.declared.Access.{Access}
-use Rattle.layout.specs.declared.Access.TheVariants.{Done, Stop}
+use Rattle.layout.specs.Memory.{Access}
+use Rattle.std.specs.Prelude.{Ok, Err}
 use Rattle.layout.specs.Logging.{mode_of, tested_word, mask_entered}
 use Rattle.layout.specs.Memory.{Did, AccessAsks, CellNumber, access_of, shape_by, goes_on}
 use Rattle.layout.specs.Views.{view_of, put_view, global_from, alone}
@@ -81,16 +81,16 @@ module _ (L : Shape) (z : LockState) (regs cells log masks : List ℕ) (M : Glob
     did y w regs' cells' log' masks' e D = subst (λ s. GlobalDid L z s w regs' cells' log' masks') (sym e) D
 
     -- Stopped in the group: nothing has changed.
-    unchanged : (v : Verdict) (w : Access) → w ≡ Stop v → turn ≡ stops v z → GlobalDid L z turn w regs cells log masks
+    unchanged : (v : Verdict) (w : Access) → w ≡ Err v → turn ≡ stops v z → GlobalDid L z turn w regs cells log masks
     unchanged v w ew e =
         did (stops v z) w regs cells log masks e (record { answer = ew; memory = M; kept = kept_none z; only = only_none L z M.sized })
 
-    pub stopped_did : (v : Verdict) → Did L.threads view seen (Stop v) regs cells log → GlobalDid L z turn (Stop v) regs cells log masks
+    pub stopped_did : (v : Verdict) → Did L.threads view seen (Err v) regs cells log → GlobalDid L z turn (Err v) regs cells log masks
     stopped_did v D = by seen turn_by D.answer
       where
-        by : (y : Step) → turn ≡ global_step L z t i kind y → Stop v ≡ access_of y → GlobalDid L z turn (Stop v) regs cells log masks
+        by : (y : Step) → turn ≡ global_step L z t i kind y → Err v ≡ access_of y → GlobalDid L z turn (Err v) regs cells log masks
         by (continues y) e q = let z : ◌≡◌ {A = ℕ} 0 1 = cc q in absurd (omega arith)
-        by (stops w y) e q = unchanged w (Stop v) q (e ∙ unfold global_step in refl)
+        by (stops w y) e q = unchanged w (Err v) q (e ∙ unfold global_step in refl)
 
     module _ (bit : ℕ) (eb : bit ≡ 2 ^ t) (P : goes_on op (get_or regs (a * 32 + t) 0) bit i cells log ≡ true) where
       inside : i < length cells
@@ -155,21 +155,21 @@ module _ (L : Shape) (z : LockState) (regs cells log masks : List ℕ) (M : Glob
       -- Another group is met.
       pub race_did : (others : ℕ) (v : Verdict) → others ≡ rivals_word op (length cells) i own masks → (others ≡ 0 → ⊥)
           → v ≡ GroupRace t (count_trailing_zeros 32 others) (group_kind_word op (length cells) i (count_trailing_zeros 32 others) masks) i
-          → GlobalDid L z turn (Stop v) regs cells log masks
+          → GlobalDid L z turn (Err v) regs cells log masks
       race_did others v ew f ev =
           let word : others ≡ mask_word groups = ew ∙ rivals_word_lem in
           let some : any groups ≡ true = any_some groups (λ e. f (word ∙ e)) in
           let low : count_trailing_zeros 32 others ≡ lowest groups = ap (count_trailing_zeros 32) word ∙ lowest_is groups 32 (omega (arith, size, few)) some in
-          unchanged raced (Stop v)
-          (ap Stop (ev ∙ ap (λ u. GroupRace t u (group_kind_word op (length cells) i u masks) i) low ∙ ap (λ y. GroupRace t (lowest groups) y i) (kind_word_lem (lowest groups))))
+          unchanged raced (Err v)
+          (ap Err (ev ∙ ap (λ u. GroupRace t u (group_kind_word op (length cells) i u masks) i) low ∙ ap (λ y. GroupRace t (lowest groups) y i) (kind_word_lem (lowest groups))))
           (after ∙ rw some)
 
       -- Nobody is met.
-      pub made_did : (regs' cells' log' masks' : List ℕ) → rivals_word op (length cells) i own masks ≡ 0 → Did L.threads view seen Done regs' cells' log'
-          → length cells' ≡ length cells → masks' ≡ mask_entered op (length cells) i own masks → GlobalDid L z turn Done regs' cells' log' masks'
+      pub made_did : (regs' cells' log' masks' : List ℕ) → rivals_word op (length cells) i own masks ≡ 0 → Did L.threads view seen (Ok tt) regs' cells' log'
+          → length cells' ≡ length cells → masks' ≡ mask_entered op (length cells) i own masks → GlobalDid L z turn (Ok tt) regs' cells' log' masks'
       made_did regs' cells' log' masks' e D l q =
           let none : any groups ≡ false = any_none groups (sym rivals_word_lem ∙ e) in
-          did (continues (enter_group GLOBAL L.group (from + i) kind (put_view from made z))) Done regs' cells' log' masks' (after ∙ rw none)
+          did (continues (enter_group GLOBAL L.group (from + i) kind (put_view from made z))) (Ok tt) regs' cells' log' masks' (after ∙ rw none)
           (record {
             answer = refl;
             memory = put_memory L z regs cells log masks M made i kind here same_groups sized regs' cells' log' masks' E.memory E.kept entered;
@@ -177,8 +177,8 @@ module _ (L : Shape) (z : LockState) (regs cells log masks : List ℕ) (M : Glob
             only = put_only L z regs cells log masks M made i kind here same_groups sized regs' cells' log' masks' E.memory E.kept entered;
           })
         where
-          E : Did L.threads view (continues made) Done regs' cells' log'
-          E = subst (λ s. Did L.threads view s Done regs' cells' log') goes D
+          E : Did L.threads view (continues made) (Ok tt) regs' cells' log'
+          E = subst (λ s. Did L.threads view s (Ok tt) regs' cells' log') goes D
 
           same_groups : made.group_log ≡ z.group_log
           same_groups = unfold made_access update view_of in refl

@@ -11,7 +11,7 @@ use Rattle.spec.specs.Table.{Row}
 use Rattle.spec.specs.Shape.{Shape}
 use Rattle.spec.specs.Mask.{mask_word, members}
 use Rattle.spec.specs.LockStep.{LockState, in_turn, access_turn}
-use Rattle.layout.specs.declared.Access.TheVariants.{Done, Stop}
+use Rattle.std.specs.Prelude.{Ok, Err}
 use Rattle.layout.specs.declared.Turns as declared
 use Rattle.layout.specs.Shared.{GlobalMemory, GlobalDid, GlobalAll, GlobalTurn}
 use Rattle.layout.proofs.GlobalStates.{GlobalTurning, global_start, global_whole, global_out, global_in, global_stop}
@@ -28,7 +28,7 @@ module _ (op n mask d a group : ℕ) (regs₀ cells₀ log₀ masks₀ : List �
   turns_start L z m x o ed ea en eg e l M = global_start L (access_turn L GLOBAL m x) z mask regs₀ cells₀ log₀ masks₀ e (l ∙ sym en) M
 
   module _ (t left : ℕ) (regs cells log masks : List ℕ) (T : Turns op n mask d a group regs₀ cells₀ log₀ masks₀ t left regs cells log masks) where
-    pub turns_whole : left ≡ 0 → GlobalAll op n mask d a group regs₀ cells₀ log₀ masks₀ Done regs cells log masks
+    pub turns_whole : left ≡ 0 → GlobalAll op n mask d a group regs₀ cells₀ log₀ masks₀ (Ok tt) regs cells log masks
     turns_whole none L z m x o ed ea en eg e l M =
         global_whole L (access_turn L GLOBAL m x) z M.sized t left regs cells log masks (T L z m x o ed ea en eg e l M) none
 
@@ -38,7 +38,7 @@ module _ (op n mask d a group : ℕ) (regs₀ cells₀ log₀ masks₀ : List �
           → GlobalMemory L z regs cells log masks → left % 2 ≡ 1 → GlobalDid L z (access_turn L GLOBAL m x z t) r.access regs' cells' log' masks'
       one L z m x o ed ea en eg M odd = D.enabled odd L z m x o ed ea (omega (arith, h, en)) (eo ∙ ap (λ (k : ℕ). 2 ^ k) (sym eg)) M
 
-      pub turns_on : r.access ≡ Done → Turns op n mask d a group regs₀ cells₀ log₀ masks₀ (t + 1) (left / 2) regs' cells' log' masks'
+      pub turns_on : r.access ≡ (Ok tt) → Turns op n mask d a group regs₀ cells₀ log₀ masks₀ (t + 1) (left / 2) regs' cells' log' masks'
       turns_on done L z m x o ed ea en eg e l M = by (ℕ_discrete (left % 2) 1)
         where
           C : GlobalTurning L (access_turn L GLOBAL m x) z t left regs cells log masks
@@ -58,13 +58,13 @@ module _ (op n mask d a group : ℕ) (regs₀ cells₀ log₀ masks₀ : List �
               (subst (λ w. Next regs cells w masks') (sym same.3) (subst (λ w. Next regs cells log w) (sym same.4)
               (global_out L (access_turn L GLOBAL m x) z M.sized t left regs cells log masks C (omega (arith, h, en)) even))))
 
-      pub turns_stop : (v : Verdict) → r.access ≡ Stop v → GlobalAll op n mask d a group regs₀ cells₀ log₀ masks₀ (Stop v) regs' cells' log' masks'
+      pub turns_stop : (v : Verdict) → r.access ≡ Err v → GlobalAll op n mask d a group regs₀ cells₀ log₀ masks₀ (Err v) regs' cells' log' masks'
       turns_stop v stopped L z m x o ed ea en eg e l M = by (ℕ_discrete (left % 2) 1)
         where
           C : GlobalTurning L (access_turn L GLOBAL m x) z t left regs cells log masks
           C = T L z m x o ed ea en eg e l M
 
-          by : Dec (left % 2 ≡ 1) → GlobalDid L z (in_turn (access_turn L GLOBAL m x) (members z.enabled) z) (Stop v) regs' cells' log' masks'
+          by : Dec (left % 2 ≡ 1) → GlobalDid L z (in_turn (access_turn L GLOBAL m x) (members z.enabled) z) (Err v) regs' cells' log' masks'
           by (yes odd) =
               global_stop L (access_turn L GLOBAL m x) z M.sized t left regs cells log masks C regs' cells' log' masks' (omega (arith, h, en)) odd v
               (subst (λ w. GlobalDid L C.here (access_turn L GLOBAL m x C.here t) w regs' cells' log' masks') stopped

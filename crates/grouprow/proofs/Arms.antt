@@ -7,9 +7,9 @@ use native.Mathlib.Omega.{arith}
 use lib.ListN.{length, get_or}
 use Rattle.masks.proofs.Words.{word_lt}
 use Rattle.layout.specs.declared.State.{State}
-use Rattle.layout.specs.declared.Next.{Next}
-use Rattle.layout.specs.declared.Next.TheVariants as next
-use Rattle.layout.specs.declared.Access.TheVariants.{Done}
+use Rattle.layout.specs.Next.{Next}
+use Rattle.layout.specs.Next as next
+use Rattle.std.specs.Prelude.{Ok}
 use Rattle.layout.specs.Memory.{ComputeAsks, Computed, KeptBut, AccessAsks, InMemory, cell_in}
 use Rattle.layout.specs.Represents.{Represents, moved_on}
 use Rattle.layout.specs.Constructs.{barrier_next, barrier_log}
@@ -24,7 +24,7 @@ use Rattle.banks.specs.Counting.{Older}
 use Rattle.banks.specs.Remembering.{Memo}
 use Rattle.intervals.specs.Records.{records_after}
 use Rattle.step.specs.Recording.{RowRecorded, cell_due}
-use Rattle.step.specs.declared.Operands.{Operands}
+use Rattle.layout.specs.declared.Operands.{Operands}
 use Rattle.step.specs.Arms.{OperandsAt, ConstructCounted, OwnRow}
 use Rattle.step.proofs.Registers.{regs_accessed}
 use Rattle.step.proofs.Recorded.{recorded_plain}
@@ -174,7 +174,7 @@ module _ (table ends : List ℕ) (n group : ℕ) (s : State) (regs cells log sav
       pub launch_is : byte ≡ 19 → (r : Next) (regs' : List ℕ) → LaunchDone n group x.d s regs r regs'
           → GroupRow r regs' cells log saved openers global shared masks counts records stamps memo
       launch_is is-launch r regs' D =
-          let left = accessed_counts s Done r D.0 in
+          let left = accessed_counts s (Ok tt) r D.0 in
           let below : byte < 32 = omega arith in
           let slots = slots_kept byte s saved openers (inl below) in (
             record {
@@ -189,7 +189,7 @@ module _ (table ends : List ℕ) (n group : ℕ) (s : State) (regs cells log sav
               openers_are = slots.1;
             },
             counts_on byte s r counts below C.size left.1,
-            recorded_plain byte n group _ s records stamps memo r records (λ h l. omega arith) O M (accessed_free group s Done r records D.0),
+            recorded_plain byte n group _ s records stamps memo r records (λ h l. omega arith) O M (accessed_free group s (Ok tt) r records D.0),
           )
 
       pub global_is : 19 ≤ byte → byte < 32 → (byte ≡ 19 → ⊥)

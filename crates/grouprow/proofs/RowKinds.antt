@@ -13,9 +13,9 @@ use Rattle.spec.specs.Table.{Table, Row, rows_of, row_at}
 use Rattle.spec.specs.LockStep.{LockState, compute_turn, run_row}
 use Rattle.spec.proofs.Laws.{lt_or_le, all_below, below, byte_barrier}
 use Rattle.layout.specs.declared.State.{State}
-use Rattle.layout.specs.declared.Next.{Next}
-use Rattle.layout.specs.declared.Access.{Access}
-use Rattle.layout.specs.declared.Access.TheVariants.{Done, Stop}
+use Rattle.layout.specs.Next.{Next}
+use Rattle.layout.specs.Memory.{Access}
+use Rattle.std.specs.Prelude.{Ok, Err}
 use Rattle.layout.specs.Represents.{Represents, After, Counts, moved_on, accessed}
 use Rattle.layout.specs.Running.{Steps}
 use Rattle.layout.specs.Views.{view_of, own_from, alone, is_own_calc, is_own_space, is_own_row}
@@ -130,7 +130,7 @@ module _ (table : List ℕ) (n group : ℕ) (s : State) (regs cells log saved op
       subst (λ o. GroupAfter L (run_row T L x z o) r regs' cells log saved openers global shared masks) (sym (op_here ∙ A.names))
       (calc_group L z s regs cells log saved openers global shared masks G T x r regs' cells log saved openers LAUNCHTID
       (plain_after L.threads view s regs cells log saved openers G.own
-      (compute_turn x (λ t p q. value LAUNCHTID L.threads t (launch_number L t) x.a x.b p q)) Done r regs' cells log did G.own.reach_is D.0))
+      (compute_turn x (λ t p q. value LAUNCHTID L.threads t (launch_number L t) x.a x.b p q)) (Ok tt) r regs' cells log did G.own.reach_is D.0))
 
   pub global_done : L.group ≡ group → (d a : ℕ) → d ≡ get_or table (s.row * 4 + 1) 0 → a ≡ get_or table (s.row * 4 + 2) 0
       → GlobalRowAsks byte (get_or table (s.row * 4 + 1) 0) (get_or table (s.row * 4 + 2) 0) → (global' shared' masks' : List ℕ)
@@ -144,12 +144,12 @@ module _ (table : List ℕ) (n group : ℕ) (s : State) (regs cells log saved op
 
 -- The counts of a row that goes on as accesses of global cells do.
 pub accessed_counts : (s : State) (a : Access) (r : Next) → r ≡ accessed s a → Counts s r × StepsOn s r
-accessed_counts s Done r e =
+accessed_counts s (Ok tt) r e =
     subst (λ q. Counts s q × StepsOn s q) (sym e) (record { rows_one = refl; since_one = omega arith; barriers_one = omega arith }, (refl, refl))
-accessed_counts s (Stop v) r e = subst (λ q. Counts s q × StepsOn s q) (sym e) (refl, (refl, refl))
+accessed_counts s (Err v) r e = subst (λ q. Counts s q × StepsOn s q) (sym e) (refl, (refl, refl))
 
 -- It is charged nothing.
 pub accessed_free : (group : ℕ) (s : State) (a : Access) (r : Next) (records : List ℕ) → r ≡ accessed s a → records ≡ records_after group 0 s r records
 unfolding records_after
-accessed_free group s Done r records e = sym (ap (λ q. records_after group 0 s q records) e ∙ after_plain group s (moved_on s) records refl)
-accessed_free group s (Stop v) r records e = sym (ap (λ q. records_after group 0 s q records) e)
+accessed_free group s (Ok tt) r records e = sym (ap (λ q. records_after group 0 s q records) e ∙ after_plain group s (moved_on s) records refl)
+accessed_free group s (Err v) r records e = sym (ap (λ q. records_after group 0 s q records) e)

@@ -6,7 +6,7 @@ use Rattle.spec.specs.Shape.{Shape}
 use Rattle.spec.specs.Table.{rows_of, row_at, end_of}
 use Rattle.spec.specs.LockStep.{LockState, run_row}
 use Rattle.layout.specs.declared.State.{State}
-use Rattle.layout.specs.declared.Next.{Next}
+use Rattle.layout.specs.Next.{Next}
 use Rattle.layout.specs.Represents.{Room, Counts, DepthAsks}
 use Rattle.layout.specs.Running.{RowAsks, RegsAfter}
 use Rattle.layout.specs.Constructs.{saved_after, openers_after}

@@ -32,8 +32,9 @@ use Rattle.allruns.proofs.Rows.{Sim, Framed, fresh, again, saved_of, openers_of,
 use Rattle.allruns.proofs.BarrierRow.{row_done}
 use Rattle.allruns.proofs.Counts.{Leaves, leaves_row, grown}
 use Rattle.layout.specs.declared.State.{State}
-use Rattle.layout.specs.declared.Next.{Next}
-use Rattle.layout.specs.declared.Next.TheVariants as next
+use Rattle.layout.specs.declared.Stopped.{Stopped}
+use Rattle.layout.specs.Next.{Next}
+use Rattle.layout.specs.Next as next
 use Rattle.layout.specs.Views.{view_of, own_from}
 use Rattle.layout.specs.Groups.{GroupStands, GroupAfter}
 use Rattle.layout.proofs.Saving.{saves_back}
@@ -679,9 +680,8 @@ module _ (table ends : List ℕ) (n group limit : ℕ) (common : List ℕ) (L : 
                 → (z : LockState) × (done ≡ stops v z) × Left z s'
             by (continues z) d (u, f, R) = let y : ◌≡◌ {A = ℕ} 0 1 = cc in absurd (omega arith)
             by (stops w z) d (u, f, R) =
-                let eu : u ≡ s' = cc in
-                let ev : w ≡ v = cc in
-                (z, d ∙ ap (λ y. stops y z) ev, subst (Left z) eu R)
+                let same : ◌≡◌ {A = Stopped} (record { state = u; verdict = w }) (record { state = s'; verdict = v }) = cc in
+                (z, d ∙ ap (λ y. stops y.verdict z) same, subst (λ y. Left z y.state) same R)
 
         no_pass : v ≡ Passed → ⊥
         no_pass q = subst Stopping q (subst (RowDone T L G.here G.threads) stopped.1 sims).stopping

@@ -25,7 +25,7 @@ use Rattle.layout.proofs.LogTests.{mem_load, mem_store, mem_add, which}
 use Rattle.layout.specs.Memory.{Memory, cell_in}
 use Rattle.layout.specs.Running.{RowAsks}
 use Rattle.layout.specs.declared.State.{State}
-use Rattle.layout.specs.declared.Next.TheVariants as next
+use Rattle.layout.specs.Next as next
 use Rattle.intervals.specs.Records.{charged, released, records_after}
 use Rattle.intervals.proofs.Ledger.{ends_here}
 use Rattle.step.proofs.Tables.{compute_op}

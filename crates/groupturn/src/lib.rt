@@ -22,18 +22,12 @@ fn first_cell(group: u32, k: usize) -> usize
     (group as usize) * k
 }
 
-// A group's turn over its own k cells of all, the common ones and the global ones. Its log goes to its place in the launch's, its steps to its threads'.
+// A group's turn over its own cells of all, the common ones and the global ones. Its log goes to its place in the launch's, its steps to its threads'.
+// The lent slices stay apart: tried as fields of one value, each function then owed for each field a clause that it keeps its reference.
 pub fn turn(
-    table: &[u8],
-    ends: &[u8; 256],
-    n: u32,
-    group: u32,
-    limit: u32,
-    rows: u32,
-    barriers: u32,
-    k: usize,
+    kernel: &layout::Kernel,
+    started: grouprun::Started,
     total: usize,
-    common: &[u32],
     cells: &mut [u32],
     global: &mut [u32],
     log: &mut [u32],
@@ -43,38 +37,33 @@ pub fn turn(
     records: &mut [u32],
     counts: &mut [u32; 32],
     steps: &mut [u32; 256],
-    stamps: &mut [u32; 1024],
-    memo: &mut [u32; 544],
+    costs: &mut banks::Costs,
 ) -> grouprun::Ended
-    requires { TurnAsks table.now ends.now n group limit rows barriers k total common.now cells.old global.old log.old own.old shared.old
-        masks.old records.old stamps.old memo.old }
-    ensures { TurnDone table.now n group limit rows barriers k total common.now cells.old global.old
+    requires { TurnAsks kernel.now.table.now kernel.now.ends.now kernel.now.threads started.group kernel.now.limit started.rows started.barriers
+        kernel.now.each total kernel.now.common.now cells.old global.old log.old own.old shared.old
+        masks.old records.old costs.old.stamps costs.old.memo }
+    ensures { TurnDone kernel.now.table.now kernel.now.threads started.group kernel.now.limit started.rows started.barriers
+        kernel.now.each total kernel.now.common.now cells.old global.old
         log.old masks.old records.old steps.old result
         cells.new global.new log.new own.new shared.new masks.new records.new
-        counts.new steps.new stamps.new memo.new }
+        counts.new steps.new costs.new.stamps costs.new.memo }
 {
-    let at = first_cell(group, k);
-    let by = first_thread(group, n);
-    let r = grouprun::run_group(
-        table,
-        ends,
-        n,
-        group,
-        limit,
-        rows,
-        barriers,
+    let k = kernel.each;
+    let at = first_cell(started.group, k);
+    let by = first_thread(started.group, kernel.threads);
+    let ended = grouprun::run_group(
+        kernel,
+        started,
         &mut cells[at..at + k],
         own,
-        common,
         global,
         shared,
         masks,
         records,
         counts,
-        stamps,
-        memo,
+        costs,
     );
     placing::place_kinds(own, 5, 0, k, total, at, log);
-    placing::copy_counts(counts, n as usize, by, steps);
-    r
+    placing::copy_counts(counts, kernel.threads as usize, by, steps);
+    ended
 }

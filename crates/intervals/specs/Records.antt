@@ -3,8 +3,8 @@ use Rattle.std.specs.Prelude.{◌≡◌, List, ◌∷◌, ◌++◌, cond, ℕ, z
 use Rattle.spec.specs.Limits.{records_lent}
 use Rattle.spec.specs.Intervals.{Interval, Intervals, all_of, records_of, record_words, conflicts_of}
 use Rattle.layout.specs.declared.State.{State}
-use Rattle.layout.specs.declared.Next.{Next}
-use Rattle.layout.specs.declared.Next.TheVariants as next
+use Rattle.std.specs.Prelude.{Ok, Err}
+use Rattle.layout.specs.Next.{Next}
 
 -- The record in use after so many intervals: one for each release and for each later group that has started.
 unfoldable pub in_use : (earlier : ℕ) → ℕ
@@ -43,10 +43,10 @@ pub record EndAsks (earlier rows : ℕ) (records : List ℕ) : Type 0 where
 
 -- The records after a row of this group: at a release the next one has started; else its cost is added. A row that stops costs nothing.
 unfoldable pub records_after : (group cost : ℕ) → State → Next → List ℕ → List ℕ
-records_after group cost s (next.Go r) records =
+records_after group cost s (Ok r) records =
     let earlier = s.barriers + group in
     cond (ltb s.barriers r.barriers) (released earlier r.row r.rows records) (charged earlier cost records)
-records_after group cost s (next.Stop r v) records = records
+records_after group cost s (Err x) records = records
 
 -- Intervals whose first one has begun before: it has another start, and rows and a cost already.
 abbrev pub goes_on : (start rows cost : ℕ) → Intervals → Intervals

@@ -1,5 +1,6 @@
 -- The bare launch: what its tests leave known, and its answer. Assumes nothing.
-use mathlib.Core.Path.{◌≡◌, refl, sym, ◌∙◌, ap, subst}
+use Rattle.std.specs.Prelude.{Result, Ok, Err}
+use mathlib.Core.Path.{◌≡◌, refl, ◌∙◌, ap, subst}
 use mathlib.Core.List.{List}
 use mathlib.Core.Option.{Option, none, some}
 use Prim.Native.Nat.{ℕ, ◌*◌, ◌/◌, ◌%◌, ◌≤◌}
@@ -10,8 +11,6 @@ use lib.ListN.{length, replicate}
 use Rattle.spec.specs.Limits.{launch_log_per_cell, records_lent, max_launch_threads}
 use Rattle.spec.specs.declared.Refusal.{Refusal}
 use Rattle.spec.specs.declared.Outcome.{Outcome}
-use Rattle.spec.specs.declared.Answer.{Answer}
-use Rattle.spec.specs.declared.Answer.TheVariants as answer
 use Rattle.spec.specs.Answers.{first, told, told_by}
 use Rattle.spec.specs.Table.{rows_of}
 use Rattle.spec.specs.TableCheck.{table_refusal}
@@ -78,6 +77,23 @@ lent_is Z held shared logged recorded e =
       leb-true _ _ ((unless_none _ _).0 records-tested.0),
     )
 
+-- The answer, by its case and by number and place, the buffers, and what the answer says of every run.
+pub record Entry (table : List ℕ) (Z : Sizes) (limit : ℕ) (cells global log records steps : List ℕ) (r : Result Outcome Refusal)
+    (cells' global' log' records' steps' : List ℕ) : Type 0 where
+  pub answer : r ≡ bare_answer table Z limit cells global log records
+  pub refusal : told_by r ≡ told (bare_refusal table Z limit cells global log records)
+  pub cells_are : cells' ≡ bare_cells table Z limit cells global log records
+  pub global_are : global' ≡ bare_global table Z limit cells global log records
+  pub log_is : log' ≡ bare_log table Z limit cells global log records
+  pub records_are : records' ≡ bare_records table Z limit cells global log records
+  pub steps_are : steps' ≡ bare_steps table Z limit cells global log records steps
+  pub runs : BareDemand3 table Z limit cells global r cells' global' steps'
+
+told_by_lem : (x : Option Refusal) (o : Outcome) → told_by (answer_of x o) ≡ told x
+unfolding answer_of told_by told
+told_by_lem none o = refl
+told_by_lem (some why) o = refl
+
 module _ (table : List ℕ) (Z : Sizes) (limit : ℕ) (cells global log records steps : List ℕ) where
   abbrev refusal : Option Refusal
   refusal = bare_refusal table Z limit cells global log records
@@ -85,50 +101,34 @@ module _ (table : List ℕ) (Z : Sizes) (limit : ℕ) (cells global log records 
   abbrev launch : Launch
   launch = bare_launch table Z limit cells global
 
-  -- the answer, by its case and by number and place, the buffers, and what the answer says of every run
-  abbrev pub Entry : Answer → (cells' global' log' records' steps' : List ℕ) → Type 0
-  Entry r cells' global' log' records' steps' =
-      (r ≡ bare_answer table Z limit cells global log records)
-      × ((told_by r ≡ told (bare_refusal table Z limit cells global log records))
-      × ((cells' ≡ bare_cells table Z limit cells global log records)
-      × ((global' ≡ bare_global table Z limit cells global log records)
-      × ((log' ≡ bare_log table Z limit cells global log records)
-      × ((records' ≡ bare_records table Z limit cells global log records)
-      × ((steps' ≡ bare_steps table Z limit cells global log records steps) × BareDemand3 table Z limit cells global r cells' global' steps'))))))
-
-  told_by_lem : (x : Option Refusal) (o : Outcome) → told_by (answer_of x o) ≡ told x
-  unfolding answer_of told_by told
-  told_by_lem none o = refl
-  told_by_lem (some why) o = refl
-
-  entry : (r : Answer) (cells' global' log' records' steps' : List ℕ) → r ≡ bare_answer table Z limit cells global log records
-      → cells' ≡ bare_cells table Z limit cells global log records → global' ≡ bare_global table Z limit cells global log records
-      → log' ≡ bare_log table Z limit cells global log records → records' ≡ bare_records table Z limit cells global log records
-      → steps' ≡ bare_steps table Z limit cells global log records steps → Entry r cells' global' log' records' steps'
-  unfolding bare_answer
-  entry r cells' global' log' records' steps' a c g l w s = (
-    a,
-    (
-      ap told_by a ∙ told_by_lem refusal _,
-      (c, (g, (l, (w, (s, rw (a, c, g, s) (bare_demand3 table Z limit cells global log records steps)))))),
-    ),
-  )
+  abbrev Entered : Result Outcome Refusal → (cells' global' log' records' steps' : List ℕ) → Type 0
+  Entered = Entry table Z limit cells global log records steps
 
   -- The entry, by what is refused.
-  by_refusal : (x : Option Refusal) → refusal ≡ x → (r : Answer) (cells' global' log' records' steps' : List ℕ) → r ≡ answer_of x (launch_outcome launch)
+  by_refusal : (x : Option Refusal) → refusal ≡ x → (r : Result Outcome Refusal) (cells' global' log' records' steps' : List ℕ) → r ≡ answer_of x (launch_outcome launch)
       → cells' ≡ kept_if x cells (own_after launch) → global' ≡ kept_if x global (global_after launch) → log' ≡ kept_if x log (launch_log launch)
       → records' ≡ kept_if x records (over (record_words (launch_intervals launch)) records)
-      → steps' ≡ kept_if x steps (over (launch_steps launch) (replicate max_launch_threads 0)) → Entry r cells' global' log' records' steps'
+      → steps' ≡ kept_if x steps (over (launch_steps launch) (replicate max_launch_threads 0)) → Entered r cells' global' log' records' steps'
   unfolding bare_answer bare_cells bare_global bare_log bare_records bare_steps
   by_refusal x e r cells' global' log' records' steps' a c g l w s =
-      entry r cells' global' log' records' steps' (a ∙ sym (ap (λ y. answer_of y (launch_outcome launch)) e)) (c ∙ sym (ap (λ y. kept_if y cells (own_after launch)) e))
-      (g ∙ sym (ap (λ y. kept_if y global (global_after launch)) e)) (l ∙ sym (ap (λ y. kept_if y log (launch_log launch)) e))
-      (w ∙ sym (ap (λ y. kept_if y records (over (record_words (launch_intervals launch)) records)) e))
-      (s ∙ sym (ap (λ y. kept_if y steps (over (launch_steps launch) (replicate max_launch_threads 0))) e))
+      let answer : r ≡ bare_answer table Z limit cells global log records = rw e a in
+      let cells_are : cells' ≡ bare_cells table Z limit cells global log records = rw e c in
+      let global_are : global' ≡ bare_global table Z limit cells global log records = rw e g in
+      let steps_are : steps' ≡ bare_steps table Z limit cells global log records steps = rw e s in
+      record {
+        answer = answer;
+        refusal = ap told_by answer ∙ told_by_lem refusal _;
+        cells_are = cells_are;
+        global_are = global_are;
+        log_is = rw e l;
+        records_are = rw e w;
+        steps_are = steps_are;
+        runs = rw (answer, cells_are, global_are, steps_are) (bare_demand3 table Z limit cells global log records steps);
+      }
 
-  refused : (why : Refusal) → refusal ≡ some why → Entry (answer.Refused why) cells global log records steps
+  refused : (why : Refusal) → refusal ≡ some why → Entered (Err why) cells global log records steps
   unfolding answer_of kept_if
-  refused why e = by_refusal (some why) e (answer.Refused why) cells global log records steps refl refl refl refl refl refl
+  refused why e = by_refusal (some why) e (Err why) cells global log records steps refl refl refl refl refl refl
 
   abbrev by_numbers : Option Refusal
   by_numbers = bare_numbers (length table) Z limit
@@ -139,23 +139,23 @@ module _ (table : List ℕ) (Z : Sizes) (limit : ℕ) (cells global log records 
   abbrev by_state : Option Refusal
   by_state = bare_lent Z (length cells) (length global) (length log) (length records)
 
-  pub numbers_refuse : (why : Refusal) → by_numbers ≡ some why → Entry (answer.Refused why) cells global log records steps
+  pub numbers_refuse : (why : Refusal) → by_numbers ≡ some why → Entered (Err why) cells global log records steps
   unfolding bare_refusal
   numbers_refuse why e = refused why (found by_numbers why _ e)
 
-  pub table_refuses : (why : Refusal) → by_numbers ≡ none → by_table ≡ some why → Entry (answer.Refused why) cells global log records steps
+  pub table_refuses : (why : Refusal) → by_numbers ≡ none → by_table ≡ some why → Entered (Err why) cells global log records steps
   unfolding bare_refusal
   table_refuses why n e = refused why (passed by_numbers _ n ∙ found by_table why _ e)
 
-  pub state_refuses : (why : Refusal) → by_numbers ≡ none → by_table ≡ none → by_state ≡ some why → Entry (answer.Refused why) cells global log records steps
+  pub state_refuses : (why : Refusal) → by_numbers ≡ none → by_table ≡ none → by_state ≡ some why → Entered (Err why) cells global log records steps
   unfolding bare_refusal
   state_refuses why n t e = refused why (passed by_numbers _ n ∙ passed by_table _ t ∙ found by_state why _ e)
 
   -- The run's sizes are those that were handed in.
   pub ran : (Y : Sizes) → Y ≡ Z → (o : Outcome) (cells' global' log' records' steps' : List ℕ) → by_numbers ≡ none → by_table ≡ none → by_state ≡ none
-      → RunIs (bare_launch table Y limit cells global) records o cells' global' log' records' steps' → Entry (answer.Ran o) cells' global' log' records' steps'
+      → RunIs (bare_launch table Y limit cells global) records o cells' global' log' records' steps' → Entered (Ok o) cells' global' log' records' steps'
   unfolding bare_refusal answer_of kept_if
   ran Y same o cells' global' log' records' steps' n t s R' =
       let R = subst (λ X. RunIs (bare_launch table X limit cells global) records o cells' global' log' records' steps') same R' in
-      by_refusal none (passed by_numbers _ n ∙ passed by_table _ t ∙ passed by_state _ s ∙ ends) (answer.Ran o) cells' global' log' records' steps'
-      (ap answer.Ran R.outcome_is) R.cells_are R.global_are R.log_is R.records_are R.steps_are
+      by_refusal none (passed by_numbers _ n ∙ passed by_table _ t ∙ passed by_state _ s ∙ ends) (Ok o) cells' global' log' records' steps'
+      (ap Ok R.outcome_is) R.cells_are R.global_are R.log_is R.records_are R.steps_are

@@ -7,8 +7,7 @@ ghost use Rattle.spec.specs.Shape.{sizes};
 ghost use Rattle.spec.specs.Entries.{bare_refusal, bare_answer, bare_cells, bare_global, bare_log, bare_records, bare_steps};
 ghost use Rattle.spec.specs.Demands.{BareDemand3};
 
-use admission::Admission;
-use spec::Answer;
+use spec::{Outcome, Refusal};
 
 // The entry for whoever has a table without a file: `groups` groups of `threads` threads, each with `count` cells of its own, over `shared` global ones.
 // `cells` holds the own cells of group 0, of group 1 and so on, `global` the global ones, both with the launch's words. `records` gets three words for
@@ -26,7 +25,7 @@ pub fn bare_launch(
     log: &mut [u32],
     records: &mut [u32],
     steps: &mut [u32; 256],
-) -> Answer
+) -> Result<Outcome, Refusal>
     ensures answer { result ≡ bare_answer table.now (sizes threads count groups shared) limit
         cells.old global.old log.old records.old }
     ensures refusal { told_by result ≡ told (bare_refusal table.now (sizes threads count groups shared) limit
@@ -44,19 +43,10 @@ pub fn bare_launch(
     ensures runs { BareDemand3 table.now (sizes threads count groups shared) limit cells.old global.old result
         cells.new global.new steps.new }
 {
-    match admission::numbers(table.len(), threads, count, groups, shared, limit) {
-        Admission::Refused(why) => return Answer::Refused(why),
-        Admission::Accepted => {}
-    }
-    let read = reader::read_table(table);
-    let answer = read.answer;
-    let ends = read.ends;
-    match answer {
-        Admission::Refused(why) => return Answer::Refused(why),
-        Admission::Accepted => {}
-    }
+    admission::numbers(table.len(), threads, count, groups, shared, limit)?;
+    let ends = reader::read_table(table)?;
     let held = cells.len();
-    match admission::lent(
+    admission::lent(
         groups,
         count,
         shared,
@@ -64,13 +54,17 @@ pub fn bare_launch(
         global.len(),
         log.len(),
         records.len(),
-    ) {
-        Admission::Refused(why) => return Answer::Refused(why),
-        Admission::Accepted => {}
-    }
-    let each = admission::wide(count);
+    )?;
+    let each = count as usize;
     let none: [u32; 0] = [];
-    Answer::Ran(launchrun::run_launch(
-        table, &ends, threads, groups, each, limit, &none, cells, global, log, records, steps,
-    ))
+    let kernel = layout::Kernel {
+        table,
+        ends: &ends,
+        threads,
+        each,
+        groups,
+        limit,
+        common: &none,
+    };
+    Ok(launchrun::run_launch(&kernel, cells, global, log, records, steps))
 }

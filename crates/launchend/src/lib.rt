@@ -9,15 +9,7 @@ pub fn goes_on(v: spec::Verdict, g: u32, groups: u32) -> bool
     requires { g < 8 }
     ensures { GoesOn v g groups result }
 {
-    match v {
-        spec::Verdict::Passed => g + 1 < groups,
-        spec::Verdict::Race(_, _, _, _) => false,
-        spec::Verdict::GroupRace(_, _, _, _) => false,
-        spec::Verdict::Outside(_, _) => false,
-        spec::Verdict::Common(_, _) => false,
-        spec::Verdict::Diverged(_, _) => false,
-        spec::Verdict::Spent => false,
-    }
+    matches!(v, spec::Verdict::Passed) && g + 1 < groups
 }
 
 // The launch is over in this group's run: the log of the k global cells, from place `at` on, and their group masks go to the launch's log.
@@ -39,13 +31,12 @@ pub fn close(
     placing::place_kinds(shared, 5, 0, k, total, at, log);
     placing::place_kinds(masks, 3, 5, k, total, at, log);
     let conflicts = intervals::finish(records, r.barriers + group, r.rows);
-    let verdict = r.verdict;
     spec::Outcome {
-        verdict: verdict,
+        verdict: r.verdict,
         row: r.row as u32,
-        group: group,
+        group,
         rows: r.rows,
         barriers: r.barriers,
-        conflicts: conflicts,
+        conflicts,
     }
 }

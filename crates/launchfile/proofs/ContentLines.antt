@@ -19,7 +19,7 @@ use Rattle.filelines.proofs.DueLines.{due_word, ended, not_ended}
 use Rattle.contents.specs.Taken.{taken, fours_of, RowsTaken, CellsTaken}
 use Rattle.contents.proofs.RowLoop.{rows_lines}
 use Rattle.numberlines.specs.Answered.{line_count, answered}
-use Rattle.admission.specs.declared.Admission.TheVariants.{Accepted, Refused}
+use Rattle.std.specs.Prelude.{Ok, Err}
 use Rattle.launchfile.specs.Parsed.{ContentsRead}
 use Rattle.spec.specs.Launch as definition
 
@@ -29,7 +29,7 @@ Comes rest rows count shared line r = (Z : Sizes) (limit : ℕ) → count ≡ al
 
 -- A refusal says nothing of what was filled before it.
 pub refuses : {rest table cells global table' cells' global' : List ℕ} {rows count shared : ℕ} {why : Refusal}
-    → Comes rest rows count shared (2 + line_count) (λ Z limit. stop why) → ContentsRead rest rows count shared table cells global (Refused why) table' cells' global'
+    → Comes rest rows count shared (2 + line_count) (λ Z limit. stop why) → ContentsRead rest rows count shared table cells global (Err why) table' cells' global'
 unfolding answered
 refuses e = record { answer = e; filled = λ q. let z : ◌≡◌ {A = ℕ} 0 1 = cc in absurd (omega arith) }
 
@@ -96,7 +96,7 @@ module _ {rest table table' own : List ℕ} {rows good : ℕ} (R : RowsTaken row
           all_there n Z limit c g = at_end_lem Z limit c g ∙ rw (f, ← q, ended (suc end_line) more n, ← add-one end_line)
 
           pub accepts : length cells ≡ 1024 → length global ≡ 1024 → length more ≡ 0 → line ≡ 2 + line_count
-              → ContentsRead rest rows count shared table cells global Accepted table' cells' global'
+              → ContentsRead rest rows count shared table cells global (Ok tt) table' cells' global'
           unfolding answered
           accepts c g n e =
               let r : good ≡ rows = omega (arith, R.within) in

@@ -15,22 +15,20 @@ use Rattle.spec.specs.LaunchFile.{stop, Reader, continue, ◌>>=◌, ◌>>◌, r
 use Rattle.spec.specs.LaunchFile.{file_launch, checked_table}
 use Rattle.spec.specs.declared.Refusal.{Refusal}
 use Rattle.spec.specs.declared.Refusal.TheVariants.{LineNotDue, FileTooLong, TooManyCells}
-use Rattle.admission.specs.declared.Admission.{Admission}
-use Rattle.admission.specs.declared.Admission.TheVariants.{Accepted, Refused}
+use Rattle.std.specs.Prelude.{Result, Ok, Err}
 use Rattle.filelines.specs.Lines.{keyed_value, next_in, line_read}
 use Rattle.filelines.specs.Values.{exact_bytes, word_in}
 use Rattle.filelines.proofs.DueLines.{due_word}
-use Rattle.numberlines.specs.Answered.{all_lines, lines_from, line_count, lines_behind, answered, NumbersRead}
-use Rattle.numberlines.proofs.Tables.{no_line}
+use Rattle.numberlines.specs.Answered.{all_lines, no_line, lines_from, line_count, lines_behind, answered, NumbersRead}
 use Rattle.numberlines.proofs.Limits.{Limited, all_limited}
 use Rattle.launchfile.specs.Parsed.{Within, lines_read}
 
 -- What was read of the sizes' lines, and of those behind them.
-size_lines_lem : {lines old ns : List ℕ} {r : Admission} → NumbersRead (lines_from 0 4) 2 lines old ns r → numbers size_lines 2 lines ≡ answered r ns 6 (lines_behind 4 lines)
+size_lines_lem : {lines old ns : List ℕ} {r : Result (Unit {0}) Refusal} → NumbersRead (lines_from 0 4) 2 lines old ns r → numbers size_lines 2 lines ≡ answered r ns 6 (lines_behind 4 lines)
 unfolding lines_from all_lines size_lines length_lines
 size_lines_lem S = S.answer
 
-length_lines_lem : {lines old ns : List ℕ} {r : Admission} → NumbersRead (lines_from 4 2) 6 lines old ns r → numbers length_lines 6 lines ≡ answered r ns 8 (lines_behind 2 lines)
+length_lines_lem : {lines old ns : List ℕ} {r : Result (Unit {0}) Refusal} → NumbersRead (lines_from 4 2) 6 lines old ns r → numbers length_lines 6 lines ≡ answered r ns 8 (lines_behind 2 lines)
 unfolding lines_from all_lines size_lines length_lines
 length_lines_lem L = L.answer
 
@@ -53,31 +51,31 @@ module _ (file : List ℕ) (h : length file ≤ max_file) (t : Bool) (found : ke
       require (leb (all_cells (sizes_in ns)) max_cells) (TooManyCells 5)
       >> (numbers length_lines >>= λ ms. content_lines (sizes_in ns) (limit_in ms) (rows_in ms))
 
-  module _ (f : t ≡ true) {lines : List ℕ} (q : lines ≡ next_in file) (old ns : List ℕ) (r : Admission) (S : NumbersRead (lines_from 0 4) 2 lines old ns r) where
+  module _ (f : t ≡ true) {lines : List ℕ} (q : lines ≡ next_in file) (old ns : List ℕ) (r : Result (Unit {0}) Refusal) (S : NumbersRead (lines_from 0 4) 2 lines old ns r) where
     sized : lines_read file ≡ continue (answered r ns 6 (lines_behind 4 lines)) behind_sizes
     unfolding launch_lines ◌>>=◌ ◌>>◌ continue line_read
     sized = begun ∙ rw (due_word "kernel" "1" 1 file t found, f, ← q, size_lines_lem S)
 
-    pub size_refused : {why : Refusal} → r ≡ Refused why → lines_read file ≡ stop why
+    pub size_refused : {why : Refusal} → r ≡ Err why → lines_read file ≡ stop why
     unfolding answered continue
     size_refused e = sized ∙ rw e
 
-    module _ (a : r ≡ Accepted) (total : ℕ) (e : total ≡ all_cells (sizes_in ns)) where
+    module _ (a : r ≡ Ok tt) (total : ℕ) (e : total ≡ all_cells (sizes_in ns)) where
       pub too_many : max_cells < total → lines_read file ≡ stop (TooManyCells 5)
       unfolding answered continue ◌>>◌ require
       too_many h = sized ∙ rw (a, lt-leb (all_cells (sizes_in ns)) max_cells (omega arith))
 
-      module _ (m : total ≤ max_cells) {behind : List ℕ} (b : behind ≡ lines_behind 4 lines) (before ms : List ℕ) (p : Admission)
+      module _ (m : total ≤ max_cells) {behind : List ℕ} (b : behind ≡ lines_behind 4 lines) (before ms : List ℕ) (p : Result (Unit {0}) Refusal)
           (L : NumbersRead (lines_from 4 2) 6 behind before ms p) where
         numbered : lines_read file ≡ continue (answered p ms 8 (lines_behind 2 behind)) (λ ms. content_lines (sizes_in ns) (limit_in ms) (rows_in ms))
         unfolding answered continue ◌>>◌ ◌>>=◌ require
         numbered = sized ∙ rw (a, le-leb (all_cells (sizes_in ns)) max_cells (omega arith), ← b, length_lines_lem L)
 
-        pub length_refused : {why : Refusal} → p ≡ Refused why → lines_read file ≡ stop why
+        pub length_refused : {why : Refusal} → p ≡ Err why → lines_read file ≡ stop why
         unfolding answered continue
         length_refused u = numbered ∙ rw u
 
-        module _ (u : p ≡ Accepted) where
+        module _ (u : p ≡ Ok tt) where
           pub numbers_read : {rest : List ℕ} → rest ≡ lines_behind 2 behind
               → lines_read file ≡ content_lines (sizes_in ns) (limit_in ms) (rows_in ms) (2 + line_count) rest
           unfolding answered continue line_count

@@ -1,5 +1,5 @@
 -- What the reader answers, by cases on what the definition's lines come to. Assumes nothing.
-use Rattle.std.specs.Prelude.{◌≡◌, List, [], ◌++◌, true, false, ℕ, ◌+◌, ◌-◌, ◌*◌, ◌≤◌, leb, length, take, drop, replicate}
+use Rattle.std.specs.Prelude.{◌≡◌, Result, Ok, Err, IfOk, List, [], ◌++◌, true, false, ℕ, ◌+◌, ◌-◌, ◌*◌, ◌≤◌, leb, length, take, drop, replicate}
 use Rattle.spec.specs.Limits.{max_file, max_threads, max_groups, max_cells, max_rows, max_limit}
 use Rattle.spec.specs.Table.{rows_of}
 use Rattle.spec.specs.Shape.{Sizes, sizes, all_own, all_cells}
@@ -11,29 +11,7 @@ use Rattle.filelines.specs.Values.{row_bytes}
 use Rattle.contents.specs.Taken.{fours_of}
 use Rattle.numberlines.specs.Answered.{line_count, lines_behind, answered}
 use Rattle.launchfile.specs.declared.Launch.{Launch}
-use Rattle.admission.specs.declared.Admission.{Admission}
-use Rattle.admission.specs.declared.Admission.TheVariants.{Accepted, Refused}
-use Rattle.launchfile.specs.declared.Parsed.{Parsed}
 use Rattle.spec.specs.Launch as definition
-
--- A refusal comes with a launch of zeros.
-abbrev pub no_launch : Launch
-no_launch =
-    record {
-      threads = 0;
-      groups = 0;
-      limit = 0;
-      rows = 0;
-      each = 0;
-      count = 0;
-      shared = 0;
-      table = replicate 1024 0;
-      cells = replicate 1024 0;
-      global = replicate 1024 0;
-    }
-
-abbrev pub refused_with : Refusal → Parsed
-refused_with why = record { answer = Refused why; launch = no_launch }
 
 -- The figures of a launch are within their limits.
 pub record Within (Z : Sizes) (limit rows : ℕ) : Type 0 where
@@ -52,24 +30,24 @@ abbrev pub sizes_of : Launch → Sizes
 sizes_of l = sizes l.threads l.each l.groups l.shared
 
 -- An accepted launch: the table's rows are at the front of its bytes, the words of both kinds of cells at the front of theirs, with zeros behind.
-pub record AcceptedAs (launch : definition.Launch) (r : Parsed) : Type 0 where
-  pub answer : r.answer ≡ Accepted
-  pub sizes_are : sizes_of r.launch ≡ launch.sizes
-  pub limit : r.launch.limit ≡ launch.limit
-  pub table : rows_of (take (4 * r.launch.rows) r.launch.table) ≡ launch.table
-  pub cells : take r.launch.count r.launch.cells ++ take r.launch.shared r.launch.global ≡ launch.cells
-  pub own : r.launch.count ≡ all_own (sizes_of r.launch)
-  pub within : Within (sizes_of r.launch) r.launch.limit r.launch.rows
-  pub table_long : length r.launch.table ≡ 1024
-  pub cells_long : length r.launch.cells ≡ 1024
-  pub global_long : length r.launch.global ≡ 1024
-  pub table_zeros : drop (4 * r.launch.rows) r.launch.table ≡ replicate (1024 - 4 * r.launch.rows) 0
-  pub cells_zeros : drop r.launch.count r.launch.cells ≡ replicate (1024 - r.launch.count) 0
-  pub global_zeros : drop r.launch.shared r.launch.global ≡ replicate (1024 - r.launch.shared) 0
+pub record AcceptedAs (launch : definition.Launch) (l : Launch) : Type 0 where
+  pub sizes_are : sizes_of l ≡ launch.sizes
+  pub limit : l.limit ≡ launch.limit
+  pub table : rows_of (take (4 * l.rows) l.table) ≡ launch.table
+  pub cells : take l.count l.cells ++ take l.shared l.global ≡ launch.cells
+  pub own : l.count ≡ all_own (sizes_of l)
+  pub within : Within (sizes_of l) l.limit l.rows
+  pub table_long : length l.table ≡ 1024
+  pub cells_long : length l.cells ≡ 1024
+  pub global_long : length l.global ≡ 1024
+  pub table_zeros : drop (4 * l.rows) l.table ≡ replicate (1024 - 4 * l.rows) 0
+  pub cells_zeros : drop l.count l.cells ≡ replicate (1024 - l.count) 0
+  pub global_zeros : drop l.shared l.global ≡ replicate (1024 - l.shared) 0
 
-abbrev pub ReadAs : Read definition.Launch → Parsed → Type 0
-ReadAs (stop why) r = r ≡ refused_with why
-ReadAs (read launch line rest) r = AcceptedAs launch r
+abbrev pub ReadAs : Read definition.Launch → Result Launch Refusal → Type 0
+ReadAs (stop why) r = r ≡ Err why
+ReadAs (read launch line rest) (Ok l) = AcceptedAs launch l
+ReadAs (read launch line rest) (Err why) = ⊥
 
 -- The definition's reading of a file, before its table is checked.
 unfoldable pub lines_read : List ℕ → Read definition.Launch
@@ -94,15 +72,15 @@ pub record Filled (rest : List ℕ) (rows count shared : ℕ) (table cells globa
   pub global_kept : drop shared global' ≡ drop shared global
 
 -- The answer for the lines behind the numbers, whatever launch has so many rows, own cells and global ones.
-pub record ContentsRead (rest : List ℕ) (rows count shared : ℕ) (table cells global : List ℕ) (r : Admission) (table' cells' global' : List ℕ) : Type 0 where
+pub record ContentsRead (rest : List ℕ) (rows count shared : ℕ) (table cells global : List ℕ) (r : Result (Unit {0}) Refusal) (table' cells' global' : List ℕ) : Type 0 where
   pub answer : (Z : Sizes) (limit : ℕ) → count ≡ all_own Z → shared ≡ Z.global
       → content_lines Z limit rows (2 + line_count) rest
       ≡ answered r
       (record { sizes = Z; limit = limit; table = rows_of (take (4 * rows) table'); cells = take count cells' ++ take shared global' })
       (2 + line_count + rows + count + shared + 1) []
-  pub filled : r ≡ Accepted → Filled rest rows count shared table cells global table' cells' global'
+  pub filled : r ≡ Ok tt → Filled rest rows count shared table cells global table' cells' global'
 
 -- What the reader answers; its table also byte by byte, behind the first line and those of the numbers.
-pub record ParsedIs (file : List ℕ) (r : Parsed) : Type 0 where
+pub record ParsedIs (file : List ℕ) (r : Result Launch Refusal) : Type 0 where
   pub read_as : ReadAs (lines_read file) r
-  pub bytes : r.answer ≡ Accepted → BytesFrom (lines_behind line_count (next_in file)) r.launch
+  pub bytes : IfOk r (BytesFrom (lines_behind line_count (next_in file)))

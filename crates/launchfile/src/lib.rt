@@ -1,17 +1,15 @@
 // The reader of a launch file: one pass over its lines. What is left of the file after a line is a part of the file's slice.
 #![tactic(auto)]
 
-ghost use Rattle.std.specs.Prelude.{◌≡◌, ◌+◌, ◌≤◌, length};
+ghost use Rattle.std.specs.Prelude.{◌≡◌, ◌+◌, ◌*◌, ◌≤◌, length, take, IfOk};
 ghost use Rattle.spec.specs.LaunchFile.{sizes_in, limit_in, rows_in, content_lines};
 ghost use Rattle.numberlines.specs.Answered.{line_count};
-ghost use Rattle.launchfile.specs.Parsed.{refused_with, Within, ReadAs, BytesFrom, ContentsRead, ParsedIs};
-ghost use Rattle.admission.specs.declared.Admission.TheVariants.{Accepted};
+ghost use Rattle.launchfile.specs.Parsed.{Within, ReadAs, BytesFrom, ContentsRead, ParsedIs};
 
-use admission::Admission;
 use spec::Refusal;
 
 // The table's `rows` rows are the first 4 * rows bytes of `table`. Each group has `each` own cells: all `count` of them are the first words of `cells`,
-// and the `shared` global ones the first of `global`.
+// and the `shared` global ones the first of `global`. Arrays with their lengths beside them: the memory of a check is fixed, and there is no heap.
 #[derive(Clone, Copy)]
 pub struct Launch {
     pub threads: u32,
@@ -26,33 +24,28 @@ pub struct Launch {
     pub global: [u32; 1024],
 }
 
-#[derive(Clone, Copy)]
-pub struct Parsed {
-    pub answer: Admission,
-    pub launch: Launch,
-}
+impl Launch {
+    // The bytes of the table's rows.
+    pub fn table_bytes(&self) -> &[u8]
+        requires { 4 * self.now.rows ≤ length self.now.table }
+        ensures { result.now ≡ take (4 * self.now.rows) self.now.table }
+    {
+        &self.table[..4 * self.rows]
+    }
 
-fn refused(why: Refusal) -> Parsed
-    ensures { result ≡ refused_with why }
-{
-    let table = [0u8; 1024];
-    let cells = [0u32; 1024];
-    let global = [0u32; 1024];
-    let launch = Launch {
-        threads: 0,
-        groups: 0,
-        limit: 0,
-        rows: 0,
-        each: 0,
-        count: 0,
-        shared: 0,
-        table,
-        cells,
-        global,
-    };
-    Parsed {
-        answer: Admission::Refused(why),
-        launch,
+    // The words of all own cells, and of the global ones.
+    pub fn own_words(&self) -> &[u32]
+        requires { self.now.count ≤ length self.now.cells }
+        ensures { result.now ≡ take self.now.count self.now.cells }
+    {
+        &self.cells[..self.count]
+    }
+
+    pub fn global_words(&self) -> &[u32]
+        requires { self.now.shared ≤ length self.now.global }
+        ensures { result.now ≡ take self.now.shared self.now.global }
+    {
+        &self.global[..self.shared]
     }
 }
 
@@ -65,34 +58,32 @@ fn read_lines(
     table: &mut [u8; 1024],
     cells: &mut [u32; 1024],
     global: &mut [u32; 1024],
-) -> Admission
+) -> Result<(), Refusal>
     requires { (rows ≤ 256) × (count + shared ≤ 1024) × (length table.old ≡ 1024) × (length cells.old ≡ 1024) × (length global.old ≡ 1024) }
     ensures { ContentsRead rest.now rows count shared table.old cells.old global.old result
         table.new cells.new global.new }
 {
     let first = 2 + numberlines::COUNT;
-    let mut good: usize = 0;
-    let own = contents::read_rows(rest, rows, table, &mut good);
-    if good < rows {
-        return Admission::Refused(Refusal::LineNotDue((first + good) as u32));
-    }
-    let others = contents::read_cells(own, b"cell", count, cells, &mut good);
-    if good < count {
-        return Admission::Refused(Refusal::LineNotDue((first + rows + good) as u32));
-    }
-    let end = contents::read_cells(others, b"gcell", shared, global, &mut good);
-    if good < shared {
-        return Admission::Refused(Refusal::LineNotDue((first + rows + count + good) as u32));
-    }
+    let own = match contents::read_rows(rest, rows, table) {
+        Ok(own) => own,
+        Err(undue) => return Err(Refusal::LineNotDue((first + undue.good) as u32)),
+    };
+    let others = match contents::read_cells(own, b"cell", count, cells) {
+        Ok(others) => others,
+        Err(undue) => return Err(Refusal::LineNotDue((first + rows + undue.good) as u32)),
+    };
+    let end = match contents::read_cells(others, b"gcell", shared, global) {
+        Ok(end) => end,
+        Err(undue) => return Err(Refusal::LineNotDue((first + rows + count + undue.good) as u32)),
+    };
     let last = (first + rows + count + shared) as u32;
     if !filelines::word_line(end, b"end", b"kernel") {
-        return Admission::Refused(Refusal::LineNotDue(last));
+        return Err(Refusal::LineNotDue(last));
     }
-    let more = filelines::next(end);
-    if more.len() != 0 {
-        return Admission::Refused(Refusal::LineNotDue(last + 1));
+    if !filelines::next(end).is_empty() {
+        return Err(Refusal::LineNotDue(last + 1));
     }
-    Admission::Accepted
+    Ok(())
 }
 
 // What follows the numbers.
@@ -100,21 +91,20 @@ fn read_contents(
     rest: &[u8],
     sizes: &[u32; numberlines::SIZES],
     lengths: &[u32; numberlines::LENGTHS],
-) -> Parsed
+) -> Result<Launch, Refusal>
     requires { Within (sizes_in sizes.now) (limit_in lengths.now) (rows_in lengths.now) }
     ensures { ReadAs (content_lines (sizes_in sizes.now) (limit_in lengths.now) (rows_in lengths.now) (2 + line_count) rest.now) result
-        × (result.answer ≡ Accepted → BytesFrom rest.now result.launch) }
+        × IfOk result (BytesFrom rest.now) }
 {
     let groups = sizes[numberlines::GROUPS];
     let own = sizes[numberlines::CELLS];
-    let each = own as usize;
     let count = admission::own_cells(groups, own);
     let shared = sizes[numberlines::GLOBAL] as usize;
     let rows = lengths[numberlines::ROWS] as usize;
     let mut table = [0u8; 1024];
     let mut cells = [0u32; 1024];
     let mut global = [0u32; 1024];
-    let found = read_lines(
+    read_lines(
         rest,
         rows,
         count,
@@ -122,58 +112,43 @@ fn read_contents(
         &mut table,
         &mut cells,
         &mut global,
-    );
-    if let Admission::Refused(why) = found {
-        return refused(why);
-    }
-    let launch = Launch {
+    )?;
+    Ok(Launch {
         threads: sizes[numberlines::THREADS],
         groups,
         limit: lengths[numberlines::LIMIT],
         rows,
-        each,
+        each: own as usize,
         count,
         shared,
         table,
         cells,
         global,
-    };
-    Parsed {
-        answer: Admission::Accepted,
-        launch,
-    }
+    })
 }
 
 // The launch that a file gives, or the first refusal of its length and its lines.
-pub fn read_launch(file: &[u8]) -> Parsed
+pub fn read_launch(file: &[u8]) -> Result<Launch, Refusal>
     ensures { ParsedIs file.now result }
 {
     if 32768 < file.len() {
-        return refused(Refusal::FileTooLong);
+        return Err(Refusal::FileTooLong);
     }
     if !filelines::word_line(file, b"kernel", b"1") {
-        return refused(Refusal::LineNotDue(1));
+        return Err(Refusal::LineNotDue(1));
     }
     let lines = filelines::next(file);
     let mut sizes = [0u32; numberlines::SIZES];
-    if let Admission::Refused(why) = numberlines::read_numbers(lines, 0, &mut sizes) {
-        return refused(why);
-    }
+    numberlines::read_numbers(lines, 0, &mut sizes)?;
     let groups = sizes[numberlines::GROUPS];
     let own = sizes[numberlines::CELLS];
     let global = sizes[numberlines::GLOBAL];
     if 1024 < admission::all_cells(groups, own, global) {
-        return refused(Refusal::TooManyCells(5));
+        return Err(Refusal::TooManyCells(5));
     }
     let behind = numberlines::behind_lines(lines, numberlines::SIZES);
     let mut lengths = [0u32; numberlines::LENGTHS];
-    if let Admission::Refused(why) = numberlines::read_numbers(
-        behind,
-        numberlines::SIZES,
-        &mut lengths,
-    ) {
-        return refused(why);
-    }
+    numberlines::read_numbers(behind, numberlines::SIZES, &mut lengths)?;
     let rest = numberlines::behind_lines(behind, numberlines::LENGTHS);
     read_contents(rest, &sizes, &lengths)
 }

@@ -1,10 +1,10 @@
 -- What the rows come to that only a group of a launch has. Assumes nothing.
 use Rattle.std.specs.Prelude.{◌≡◌, List, ℕ, ◌-◌}
 use Rattle.spec.specs.Op.{LAUNCHTID}
-use Rattle.layout.specs.declared.Access.{Access}
-use Rattle.layout.specs.declared.Access.TheVariants.{Done}
+use Rattle.layout.specs.Memory.{Access}
+use Rattle.std.specs.Prelude.{Ok, Err}
 use Rattle.layout.specs.declared.State.{State}
-use Rattle.layout.specs.declared.Next.{Next}
+use Rattle.layout.specs.Next.{Next}
 use Rattle.layout.specs.Memory.{KeptBut, Puts, computed_lane}
 use Rattle.layout.specs.Shared.{GlobalAll}
 use Rattle.layout.specs.Represents.{accessed}
@@ -15,7 +15,7 @@ Numbered n group mask d regs regs' = Puts d (computed_lane LAUNCHTID group n mas
 
 -- A row of the launch number in state s: the state after it, and the registers.
 abbrev pub LaunchDone : (n group d : ℕ) → State → (regs : List ℕ) → Next → (regs' : List ℕ) → Type 0
-LaunchDone n group d s regs r regs' = (r ≡ accessed s Done) × Numbered n group s.mask d regs regs'
+LaunchDone n group d s regs r regs' = (r ≡ accessed s (Ok tt)) × Numbered n group s.mask d regs regs'
 
 -- A row's accesses of global cells by op, in state s: what they come to, and the state after them.
 abbrev pub GlobalDone : (op n group d a : ℕ) → State → (regs global shared masks : List ℕ) → Next → (regs' global' shared' masks' : List ℕ) → Type 0

@@ -7,13 +7,13 @@ ghost use Rattle.layout.specs.Shared.{GlobalAsks};
 ghost use Rattle.launchrows.specs.LaunchRows.{LaunchDone, GlobalDone};
 
 // The state after a row's accesses of global cells.
-fn after_access(c: layout::Access, s: layout::State) -> layout::Next
+fn after_access(c: Result<(), spec::Verdict>, s: layout::State) -> layout::Next
     requires { Room s }
     ensures { result ≡ accessed s c }
 {
     match c {
-        layout::Access::Done => layout::Next::Go(constructs::moved(s)),
-        layout::Access::Stop(v) => layout::Next::Stop(s, v),
+        Ok(()) => Ok(constructs::moved(s)),
+        Err(verdict) => Err(layout::Stopped { state: s, verdict }),
     }
 }
 
@@ -29,7 +29,7 @@ pub fn launch_row(
     ensures { LaunchDone n group d s regs.old result regs.new }
 {
     compute::launch_row(regs, group, n, s.mask, d);
-    layout::Next::Go(constructs::moved(s))
+    Ok(constructs::moved(s))
 }
 
 // Ops 20 to 22: what ops 16 to 18 do with own cells, with global ones.
@@ -41,15 +41,18 @@ pub fn global_row(
     n: u32,
     group: u32,
     op: u8,
-    d: usize,
-    a: usize,
+    x: layout::Operands,
     s: layout::State,
 ) -> layout::Next
-    requires { Room s × (n ≤ 32) × (s.mask < 2 ^ n) × (group < 8) × (4 ≤ op) × GlobalAsks (op - 4) d a global.old shared.old masks.old }
-    ensures { GlobalDone op n group d a s regs.old global.old shared.old masks.old result
+    requires { Room s × (n ≤ 32) × (s.mask < 2 ^ n) × (group < 8) × (4 ≤ op) × GlobalAsks (op - 4) x.d x.a global.old shared.old masks.old }
+    ensures { GlobalDone op n group x.d x.a s regs.old global.old shared.old masks.old result
         regs.new global.new shared.new masks.new }
 {
-    let r = globals::access_row(regs, global, shared, masks, n, s.mask, op - 4, d, a, group);
-    let c = r.access;
-    after_access(c, s)
+    let row = layout::AccessRow {
+        op: layout::AccessOp::of(op - 4),
+        d: x.d,
+        a: x.a,
+    };
+    let r = globals::access_row(regs, global, shared, masks, n, s.mask, row, group);
+    after_access(r.access, s)
 }

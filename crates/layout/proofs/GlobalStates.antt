@@ -14,7 +14,7 @@ use Rattle.spec.specs.Op.{GLOBAL}
 use Rattle.spec.specs.Shape.{Shape, total}
 use Rattle.spec.specs.LockStep.{LockState, Step, continues, stops, in_turn, enter_group}
 use Rattle.spec.proofs.LogLaws.{same, groups_logged}
-use Rattle.layout.specs.declared.Access.TheVariants.{Done, Stop}
+use Rattle.std.specs.Prelude.{Ok, Err}
 use Rattle.layout.specs.Memory.{Masks, LogIs, Memory, Kept}
 use Rattle.layout.specs.Views.{part, put_part, log_part, put_log, view_of, put_view, global_from, Sized}
 use Rattle.layout.specs.Shared.{group_part, put_groups, GroupsAre, GlobalMemory, GlobalOnly, GlobalDid}
@@ -212,9 +212,9 @@ module _ (L : Shape) (f : LockState → ℕ → Step) (s : LockState) where
       record { here = s; coming = come_start f L.threads s mask e l; memory = M; kept = kept_none s; only = only_none L s M.sized }
 
   module _ (S : Sized L s) (t m : ℕ) (regs cells log masks : List ℕ) (C : GlobalTurning L f s t m regs cells log masks) where
-    pub global_whole : m ≡ 0 → GlobalDid L s (in_turn f (members s.enabled) s) Done regs cells log masks
+    pub global_whole : m ≡ 0 → GlobalDid L s (in_turn f (members s.enabled) s) (Ok tt) regs cells log masks
     global_whole z =
-        subst (λ o. GlobalDid L s o Done regs cells log masks) (sym (come_whole f L.threads s t m C.here C.coming z))
+        subst (λ o. GlobalDid L s o (Ok tt) regs cells log masks) (sym (come_whole f L.threads s t m C.here C.coming z))
         (record { answer = refl; memory = C.memory; kept = C.kept; only = C.only })
 
     pub global_out : t < L.threads → (m % 2 ≡ 1 → ⊥) → GlobalTurning L f s (t + 1) (m / 2) regs cells log masks
@@ -228,10 +228,10 @@ module _ (L : Shape) (f : LockState → ℕ → Step) (s : LockState) where
         }
 
     module _ (regs' cells' log' masks' : List ℕ) (h : t < L.threads) (o : m % 2 ≡ 1) where
-      pub global_in : GlobalDid L C.here (f C.here t) Done regs' cells' log' masks' → GlobalTurning L f s (t + 1) (m / 2) regs' cells' log' masks'
+      pub global_in : GlobalDid L C.here (f C.here t) (Ok tt) regs' cells' log' masks' → GlobalTurning L f s (t + 1) (m / 2) regs' cells' log' masks'
       global_in d = by (f C.here t) refl d
         where
-          by : (x : Step) → f C.here t ≡ x → GlobalDid L C.here x Done regs' cells' log' masks'
+          by : (x : Step) → f C.here t ≡ x → GlobalDid L C.here x (Ok tt) regs' cells' log' masks'
               → GlobalTurning L f s (t + 1) (m / 2) regs' cells' log' masks'
           by (stops v z) e D = let z : ◌≡◌ {A = ℕ} 0 1 = cc D.answer in absurd (omega arith)
           by (continues z) e D =
@@ -243,15 +243,15 @@ module _ (L : Shape) (f : LockState → ℕ → Step) (s : LockState) where
                 only = only_more L s C.here z S C.memory.sized D.memory.sized C.only D.only;
               }
 
-      pub global_stop : (v : Verdict) → GlobalDid L C.here (f C.here t) (Stop v) regs' cells' log' masks'
-          → GlobalDid L s (in_turn f (members s.enabled) s) (Stop v) regs' cells' log' masks'
+      pub global_stop : (v : Verdict) → GlobalDid L C.here (f C.here t) (Err v) regs' cells' log' masks'
+          → GlobalDid L s (in_turn f (members s.enabled) s) (Err v) regs' cells' log' masks'
       global_stop v d = by (f C.here t) refl d
         where
-          by : (x : Step) → f C.here t ≡ x → GlobalDid L C.here x (Stop v) regs' cells' log' masks'
-              → GlobalDid L s (in_turn f (members s.enabled) s) (Stop v) regs' cells' log' masks'
+          by : (x : Step) → f C.here t ≡ x → GlobalDid L C.here x (Err v) regs' cells' log' masks'
+              → GlobalDid L s (in_turn f (members s.enabled) s) (Err v) regs' cells' log' masks'
           by (continues z) e D = let z : ◌≡◌ {A = ℕ} 0 1 = cc D.answer in absurd (omega arith)
           by (stops w z) e D =
-              subst (λ x. GlobalDid L s x (Stop v) regs' cells' log' masks') (sym (come_stop f L.threads s t m C.here C.coming w z h o e))
+              subst (λ x. GlobalDid L s x (Err v) regs' cells' log' masks') (sym (come_stop f L.threads s t m C.here C.coming w z h o e))
               (record {
                 answer = D.answer;
                 memory = D.memory;

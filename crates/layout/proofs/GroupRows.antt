@@ -15,9 +15,9 @@ use Rattle.spec.specs.Table.{Table, Row}
 use Rattle.spec.specs.Shape.{Shape, launch_number, is_global, total}
 use Rattle.spec.specs.Mask.{members, any, full, lowest}
 use Rattle.spec.specs.LockStep.{LockState, Step, continues, stops, and_then, in_turn, advance, compute_turn, access_turn, for_enabled, pass_barrier, barrier_row, run_row}
-use Rattle.layout.specs.declared.Access.{Access}
+use Rattle.layout.specs.Memory.{Access}
 use Rattle.layout.specs.declared.State.{State}
-use Rattle.layout.specs.declared.Next.{Next}
+use Rattle.layout.specs.Next.{Next}
 use Rattle.layout.specs.Memory.{Regs, LogIs, Memory, Kept, state_of}
 use Rattle.layout.specs.Represents.{Represents, After, moved_on, accessed}
 use Rattle.layout.specs.Views.{part, log_part, view_of, put_view, map_step, own_from, global_from, alone, with_cleared, Sized, is_own_space, is_own_row}

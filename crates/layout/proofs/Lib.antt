@@ -1,3 +1,4 @@
+pub mod Ops
 pub mod Lists
 pub mod Parts
 pub mod Placed

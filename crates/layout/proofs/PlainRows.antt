@@ -6,10 +6,10 @@ use native.Mathlib.Omega.{arith}
 use lib.ListN.{length}
 use Rattle.spec.specs.Mask.{Mask, mask_word, members}
 use Rattle.spec.specs.LockStep.{Saved, LockState, Step, continues, stops, and_then, in_turn, advance, for_enabled}
-use Rattle.layout.specs.declared.Access.{Access}
-use Rattle.layout.specs.declared.Access.TheVariants.{Done, Stop}
+use Rattle.layout.specs.Memory.{Access}
+use Rattle.std.specs.Prelude.{Ok, Err}
 use Rattle.layout.specs.declared.State.{State}
-use Rattle.layout.specs.declared.Next.{Next}
+use Rattle.layout.specs.Next.{Next}
 use Rattle.layout.specs.Memory.{Memory, Kept, Did}
 use Rattle.layout.specs.Logging.{EmptyAbove}
 use Rattle.layout.specs.Represents.{Saves, Represents, After, Counted, Counts, gone_on, moved_on, with_since, reached, accessed}
@@ -29,8 +29,8 @@ counted_settled s z r C e h =
     }
 
 pub counts_accessed : (s : State) (g : ℕ) (r : Next) (a : Access) → r ≡ accessed (reached s g) a → Counts s r
-counts_accessed s g r Done e = subst (Counts s) (sym e) (record { rows_one = refl; since_one = omega arith; barriers_one = omega arith })
-counts_accessed s g r (Stop v) e = subst (Counts s) (sym e) refl
+counts_accessed s g r (Ok tt) e = subst (Counts s) (sym e) (record { rows_one = refl; since_one = omega arith; barriers_one = omega arith })
+counts_accessed s g r (Err v) e = subst (Counts s) (sym e) refl
 
 pub memory_advance : (n r : ℕ) (m : Mask) (v : List Saved) (z : LockState) (regs cells log : List ℕ) → Memory n z regs cells log
     → Memory n (advance r m v z) regs cells log

@@ -9,7 +9,7 @@ use Rattle.spec.specs.declared.Verdict.{Verdict}
 use Rattle.spec.specs.Mask.{Mask, mask_word, members, members_from}
 use Rattle.spec.specs.LockStep.{LockState, Step, continues, stops, in_turn, and_then}
 use Rattle.masks.proofs.Words.{word_half, word_odd}
-use Rattle.layout.specs.declared.Access.TheVariants.{Done, Stop}
+use Rattle.std.specs.Prelude.{Ok, Err}
 use Rattle.layout.specs.Memory.{Memory, Kept, Did, OneTurn}
 
 pub kept_none : (s : LockState) → Kept s s
@@ -117,9 +117,9 @@ module _ (f : LockState → ℕ → Step) (n : ℕ) (s : LockState) where
   turn_start mask regs cells log e l M = record { here = s; coming = come_start f n s mask e l; memory = M; kept = kept_none s }
 
   module _ (t m : ℕ) (regs cells log : List ℕ) (C : Turning f n s t m regs cells log) where
-    pub turn_whole : m ≡ 0 → Did n s (in_turn f (members s.enabled) s) Done regs cells log
+    pub turn_whole : m ≡ 0 → Did n s (in_turn f (members s.enabled) s) (Ok tt) regs cells log
     turn_whole z =
-        subst (λ o. Did n s o Done regs cells log) (sym (come_whole f n s t m C.here C.coming z))
+        subst (λ o. Did n s o (Ok tt) regs cells log) (sym (come_whole f n s t m C.here C.coming z))
         (record { answer = refl; memory = C.memory; kept = C.kept })
 
     pub turn_end : n ≤ t → m ≡ 0
@@ -128,11 +128,11 @@ module _ (f : LockState → ℕ → Step) (n : ℕ) (s : LockState) where
     pub turn_out : t < n → (m % 2 ≡ 1 → ⊥) → Turning f n s (t + 1) (m / 2) regs cells log
     turn_out h o = record { here = C.here; coming = come_out f n s t m C.here C.coming h o; memory = C.memory; kept = C.kept }
 
-    pub turn_in : (regs' cells' log' : List ℕ) → t < n → m % 2 ≡ 1 → OneTurn f n t regs cells log Done regs' cells' log'
+    pub turn_in : (regs' cells' log' : List ℕ) → t < n → m % 2 ≡ 1 → OneTurn f n t regs cells log (Ok tt) regs' cells' log'
         → Turning f n s (t + 1) (m / 2) regs' cells' log'
     turn_in regs' cells' log' h o d = by (f C.here t) refl (d C.here C.memory)
       where
-        by : (x : Step) → f C.here t ≡ x → Did n C.here x Done regs' cells' log' → Turning f n s (t + 1) (m / 2) regs' cells' log'
+        by : (x : Step) → f C.here t ≡ x → Did n C.here x (Ok tt) regs' cells' log' → Turning f n s (t + 1) (m / 2) regs' cells' log'
         by (stops v z) e D = let z : ◌≡◌ {A = ℕ} 0 1 = cc D.answer in absurd (omega arith)
         by (continues z) e D =
             record {
@@ -142,15 +142,15 @@ module _ (f : LockState → ℕ → Step) (n : ℕ) (s : LockState) where
               kept = kept_more s C.here z C.kept D.kept;
             }
 
-    pub turn_stop : (v : Verdict) (regs' cells' log' : List ℕ) → t < n → m % 2 ≡ 1 → OneTurn f n t regs cells log (Stop v) regs' cells' log'
-        → Did n s (in_turn f (members s.enabled) s) (Stop v) regs' cells' log'
+    pub turn_stop : (v : Verdict) (regs' cells' log' : List ℕ) → t < n → m % 2 ≡ 1 → OneTurn f n t regs cells log (Err v) regs' cells' log'
+        → Did n s (in_turn f (members s.enabled) s) (Err v) regs' cells' log'
     turn_stop v regs' cells' log' h o d = by (f C.here t) refl (d C.here C.memory)
       where
-        by : (x : Step) → f C.here t ≡ x → Did n C.here x (Stop v) regs' cells' log'
-            → Did n s (in_turn f (members s.enabled) s) (Stop v) regs' cells' log'
+        by : (x : Step) → f C.here t ≡ x → Did n C.here x (Err v) regs' cells' log'
+            → Did n s (in_turn f (members s.enabled) s) (Err v) regs' cells' log'
         by (continues z) e D = let z : ◌≡◌ {A = ℕ} 0 1 = cc D.answer in absurd (omega arith)
         by (stops w z) e D =
-            subst (λ x. Did n s x (Stop v) regs' cells' log') (sym (come_stop f n s t m C.here C.coming w z h o e))
+            subst (λ x. Did n s x (Err v) regs' cells' log') (sym (come_stop f n s t m C.here C.coming w z h o e))
             (record {
               answer = D.answer;
               memory = D.memory;
@@ -159,7 +159,7 @@ module _ (f : LockState → ℕ → Step) (n : ℕ) (s : LockState) where
 
     -- as the code has it: the buffers as the branches leave them
     pub go_in : (regs₁ cells₁ log₁ regs₂ cells₂ log₂ : List ℕ) → t < n → m % 2 ≡ 1
-        → OneTurn f n t regs cells log Done regs₁ cells₁ log₁ → regs₂ ≡ regs₁ → cells₂ ≡ cells₁ → log₂ ≡ log₁
+        → OneTurn f n t regs cells log (Ok tt) regs₁ cells₁ log₁ → regs₂ ≡ regs₁ → cells₂ ≡ cells₁ → log₂ ≡ log₁
         → Turning f n s (t + 1) (m / 2) regs₂ cells₂ log₂
     go_in regs₁ cells₁ log₁ regs₂ cells₂ log₂ h o d er ec el =
         subst (λ z. Turning f n s (t + 1) (m / 2) z cells₂ log₂) (sym er)

@@ -5,8 +5,8 @@ use Rattle.std.specs.Int.Count.{count_trailing_zeros}
 use Rattle.spec.specs.declared.Verdict.TheVariants.{Diverged}
 use Rattle.spec.specs.Log.{cells_cleared}
 use Rattle.layout.specs.declared.State.{State}
-use Rattle.layout.specs.declared.Next.{Next}
-use Rattle.layout.specs.declared.Next.TheVariants as next
+use Rattle.layout.specs.Next.{Next}
+use Rattle.layout.specs.Next as next
 use Rattle.layout.specs.Memory.{holding_word}
 use Rattle.layout.specs.Represents.{Counted, gone_on, moved_on}
 

@@ -4,8 +4,9 @@ use Rattle.spec.specs.declared.Verdict.{Verdict}
 use Rattle.spec.specs.declared.Verdict.TheVariants.{Passed, Race, GroupRace, Outside, Common, Diverged, Spent}
 use Rattle.spec.specs.LockStep.{LockState}
 use Rattle.layout.specs.declared.State.{State}
-use Rattle.layout.specs.declared.Next.{Next}
-use Rattle.layout.specs.declared.Next.TheVariants as next
+use Rattle.std.specs.Prelude.{Ok, Err}
+use Rattle.layout.specs.Next.{Next}
+use Rattle.layout.specs.Next as next
 use Rattle.layout.specs.Represents.{with_since}
 
 abbrev pub bit_of : (mask t : ℕ) → ℕ
@@ -40,8 +41,8 @@ stepping op s r = cond (eqb op 37) 0 (cond (eqb op 34) r.mask s.mask)
 
 -- One more step under the same mask; none where the row stopped.
 abbrev pub StepsOn : State → Next → Type 0
-StepsOn s (next.Go r) = (r.mask ≡ s.mask) × (r.since ≡ s.since + 1)
-StepsOn s (next.Stop r v) = (r.mask ≡ s.mask) × (r.since ≡ s.since)
+StepsOn s (Ok r) = (r.mask ≡ s.mask) × (r.since ≡ s.since + 1)
+StepsOn s (Err x) = (x.state.mask ≡ s.mask) × (x.state.since ≡ s.since)
 
 -- Each of them has one step more after it. A row that stops leaves the counting to the run.
 pub record RowCounted (op : ℕ) (s r : State) (counts counts' : List ℕ) : Type 0 where
@@ -49,8 +50,8 @@ pub record RowCounted (op : ℕ) (s r : State) (counts counts' : List ℕ) : Typ
   pub each : (t : ℕ) → t < 32 → steps_of r.mask r.since counts' t ≡ steps_of s.mask s.since counts t + bit_of (stepping op s r) t
 
 abbrev pub NextCounted : (op : ℕ) → State → Next → (counts counts' : List ℕ) → Type 0
-NextCounted op s (next.Go r) counts counts' = RowCounted op s r counts counts'
-NextCounted op s (next.Stop r v) counts counts' = (r.mask ≡ s.mask) × (r.since ≡ s.since) × (counts' ≡ counts)
+NextCounted op s (Ok r) counts counts' = RowCounted op s r counts counts'
+NextCounted op s (Err x) counts counts' = (x.state.mask ≡ s.mask) × (x.state.since ≡ s.since) × (counts' ≡ counts)
 
 -- Those that have stepped in a row that stopped: the enabled threads below the one that stopped it; nobody at a BARRIER.
 unfoldable pub acted_before : Verdict → (mask : ℕ) → ℕ

@@ -4,8 +4,9 @@ use Rattle.std.specs.Prelude.{◌≡◌, List, cond, ℕ, ltb, length, replicate
 use Rattle.spec.specs.Shape.{Shape}
 use Rattle.spec.specs.LockStep.{LockState, Step, continues, stops}
 use Rattle.layout.specs.declared.State.{State}
-use Rattle.layout.specs.declared.Next.{Next}
-use Rattle.layout.specs.declared.Next.TheVariants as next
+use Rattle.std.specs.Prelude.{Ok, Err}
+use Rattle.layout.specs.Next.{Next}
+use Rattle.layout.specs.Next as next
 use Rattle.layout.specs.Represents.{Represents}
 use Rattle.layout.specs.Views.{view_of, own_from}
 use Rattle.layout.specs.Shared.{GlobalMemory}
@@ -24,8 +25,8 @@ GroupAfter L (stops v z) r regs cells log saved openers global shared masks =
 
 -- The global log after a row that is come to in state s: where a BARRIER is passed, it is cleared.
 abbrev pub SharedAfter : State → Next → (shared shared' : List ℕ) → Type 0
-SharedAfter s (next.Go r) shared shared' = shared' ≡ cond (ltb s.barriers r.barriers) (replicate (length shared) 0) shared
-SharedAfter s (next.Stop r v) shared shared' = shared' ≡ shared
+SharedAfter s (Ok r) shared shared' = shared' ≡ cond (ltb s.barriers r.barriers) (replicate (length shared) 0) shared
+SharedAfter s (Err x) shared shared' = shared' ≡ shared
 
 -- By the row's op: only a BARRIER touches it.
 abbrev pub SharedLeft : (op : ℕ) → State → Next → (shared shared' : List ℕ) → Type 0

@@ -1,3 +1,5 @@
+pub mod Next
+pub mod Ops
 pub mod Logging
 pub mod Memory
 pub mod Views

@@ -12,8 +12,7 @@ use Rattle.spec.specs.Table.{Row}
 use Rattle.spec.specs.LockStep.{LockState, Step, continues, stops, in_turn, access_turn}
 use Rattle.spec.specs.Shape.{Shape, in_common, shape_of, one_group, with_common}
 use Rattle.spec.specs.Word.{add}
-use Rattle.layout.specs.declared.Access.{Access}
-use Rattle.layout.specs.declared.Access.TheVariants.{Done, Stop}
+use Rattle.std.specs.Prelude.{Result, Ok, Err}
 use Rattle.layout.specs.declared.Halt.{Halt}
 use Rattle.layout.specs.declared.Turns.{Turns}
 use Rattle.layout.specs.Logging.{SameAbove, SameBut, tested_word}
@@ -51,9 +50,13 @@ pub record Kept (s z : LockState) : Type 0 where
   pub rows_same : z.rows ≡ s.rows
   pub barriers_same_lem : z.barriers ≡ s.barriers
 
+-- What an access comes to: it went on, or the verdict that it stops with.
+abbrev pub Access : Type 0
+Access = Result (Unit {0}) Verdict
+
 abbrev pub access_of : Step → Access
-access_of (continues z) = Done
-access_of (stops v z) = Stop v
+access_of (continues z) = Ok tt
+access_of (stops v z) = Err v
 
 abbrev pub state_of : Step → LockState
 state_of (continues z) = z
@@ -160,10 +163,10 @@ AccessOne op t d a common regs cells log r regs' cells' log' =
 
 -- One that goes on without looking at the common cells; one that stops, of a number that is no common cell's.
 abbrev pub AccessMade : (op t d a : ℕ) → (regs cells log regs' cells' log' : List ℕ) → Type 0
-AccessMade op t d a regs cells log regs' cells' log' = (common : List ℕ) → AccessOne op t d a common regs cells log Done regs' cells' log'
+AccessMade op t d a regs cells log regs' cells' log' = (common : List ℕ) → AccessOne op t d a common regs cells log (Ok tt) regs' cells' log'
 
 abbrev pub AccessStopped : (op t d a x : ℕ) → (regs cells log : List ℕ) → Verdict → Type 0
-AccessStopped op t d a x regs cells log v = (common : List ℕ) → in_common common x ≡ false → AccessOne op t d a common regs cells log (Stop v) regs cells log
+AccessStopped op t d a x regs cells log v = (common : List ℕ) → in_common common x ≡ false → AccessOne op t d a common regs cells log (Err v) regs cells log
 
 abbrev pub AccessAll : (op n mask d a : ℕ) → (common regs cells log : List ℕ) → Access → (regs' cells' log' : List ℕ) → Type 0
 AccessAll op n mask d a common regs cells log r regs' cells' log' =
@@ -188,7 +191,7 @@ takes_common op x common = cond (eqb op 16) (in_common common x) false
 
 -- One thread's turn: it went on, or it changed nothing and is one that stops. In the log only words of its own cell have changed, of a common one none.
 pub record TurnMade (op t d a x bit : ℕ) (common regs cells log : List ℕ) (r : Bool) (regs' cells' log' : List ℕ) : Type 0 where
-  pub went : r ≡ true → AccessOne op t d a common regs cells log Done regs' cells' log'
+  pub went : r ≡ true → AccessOne op t d a common regs cells log (Ok tt) regs' cells' log'
   pub regs_kept : KeptBut d (t + 1) regs regs'
   pub log_same : SameBut (x % common_from) (length cells) log log'
   pub cells_size : length cells' ≡ length cells
@@ -198,18 +201,18 @@ pub record TurnMade (op t d a x bit : ℕ) (common regs cells log : List ℕ) (r
 
 -- A row's accesses up to the thread at which they halt, whose access does not go on: where that one stops, the row stops with the same verdict.
 pub record Halted (op n mask d a : ℕ) (common regs cells log : List ℕ) (r : Halt) (regs' cells' log' : List ℕ) : Type 0 where
-  pub inside : r.thread < n
-  pub bit_is : r.bit ≡ 2 ^ r.thread
-  pub number : CellNumber op d a r.thread regs' r.cell
-  pub refused : goes_on op (get_or regs' (a * 32 + r.thread) 0) r.bit r.cell cells' log' ≡ false
-  pub untaken : takes_common op r.cell common ≡ false
-  pub stops : (v : Verdict) → AccessOne op r.thread d a common regs' cells' log' (Stop v) regs' cells' log'
-      → AccessAll op n mask d a common regs cells log (Stop v) regs' cells' log'
+  pub inside : r.turn.thread < n
+  pub bit_is : r.turn.bit ≡ 2 ^ r.turn.thread
+  pub number : CellNumber op d a r.turn.thread regs' r.turn.cell
+  pub refused : goes_on op (get_or regs' (a * 32 + r.turn.thread) 0) r.turn.bit r.turn.cell cells' log' ≡ false
+  pub untaken : takes_common op r.turn.cell common ≡ false
+  pub stops : (v : Verdict) → AccessOne op r.turn.thread d a common regs' cells' log' (Err v) regs' cells' log'
+      → AccessAll op n mask d a common regs cells log (Err v) regs' cells' log'
 
 abbrev pub AccessLoop : (op n mask d a : ℕ) → (common regs cells log : List ℕ) → Halt → (regs' cells' log' : List ℕ) → Type 0
 AccessLoop op n mask d a common regs cells log r regs' cells' log' =
-    (r.thread ≡ n → AccessAll op n mask d a common regs cells log Done regs' cells' log')
-    × ((r.thread ≡ n → ⊥) → Halted op n mask d a common regs cells log r regs' cells' log')
+    (r.turn.thread ≡ n → AccessAll op n mask d a common regs cells log (Ok tt) regs' cells' log')
+    × ((r.turn.thread ≡ n → ⊥) → Halted op n mask d a common regs cells log r regs' cells' log')
     × (length cells' ≡ length cells) × (length log' ≡ length log)
     × KeptBut d n regs regs' × SameAbove (r.reach % common_from) (length cells) log log'
 

@@ -3,11 +3,11 @@ use Rattle.std.specs.Prelude.{◌≡◌, ◌⊎◌, List, [], ◌∷◌, ℕ, �
 use Rattle.std.specs.Int.Bits.{bit_or}
 use Rattle.spec.specs.Mask.{mask_word}
 use Rattle.spec.specs.LockStep.{Saved, LockState, Step, continues, stops}
-use Rattle.layout.specs.declared.Access.{Access}
-use Rattle.layout.specs.declared.Access.TheVariants.{Done, Stop}
+use Rattle.layout.specs.Memory.{Access}
+use Rattle.std.specs.Prelude.{Ok, Err}
 use Rattle.layout.specs.declared.State.{State}
-use Rattle.layout.specs.declared.Next.{Next}
-use Rattle.layout.specs.declared.Next.TheVariants as next
+use Rattle.layout.specs.Next.{Next}
+use Rattle.layout.specs.Next as next
 use Rattle.layout.specs.Logging.{EmptyAbove}
 use Rattle.layout.specs.Memory.{Memory}
 
@@ -48,8 +48,8 @@ pub record Counted (s r : State) : Type 0 where
   pub barriers_one : r.barriers ≤ s.barriers + 1
 
 abbrev pub Counts : State → Next → Type 0
-Counts s (next.Go r) = Counted s r
-Counts s (next.Stop r v) = r.row ≡ s.row
+Counts s (Ok r) = Counted s r
+Counts s (Err x) = x.state.row ≡ s.row
 
 -- On at another row, with another mask and depth, after one more step.
 abbrev pub gone_on : State → (row mask depth : ℕ) → State
@@ -79,8 +79,8 @@ reached s h =
     }
 
 abbrev pub accessed : State → Access → Next
-accessed s Done = next.Go (moved_on s)
-accessed s (Stop v) = next.Stop s v
+accessed s (Ok tt) = next.Go (moved_on s)
+accessed s (Err v) = next.Stop s v
 
 -- What a row comes to in the code is what it comes to by the definition.
 abbrev pub After : ℕ → Step → Next → (regs cells log saved openers : List ℕ) → Type 0

@@ -7,7 +7,7 @@ use Rattle.spec.specs.TableCheck.{table_refusal}
 use Rattle.spec.specs.Limits.{log_per_cell}
 use Rattle.spec.specs.LockStep.{LockState, run_row}
 use Rattle.layout.specs.declared.State.{State}
-use Rattle.layout.specs.declared.Next.{Next}
+use Rattle.layout.specs.Next.{Next}
 use Rattle.layout.specs.Memory.{ComputeAsks, Computed, KeptBut, shape_by}
 use Rattle.layout.specs.Represents.{Represents, Standing, After, Counts, Room, DepthAsks}
 use Rattle.layout.specs.Constructs.{saved_after, openers_after}

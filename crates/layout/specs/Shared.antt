@@ -11,8 +11,8 @@ use Rattle.spec.specs.Op.{GLOBAL, OWN, Mem, MEM, op_of}
 use Rattle.spec.specs.Table.{Row}
 use Rattle.spec.specs.Shape.{Shape}
 use Rattle.spec.specs.LockStep.{LockState, Step, in_turn, access_turn}
-use Rattle.layout.specs.declared.Access.{Access}
-use Rattle.layout.specs.declared.Access.TheVariants.{Done}
+use Rattle.layout.specs.Memory.{Access}
+use Rattle.std.specs.Prelude.{Ok, Err}
 use Rattle.layout.specs.declared.Turns.{Turns}
 use Rattle.layout.specs.Logging.{mode_of, rank, word_of, has_bit, SameAbove, SameBut}
 use Rattle.layout.specs.Memory.{Masks, Memory, Kept, KeptBut, AccessAsks, access_of, state_of}
@@ -91,7 +91,7 @@ pub record GlobalAsks (op d a : ℕ) (cells log masks : List ℕ) : Type 0 where
 
 pub record GlobalTurn (op left t d a own : ℕ) (regs cells log masks : List ℕ) (r : Turns) (regs' cells' log' masks' : List ℕ) : Type 0 where
   pub enabled : left % 2 ≡ 1 → GlobalOne op t d a own regs cells log masks r.access regs' cells' log' masks'
-  pub disabled : (left % 2 ≡ 1 → ⊥) → (r.access ≡ Done) × (regs' ≡ regs) × (cells' ≡ cells) × (log' ≡ log) × (masks' ≡ masks)
+  pub disabled : (left % 2 ≡ 1 → ⊥) → (r.access ≡ Ok tt) × (regs' ≡ regs) × (cells' ≡ cells) × (log' ≡ log) × (masks' ≡ masks)
   pub regs_kept : KeptBut d (t + 1) regs regs'
   pub log_same : SameBut r.reach (length cells) log log'
 

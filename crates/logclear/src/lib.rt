@@ -1,4 +1,4 @@
-// The walk that clears the access log.
+// The walk that clears the access log: one list of words with five kinds, and no struct of five lists, as the launch's log has them, which C lends.
 #![tactic(auto)]
 
 ghost use Rattle.std.specs.Prelude.{◌≡◌, ◌*◌, ◌<◌, length, replicate};
@@ -18,19 +18,18 @@ fn clear_cell(log: &mut [u32], cells: usize, i: usize)
 }
 
 // n turns, from cell 0 on; more than there are cells clear them all, and nothing else.
+#[tactic(auto, using(spec::proofs::ClearingLaws::cells_none, spec::proofs::ClearingLaws::cells_more, spec::proofs::ClearingLaws::cells_size))]
 pub fn clear_cells(log: &mut [u32], cells: usize, n: usize)
     requires { length log.old ≡ log_per_cell * cells }
     ensures { log.new ≡ cells_cleared cells n log.old }
 {
-    let turns = if n < cells { n } else { cells };
-    let mut i = 0;
-    while i < turns {
+    for i in 0..n.min(cells) {
         clear_cell(log, cells, i);
-        i += 1;
     }
 }
 
 // The whole log.
+#[tactic(auto, using(spec::proofs::ClearingLaws::cells_all))]
 pub fn clear(log: &mut [u32], cells: usize)
     requires { length log.old ≡ log_per_cell * cells }
     ensures { log.new ≡ replicate (length log.old) 0 }

@@ -2,14 +2,19 @@
 #![tactic(auto)]
 
 ghost use Rattle.std.specs.Prelude.{◌≡◌, ◌+◌, ◌<◌, ◌≤◌, get_or};
+ghost use Rattle.layout.specs.Ops.{number};
 ghost use Rattle.layout.specs.Logging.{LogAsks, OneBit, mode_of, rank, place_of, mark_entered, entered_words};
 
 // Where the mask of cell i stands that an access by op enters.
-pub fn place(cells: usize, i: usize, op: u8) -> usize
-    requires { (16 ≤ op) × (op ≤ 18) × (cells ≤ 1024) × (i < cells) }
-    ensures { result ≡ place_of (rank (mode_of op)) cells i }
+pub fn place(cells: usize, i: usize, op: layout::AccessOp) -> usize
+    requires { (cells ≤ 1024) × (i < cells) }
+    ensures { result ≡ place_of (rank (mode_of (number op))) cells i }
 {
-    (op as usize - 16) * cells + i
+    match op {
+        layout::AccessOp::Load => i,
+        layout::AccessOp::Store => cells + i,
+        layout::AccessOp::Add => 2 * cells + i,
+    }
 }
 
 // A store of v to a cell that has a first value: another one marks the cell.
@@ -53,11 +58,11 @@ fn enter_store(log: &mut [u32], cells: usize, i: usize, bit: u32, v: u32)
 }
 
 // The thread of this bit enters the mask of cell i, and of a STORE the value v.
-pub fn enter(log: &mut [u32], cells: usize, i: usize, bit: u32, v: u32, op: u8)
-    requires { LogAsks op cells i log.old × OneBit bit }
-    ensures { log.new ≡ entered_words op v cells i bit log.old }
+pub fn enter(log: &mut [u32], cells: usize, i: usize, bit: u32, v: u32, op: layout::AccessOp)
+    requires { LogAsks (number op) cells i log.old × OneBit bit }
+    ensures { log.new ≡ entered_words (number op) v cells i bit log.old }
 {
-    if op == 17 {
+    if let layout::AccessOp::Store = op {
         enter_store(log, cells, i, bit, v);
         return;
     }

@@ -8,7 +8,7 @@ ghost use Rattle.std.specs.Int.Count.{count_trailing_zeros};
 pub fn lowest(m: u32) -> u32
     ensures { (result ≡ count_trailing_zeros 32 m) × (0 < m → result < 32) }
 {
-    u32::trailing_zeros(m)
+    m.trailing_zeros()
 }
 
 pub fn bit(m: u32, t: u32) -> u32
@@ -37,5 +37,5 @@ pub fn all(n: u32) -> u32
     requires { n ≤ 32 }
     ensures { result ≡ 2 ^ n - 1 }
 {
-    if n < 32 { (1 << n) - 1 } else { 4294967295 }
+    if n < 32 { (1 << n) - 1 } else { u32::MAX }
 }

@@ -1,141 +1,95 @@
 // A row's accesses, thread by thread. The cells' numbers are put together bit by bit on the way: none is above what comes out.
 #![tactic(auto)]
 
-ghost use Rattle.std.specs.Prelude.{◌≡◌, ◌-◌, ◌%◌, ◌^◌, ◌<◌};
+ghost use Rattle.std.specs.Prelude.{◌≡◌, Bool, true, eqb, ◌-◌, ◌%◌, ◌^◌, ◌<◌, ◌≤◌};
 ghost use Rattle.spec.specs.Limits.{common_from};
+ghost use Rattle.layout.specs.Ops.{number};
 ghost use Rattle.layout.specs.Memory.{AccessRowAsks, AccessLoop, AccessRow};
 
-// The accesses of all n threads, lowest first, up to one that does not go on.
-fn access_all(
-    regs: &mut [u32; 512],
-    cells: &mut [u32],
-    log: &mut [u32],
-    common: &[u32],
-    n: u32,
-    op: u8,
-    d: usize,
-    a: usize,
-) -> layout::Halt
-    requires { AccessRowAsks op n d a regs.old cells.old log.old }
-    ensures { AccessLoop op n (2 ^ n - 1) d a common.now regs.old cells.old log.old result
-        regs.new cells.new log.new }
+// Whether the lowest of the threads that are left is enabled. Where ALL are, the mask is not looked at.
+fn is_enabled<const ALL: bool>(left: u32) -> bool
+    requires { ALL ≡ true → left % 2 ≡ 1 }
+    ensures { result ≡ eqb (left % 2) 1 }
 {
-    let mut t: u32 = 0;
-    let mut bit: u32 = 1;
-    let mut reach: u32 = 0;
-    while t < n {
-        let x = access::cell_number(regs, t, op, d, a);
-        reach = reach | x;
-        if !access::turn(regs, cells, log, common, x, t, bit, op, d, a) {
-            return layout::Halt {
-                thread: t,
-                bit: bit,
-                cell: x,
-                reach: reach,
-            };
-        }
-        bit = bit << 1;
-        t += 1;
-    }
-    layout::Halt {
-        thread: n,
-        bit: bit,
-        cell: 0,
-        reach: reach,
-    }
+    ALL || left % 2 == 1
 }
 
-// The accesses of the enabled threads, likewise.
-fn access_enabled(
+// The accesses of the enabled threads, lowest first, up to one that does not go on.
+// Inlined into each arm of `row_by_op`, where the op is known.
+#[inline(always)]
+fn accesses<const ALL: bool>(
     regs: &mut [u32; 512],
     cells: &mut [u32],
     log: &mut [u32],
     common: &[u32],
     n: u32,
     mask: u32,
-    op: u8,
-    d: usize,
-    a: usize,
+    row: layout::AccessRow,
 ) -> layout::Halt
-    requires { (mask < 2 ^ n) × AccessRowAsks op n d a regs.old cells.old log.old }
-    ensures { AccessLoop op n mask d a common.now regs.old cells.old log.old result
+    requires { (ALL ≡ true → mask ≡ 2 ^ n - 1) × (mask < 2 ^ n) × AccessRowAsks (number row.op) n row.d row.a regs.old cells.old log.old }
+    ensures { AccessLoop (number row.op) n mask row.d row.a common.now regs.old cells.old log.old result
         regs.new cells.new log.new }
 {
-    let mut m = mask;
-    let mut t: u32 = 0;
+    let mut left = mask;
     let mut bit: u32 = 1;
     let mut reach: u32 = 0;
-    while m != 0 {
-        if m % 2 == 1 {
-            let x = access::cell_number(regs, t, op, d, a);
-            reach = reach | x;
-            if !access::turn(regs, cells, log, common, x, t, bit, op, d, a) {
-                return layout::Halt {
-                    thread: t,
-                    bit: bit,
-                    cell: x,
-                    reach: reach,
-                };
+    for thread in 0..access::reaching(mask, n) {
+        if is_enabled::<ALL>(left) {
+            let cell = access::accessed_cell(regs, thread, row);
+            let turn = layout::Turn { thread, bit, cell };
+            reach = reach | cell;
+            if !access::turn(regs, cells, log, common, turn, row) {
+                return layout::Halt { turn, reach };
             }
         }
-        m = m / 2;
+        left = left / 2;
         bit = bit << 1;
-        t += 1;
     }
-    layout::Halt {
+    let none = layout::Turn {
         thread: n,
-        bit: bit,
+        bit,
         cell: 0,
-        reach: reach,
-    }
+    };
+    layout::Halt { turn: none, reach }
 }
 
-// Both with a loop for each op, so that what the op decides is decided once a row.
-fn full_row(
-    regs: &mut [u32; 512],
-    cells: &mut [u32],
-    log: &mut [u32],
-    common: &[u32],
-    n: u32,
-    op: u8,
-    d: usize,
-    a: usize,
-) -> layout::Halt
-    requires { AccessRowAsks op n d a regs.old cells.old log.old }
-    ensures { AccessLoop op n (2 ^ n - 1) d a common.now regs.old cells.old log.old result
-        regs.new cells.new log.new }
-{
-    if op == 16 {
-        return access_all(regs, cells, log, common, n, 16, d, a);
-    }
-    if op == 17 {
-        return access_all(regs, cells, log, common, n, 17, d, a);
-    }
-    access_all(regs, cells, log, common, n, 18, d, a)
-}
-
-fn partial_row(
+// With a loop for each op, so that what the op decides is decided once a row.
+fn row_by_op<const ALL: bool>(
     regs: &mut [u32; 512],
     cells: &mut [u32],
     log: &mut [u32],
     common: &[u32],
     n: u32,
     mask: u32,
-    op: u8,
-    d: usize,
-    a: usize,
+    row: layout::AccessRow,
 ) -> layout::Halt
-    requires { (mask < 2 ^ n) × AccessRowAsks op n d a regs.old cells.old log.old }
-    ensures { AccessLoop op n mask d a common.now regs.old cells.old log.old result
+    requires { (ALL ≡ true → mask ≡ 2 ^ n - 1) × (mask < 2 ^ n) × AccessRowAsks (number row.op) n row.d row.a regs.old cells.old log.old }
+    ensures { AccessLoop (number row.op) n mask row.d row.a common.now regs.old cells.old log.old result
         regs.new cells.new log.new }
 {
-    if op == 16 {
-        return access_enabled(regs, cells, log, common, n, mask, 16, d, a);
+    match row.op {
+        layout::AccessOp::Load => {
+            let loads = layout::AccessRow {
+                op: layout::AccessOp::Load,
+                ..row
+            };
+            accesses::<ALL>(regs, cells, log, common, n, mask, loads)
+        }
+        layout::AccessOp::Store => {
+            let stores = layout::AccessRow {
+                op: layout::AccessOp::Store,
+                ..row
+            };
+            accesses::<ALL>(regs, cells, log, common, n, mask, stores)
+        }
+        layout::AccessOp::Add => {
+            let adds = layout::AccessRow {
+                op: layout::AccessOp::Add,
+                ..row
+            };
+            accesses::<ALL>(regs, cells, log, common, n, mask, adds)
+        }
     }
-    if op == 17 {
-        return access_enabled(regs, cells, log, common, n, mask, 17, d, a);
-    }
-    access_enabled(regs, cells, log, common, n, mask, 18, d, a)
 }
 
 // Where all threads are enabled, no thread is looked up in the mask.
@@ -146,18 +100,16 @@ fn enabled_row(
     common: &[u32],
     n: u32,
     mask: u32,
-    op: u8,
-    d: usize,
-    a: usize,
+    row: layout::AccessRow,
 ) -> layout::Halt
-    requires { (mask < 2 ^ n) × AccessRowAsks op n d a regs.old cells.old log.old }
-    ensures { AccessLoop op n mask d a common.now regs.old cells.old log.old result
+    requires { (mask < 2 ^ n) × AccessRowAsks (number row.op) n row.d row.a regs.old cells.old log.old }
+    ensures { AccessLoop (number row.op) n mask row.d row.a common.now regs.old cells.old log.old result
         regs.new cells.new log.new }
 {
     if mask == masks::all(n) {
-        return full_row(regs, cells, log, common, n, op, d, a);
+        return row_by_op::<true>(regs, cells, log, common, n, mask, row);
     }
-    partial_row(regs, cells, log, common, n, mask, op, d, a)
+    row_by_op::<false>(regs, cells, log, common, n, mask, row)
 }
 
 // What the numbers of own cells are put together to. Common cells, from 65,536 on, are not logged, so that nothing is to be cleared for them.
@@ -175,32 +127,30 @@ pub fn access_row(
     common: &[u32],
     n: u32,
     mask: u32,
-    op: u8,
-    d: usize,
-    a: usize,
+    row: layout::AccessRow,
 ) -> layout::Turns
-    requires { (mask < 2 ^ n) × AccessRowAsks op n d a regs.old cells.old log.old }
-    ensures { AccessRow op n mask d a common.now regs.old cells.old log.old result
+    requires { (mask < 2 ^ n) × AccessRowAsks (number row.op) n row.d row.a regs.old cells.old log.old }
+    ensures { AccessRow (number row.op) n mask row.d row.a common.now regs.old cells.old log.old result
         regs.new cells.new log.new }
 {
-    let r = enabled_row(regs, cells, log, common, n, mask, op, d, a);
-    if r.thread == n {
+    let halt = enabled_row(regs, cells, log, common, n, mask, row);
+    let reach = own_reach(halt.reach);
+    let turn = halt.turn;
+    if turn.thread == n {
         return layout::Turns {
-            access: layout::Access::Done,
-            reach: own_reach(r.reach),
+            access: Ok(()),
+            reach,
         };
     }
     // What stopped it is looked for once, outside the loops.
-    if access::is_common(common, r.cell) {
+    if access::is_common(common, turn.cell) {
         return layout::Turns {
-            access: layout::Access::Stop(spec::Verdict::Common(r.thread, r.cell)),
-            reach: own_reach(r.reach),
+            access: Err(spec::Verdict::Common(turn.thread, turn.cell)),
+            reach,
         };
     }
     layout::Turns {
-        access: layout::Access::Stop(access::verdict(
-            regs, cells, log, r.cell, r.thread, r.bit, op, d, a,
-        )),
-        reach: own_reach(r.reach),
+        access: Err(access::verdict(regs, cells, log, turn, row)),
+        reach,
     }
 }

@@ -9,7 +9,7 @@ use lib.Dec.{leb}
 use lib.ListN.{get_or}
 use Rattle.spec.specs.LaunchFile.{NumberLine, Read, stop, read, Reader, continue, ◌>>=◌, ◌>>◌, gives, in_order, require, due, number, due_number, numbers}
 use Rattle.spec.specs.declared.Refusal.{Refusal}
-use Rattle.numberlines.proofs.Tables.{no_line}
+use Rattle.numberlines.specs.Answered.{no_line}
 
 pub record Limited (l : NumberLine) (n : ℕ) : Type 0 where
   pub low : l.least ≤ n

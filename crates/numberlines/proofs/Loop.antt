@@ -12,25 +12,22 @@ use Rattle.spec.specs.Text.{text}
 use Rattle.spec.specs.LaunchFile.{NumberLine, Read, stop, read, continue, ◌>>=◌, ◌>>◌, gives, require, number, due_number, numbers}
 use Rattle.spec.specs.declared.Refusal.{Refusal}
 use Rattle.spec.specs.declared.Refusal.TheVariants.{LineNotDue}
-use Rattle.text.specs.declared.Number.{Number}
-use Rattle.text.specs.declared.Number.TheVariants.{Value, Bad}
+use Rattle.std.specs.Prelude.{Option, Some, None, Result, Ok, Err}
 use Rattle.text.specs.Numbers.{number_of}
-use Rattle.stringtable.proofs.Strings.{part_of}
 use Rattle.filelines.specs.Lines.{keyed_value, next_in, line_read}
 use Rattle.filelines.proofs.DueLines.{due_line}
 use Rattle.filelines.proofs.InOrder.{Going, start, more, stops, ends}
-use Rattle.numberlines.specs.Answered.{lines_from, line_count, lines_behind, answered, NumbersRead}
-use Rattle.admission.specs.declared.Admission.{Admission}
-use Rattle.admission.specs.declared.Admission.TheVariants.{Accepted, Refused}
-use Rattle.numberlines.proofs.Tables.{no_line, line_at, key_bytes, starts, leasts, greatests, refusals, least_at, greatest_at, refusal_at, key_part, from_count, line_from}
+use Rattle.numberlines.specs.Answered.{lines_from, line_count, no_line, line_at, IsLine, lines_behind, answered, NumbersRead}
+use Rattle.numberlines.specs.declared.NumberLine as declared
+use Rattle.numberlines.proofs.Tables.{from_count, line_from}
 
 -- One line, by what was found there.
-module _ (l : NumberLine) (line : ℕ) (rest : List ℕ) (n : Number) (found : keyed_value (text l.key) number rest ≡ number_of n) where
-  not_due : n ≡ Bad → due_number l line rest ≡ stop (LineNotDue line)
+module _ (l : NumberLine) (line : ℕ) (rest : List ℕ) (n : Option ℕ) (found : keyed_value (text l.key) number rest ≡ number_of n) where
+  not_due : n ≡ None → due_number l line rest ≡ stop (LineNotDue line)
   unfolding due_number ◌>>=◌ continue line_read
   not_due e = rw (due_line line l.key number rest, found, e)
 
-  module _ (v : ℕ) (e : n ≡ Value v) where
+  module _ (v : ℕ) (e : n ≡ Some v) where
     out : (leb l.least v && leb v l.greatest) ≡ false → due_number l line rest ≡ stop l.refusal
     unfolding due_number ◌>>=◌ ◌>>◌ continue line_read require
     out t = rw (due_line line l.key number rest, found, e, t)
@@ -72,7 +69,7 @@ module _ {ls : List NumberLine} {line n : ℕ} {file old ns rest : List ℕ} {i 
       ends (map due_number (take i ls)) line file (due_number no_line) i rest (take i ns) (g.going i (omega arith) inside) (sym (count ls i inside))
       ∙ ap (read (take i ns) (line + i)) g.left
 
-  all_read : n ≤ i → NumbersRead ls line file old ns Accepted
+  all_read : n ≤ i → NumbersRead ls line file old ns (Ok tt)
   unfolding answered
   all_read h =
       let e : i ≡ length ls = omega (arith, g.under, g.size) in
@@ -86,7 +83,7 @@ module _ {ls : List NumberLine} {line n : ℕ} {file old ns rest : List ℕ} {i 
       }
 
   module _ (h : i < n) where
-    refuses : (why : Refusal) → due_number (get_or ls i no_line) (line + i) rest ≡ stop why → NumbersRead ls line file old ns (Refused why)
+    refuses : (why : Refusal) → due_number (get_or ls i no_line) (line + i) rest ≡ stop why → NumbersRead ls line file old ns (Err why)
     unfolding answered
     refuses why e =
         record {
@@ -117,15 +114,11 @@ module _ {ls : List NumberLine} {line n : ℕ} {file old ns rest : List ℕ} {i 
           kept = drop-set-lt (i + 1) ns i v (omega arith) ∙ sym (drop-drop 1 i ns) ∙ ap (drop 1) g.kept ∙ drop-drop 1 i old;
         }
 
--- The key that the code looks for at a place among all lines.
-abbrev key_of : ℕ → List ℕ
-key_of at = part_of key_bytes (get_or starts at 0) (get_or starts (at + 1) 0)
-
 -- The lines from some place on, by the tables of the code.
 abbrev pub FromGoing : (from n : ℕ) → (file old ns rest : List ℕ) → (i : ℕ) → Type 0
 FromGoing from n file old ns rest i = NumbersGoing (lines_from from n) (2 + from) n file old ns rest i
 
-abbrev FromRead : (from n : ℕ) → (file old ns : List ℕ) → Admission → Type 0
+abbrev FromRead : (from n : ℕ) → (file old ns : List ℕ) → Result (Unit {0}) Refusal → Type 0
 FromRead from n file old ns r = NumbersRead (lines_from from n) (2 + from) file old ns r
 
 module _ (from n : ℕ) (fits : from + n ≤ line_count) where
@@ -133,29 +126,27 @@ module _ (from n : ℕ) (fits : from + n ≤ line_count) where
   from_begins file ns e = begins (lines_from from n) (2 + from) n file ns (from_count from n fits) e
 
   module _ {file old ns rest : List ℕ} {i : ℕ} (g : FromGoing from n file old ns rest i) where
-    pub all_from : n ≤ i → FromRead from n file old ns Accepted
+    pub all_from : n ≤ i → FromRead from n file old ns (Ok tt)
     all_from h = all_read g h
 
-    module _ (h : i < n) (v : Number) (found : keyed_value (key_of (from + i)) number rest ≡ number_of v) where
-      abbrev at : NumberLine
-      at = line_at (from + i)
+    -- What the source found at its line d.
+    module _ (h : i < n) {d : declared.NumberLine} (same : IsLine (line_at (from + i)) d) (v : Option ℕ) (found : keyed_value d.key.now number rest ≡ number_of v) where
+      asked : keyed_value (text (line_at (from + i)).key) number rest ≡ number_of v
+      asked = ap (λ key. keyed_value key number rest) (sym same.key) ∙ found
 
-      asked : keyed_value (text at.key) number rest ≡ number_of v
-      asked = ap (λ key. keyed_value key number rest) (sym (key_part (from + i) (omega arith)).part) ∙ found
-
-      comes : {r : Read ℕ} → due_number at (2 + from + i) rest ≡ r → due_number (get_or (lines_from from n) i no_line) (2 + from + i) rest ≡ r
+      comes : {r : Read ℕ} → due_number (line_at (from + i)) (2 + from + i) rest ≡ r → due_number (get_or (lines_from from n) i no_line) (2 + from + i) rest ≡ r
       comes e = ap (λ l. due_number l (2 + from + i) rest) (line_from from n i h) ∙ e
 
-      pub line_missing : v ≡ Bad → FromRead from n file old ns (Refused (LineNotDue (2 + from + i)))
-      line_missing e = refuses g h (LineNotDue (2 + from + i)) (comes (not_due at (2 + from + i) rest v asked e))
+      pub line_missing : v ≡ None → FromRead from n file old ns (Err (LineNotDue (2 + from + i)))
+      line_missing e = refuses g h (LineNotDue (2 + from + i)) (comes (not_due (line_at (from + i)) (2 + from + i) rest v asked e))
 
-      module _ {w : ℕ} (e : v ≡ Value w) {t : Bool} (tested : t ≡ (leb (get_or leasts (from + i) 0) w && leb w (get_or greatests (from + i) 0))) where
-        test : (leb at.least w && leb w at.greatest) ≡ t
-        test = rw (← least_at (from + i), ← greatest_at (from + i)) (sym tested)
+      module _ {w : ℕ} (e : v ≡ Some w) {t : Bool} (tested : t ≡ (leb d.least w && leb w d.greatest)) where
+        test : (leb (line_at (from + i)).least w && leb w (line_at (from + i)).greatest) ≡ t
+        test = rw (← same.least, ← same.greatest) (sym tested)
 
-        pub out_of_limits : t ≡ false → (d : Refusal) → FromRead from n file old ns (Refused (get_or refusals (from + i) d))
-        out_of_limits f d =
-            rw (refusal_at (from + i) (omega arith) d) (refuses g h at.refusal (comes (out at (2 + from + i) rest v asked w e (test ∙ f))))
+        pub out_of_limits : t ≡ false → FromRead from n file old ns (Err d.refusal)
+        out_of_limits f =
+            rw same.refusal (refuses g h (line_at (from + i)).refusal (comes (out (line_at (from + i)) (2 + from + i) rest v asked w e (test ∙ f))))
 
         pub one_more : t ≡ true → {left : List ℕ} → left ≡ next_in rest → FromGoing from n file old (set ns i w) left (i + 1)
-        one_more f q = reads g h w (comes (within at (2 + from + i) rest v asked w e (test ∙ f))) q
+        one_more f q = reads g h w (comes (within (line_at (from + i)) (2 + from + i) rest v asked w e (test ∙ f))) q

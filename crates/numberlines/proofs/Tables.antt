@@ -1,84 +1,30 @@
--- The tables of the code, made from the definition's list: the constants of the code are what they compute to. Assumes nothing.
+-- That the lines which the source declares are those of the definition, one by one. Assumes nothing.
 use mathlib.Core.Path.{◌≡◌, refl, ◌∙◌}
-use mathlib.Core.List.{List, [], ◌∷◌, map}
+use mathlib.Core.List.{List, [], ◌∷◌}
 use Prim.Native.Nat.{ℕ, zero, suc, ◌+◌, ◌<◌, ◌≤◌}
 use native.Mathlib.Omega.{arith}
-use lib.ListN.{length, get_or, drop, length-map, length-drop, get_or-map}
+use lib.ListN.{length, get_or, drop, length-drop}
 use lib.Seq.{length-take-le, get_or-take, get_or-drop}
-use Rattle.spec.specs.Text.{text}
 use Rattle.spec.specs.LaunchFile.{NumberLine}
-use Rattle.spec.specs.declared.Refusal.{Refusal}
-use Rattle.spec.specs.declared.Refusal.TheVariants.{LineNotDue}
-use Rattle.numberlines.specs.Answered.{all_lines, lines_from, line_count}
-use Rattle.stringtable.proofs.Strings.{joined, starts_from, IsPart, string_at}
-
--- Stands for a line where there is none.
-abbrev pub no_line : NumberLine
-no_line = record { key = ""; least = 0; greatest = 0; refusal = LineNotDue 0 }
-
-abbrev pub line_at : ℕ → NumberLine
-line_at i = get_or all_lines i no_line
-
--- The keys, their bytes and starts, the limits and the refusals.
-abbrev keys : List (List ℕ)
-keys = map (λ l. text l.key) all_lines
-
-unfoldable pub key_bytes : List ℕ
-unfolding joined text all_lines
-key_bytes = joined keys
-
-unfoldable pub starts : List ℕ
-unfolding starts_from text all_lines
-starts = starts_from 0 keys
-
-unfoldable pub leasts : List ℕ
-unfolding all_lines
-leasts = map (λ l. l.least) all_lines
-
-unfoldable pub greatests : List ℕ
-unfolding all_lines
-greatests = map (λ l. l.greatest) all_lines
-
-unfoldable pub refusals : List Refusal
-unfolding all_lines
-refusals = map (λ l. l.refusal) all_lines
+use Rattle.numberlines.specs.declared.NumberLine as declared
+use Rattle.numberlines.specs.Answered.{all_lines, lines_from, line_count, no_line, line_at, IsLine}
 
 pub count_is_six : line_count ≡ 6
 unfolding line_count
 count_is_six = refl
 
--- Whoever unfolds this unfolds them all.
-unfoldable pub tables : Unit {0}
-unfolding line_count key_bytes starts leasts greatests refusals
-tables = tt
+unfoldable pub Alike : List NumberLine → List declared.NumberLine → Type 0
+Alike [] [] = Unit {0}
+Alike [] (r ∷ rs) = ⊥
+Alike (l ∷ ls) [] = ⊥
+Alike (l ∷ ls) (r ∷ rs) = IsLine l r × Alike ls rs
 
-other_default : {A : Type 0} (l : List A) (i : ℕ) (a b : A) → i < length l → get_or l i a ≡ get_or l i b
-other_default [] i a b h = absurd (omega arith)
-other_default (x ∷ l) zero a b h = refl
-other_default (x ∷ l) (suc i) a b h = other_default l i a b (omega arith)
-
--- Each entry is the definition's.
-module _ (i : ℕ) where
-  pub least_at : get_or leasts i 0 ≡ (line_at i).least
-  unfolding leasts
-  least_at = get_or-map (λ l. l.least) all_lines i no_line
-
-  pub greatest_at : get_or greatests i 0 ≡ (line_at i).greatest
-  unfolding greatests
-  greatest_at = get_or-map (λ l. l.greatest) all_lines i no_line
-
-  module _ (h : i < line_count) where
-    pub refusal_at : (d : Refusal) → get_or refusals i d ≡ (line_at i).refusal
-    unfolding refusals line_count
-    refusal_at d =
-        other_default refusals i d (LineNotDue 0) (omega (arith, length-map all_lines (λ l. l.refusal)))
-        ∙ get_or-map (λ l. l.refusal) all_lines i no_line
-
-    pub key_part : IsPart key_bytes (get_or starts i 0) (get_or starts (i + 1) 0) (text (line_at i).key)
-    unfolding key_bytes starts line_count
-    key_part =
-        rw (← get_or-map (λ l. text l.key) all_lines i no_line)
-        (string_at keys i (omega (arith, length-map all_lines (λ l. text l.key))))
+pub alike_at : (ls : List NumberLine) (rs : List declared.NumberLine) → Alike ls rs → (i : ℕ) (d : declared.NumberLine) → i < length ls → IsLine (get_or ls i no_line) (get_or rs i d)
+unfolding Alike
+alike_at [] rs a i d h = absurd (omega arith)
+alike_at (l ∷ ls) [] a i d h = absurd a
+alike_at (l ∷ ls) (r ∷ rs) a zero d h = a.0
+alike_at (l ∷ ls) (r ∷ rs) a (suc i) d h = alike_at ls rs a.1 i d (omega arith)
 
 -- So many of the lines, from some place on.
 module _ (from n : ℕ) where

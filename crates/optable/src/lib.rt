@@ -6,7 +6,7 @@ ghost use Rattle.spec.specs.Op.{form_of, operands_fit};
 ghost use Rattle.optable.specs.Forms.{meaning};
 
 // Which of the bytes d, a, b an op uses. An unknown op has a form of its own.
-#[derive(Clone, Copy)]
+#[derive(Clone, Copy, PartialEq, Eq)]
 pub enum Form {
     SetForm,
     DForm,
@@ -17,7 +17,7 @@ pub enum Form {
     UnknownForm,
 }
 
-// 0 unknown, 1 SET, 2 d, 3 d a b, 4 d a, 5 a, 6 none. Numbers and not forms: a table of enum values is slow to check.
+// 0 unknown, 1 SET, 2 d, 3 d a b, 4 d a, 5 a, 6 none. Codes and not forms: a table of 256 enum values was tried, and the proof of its look-up doesn't close (over 200,000 steps).
 const FORMS: [u8; 256] = [
     0, // 0
     1, // 1 SET
@@ -75,6 +75,7 @@ pub fn form_of(op: u8) -> Form
 }
 
 // Registers are below 16, and bytes that the op does not use are 0.
+#[tactic(auto, unfolding(spec::specs::Op::operands_fit, spec::specs::Op::is_register, spec::specs::Op::is_unused))]
 pub fn operands_fit(form: Form, d: u8, a: u8, b: u8) -> bool
     ensures { result ≡ operands_fit (meaning form) d a b }
 {

@@ -3,6 +3,7 @@ use Rattle.std.specs.Prelude.{◌≡◌, List, ℕ, ◌≤◌, length}
 use Rattle.spec.specs.Limits.{file_output}
 use Rattle.spec.specs.Launch.{Launch}
 use Rattle.spec.specs.Entries.{over, launch_report}
+use Rattle.filelaunch.specs.declared.Loaded.{Loaded}
 use Rattle.filerun.specs.Launches.{launch_of}
 
 pub record ReportIs (launch : Launch) (output : List ℕ) (r : ℕ) (output' : List ℕ) : Type 0 where
@@ -10,5 +11,5 @@ pub record ReportIs (launch : Launch) (output : List ℕ) (r : ℕ) (output' : L
   pub written : output' ≡ over (launch_report launch) output
   pub fits : r ≤ file_output
 
-abbrev pub OwnReport : (table : List ℕ) → (threads groups each limit : ℕ) → (common words shared output : List ℕ) → (r : ℕ) → (output' : List ℕ) → Type 0
-OwnReport table threads groups each limit common words shared = ReportIs (launch_of table threads groups each limit common words shared)
+abbrev pub OwnReport : Loaded → (output : List ℕ) → (r : ℕ) → (output' : List ℕ) → Type 0
+OwnReport l = ReportIs (launch_of l)

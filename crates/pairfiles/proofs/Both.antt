@@ -1,27 +1,26 @@
 -- One kernel's report behind the other's, and what both say. Assumes nothing.
+use Rattle.std.specs.Prelude.{Result, Ok, Err}
 use mathlib.Core.Path.{◌≡◌, refl, sym, ap, subst, ◌∙◌}
 use mathlib.Core.List.{List, ◌++◌}
-use mathlib.Core.Option.{none, some}
 use Prim.Native.Nat.{ℕ, ◌+◌, ◌-◌, ◌<◌, ◌≤◌}
 use native.Mathlib.Omega.{arith}
 use borrow.Author.Tests.{le-leb, lt-leb}
 use lib.ListN.{length, take, drop, length-drop}
-use lib.Seq.{length-take-le, take_all}
+use lib.Seq.{take_all}
 use Rattle.spec.specs.declared.Refusal.TheVariants.{OutputLength}
-use Rattle.spec.specs.declared.Written.{Written}
-use Rattle.spec.specs.declared.Written.TheVariants.{Refused, Wrote}
+use Rattle.spec.specs.declared.Refusal.{Refusal}
+use denote.Ref.{Bor}
 use Rattle.spec.specs.Answers.{unless, told, told_in}
-use Rattle.spec.specs.Limits.{max_common, file_output, pair_output}
+use Rattle.spec.specs.Limits.{file_output, pair_output}
 use Rattle.spec.specs.LaunchFile.{file_launch}
 use Rattle.spec.specs.Entries.{over, kept_if, written_of, printed}
 use Rattle.spec.specs.Demands.{OfWritten}
-use Rattle.spec.specs.PairFiles.{kernel_checked, kernel_launch, kernel_prints, pair_prints, pair_refusal, pair_answer, pair_output_after}
+use Rattle.spec.specs.PairFiles.{common_cells, kernel_checked, kernel_launch, kernel_prints, pair_prints, pair_refusal, pair_answer, pair_output_after}
 use Rattle.spec.specs.PairDemands.{PairDemand3}
 use Rattle.spec.proofs.Laws.{front_of_lem}
 use Rattle.readback.proofs.Pairs.{pair_demand3}
 use Rattle.reportlines.proofs.Writing.{started, onward, part, back}
-use Rattle.commonfile.specs.declared.CommonFile.{CommonFile}
-use Rattle.commonfile.specs.CommonRead.{answer_of, CommonRead}
+use Rattle.commonfile.specs.CommonRead.{answer_of}
 use Rattle.commonfile.proofs.Prefix.{more_ignored}
 use Rattle.kernelreport.specs.Kernels.{KernelReported}
 use Rattle.pairfiles.specs.BothReports.{BothReported, CutShort}
@@ -30,25 +29,15 @@ use Rattle.pairfiles.specs.BothReports.{BothReported, CutShort}
 pub rest_room : (k at : ℕ) (l : List ℕ) → at + k ≤ length l → k ≤ length (part at l)
 rest_room k at l h = rw (take_all (length l - at) (drop at l) (simp length-drop (omega arith))) (simp length-drop (omega arith))
 
--- The words of the common cells stand at the front of the reader's array.
-module _ (file : List ℕ) (r : CommonFile) (R : CommonRead file r) where
-  pub words_used : r.count ≤ length r.words
-  words_used = omega (arith, R.few, R.long)
-
-  pub words_length : r.count ≡ length (take r.count r.words)
-  words_length = sym (length-take-le r.count r.words words_used)
-
-  pub words_few : length (take r.count r.words) ≤ max_common
-  words_few = omega (arith, words_length, R.few)
-
-  -- A kernel's report over them is what is printed of its file.
+-- A kernel's report over the common cells is what is printed of its file.
+module _ (file : List ℕ) (cells : Result (Bor (List ℕ)) Refusal) (same : common_cells file ≡ answer_of cells) where
   pub kernel_printed : (kernel output : List ℕ) (size : ℕ) (out : List ℕ)
-      → KernelReported (kernel_checked (file_launch kernel) (answer_of r.answer (take r.count r.words))) output size out
+      → KernelReported (kernel_checked (file_launch kernel) (answer_of cells)) output size out
       → (size ≡ length (kernel_prints kernel file)) × ((out ≡ over (kernel_prints kernel file) output) × (size ≤ file_output))
   unfolding kernel_prints kernel_launch
   kernel_printed kernel output size out K =
-      let same = ap (λ x. printed (kernel_checked (file_launch kernel) x)) (sym R.cells) in
-      (K.long ∙ ap length same, (K.written ∙ ap (λ w. over w output) same, K.fits))
+      let alike = ap (λ x. printed (kernel_checked (file_launch kernel) x)) (sym same) in
+      (K.long ∙ ap length alike, (K.written ∙ ap (λ w. over w output) alike, K.fits))
 
 module _ (filter trigger common output : List ℕ) (room : pair_output ≤ length output) where
   abbrev one : List ℕ
@@ -79,41 +68,28 @@ cut_short filter trigger common h more =
     ap (λ x. printed (kernel_checked (file_launch filter) x) ++ printed (kernel_checked (file_launch trigger) x)) same
 
 -- The entry: refused for its output, or both reports.
+pub record Entry (filter trigger common output : List ℕ) (r : Result ℕ Refusal) (out : List ℕ) : Type 0 where
+  pub answer : r ≡ pair_answer filter trigger common output
+  pub refusal : told_in r ≡ told (pair_refusal output)
+  pub output_is : out ≡ pair_output_after filter trigger common output
+  pub runs : OfWritten (PairDemand3 filter trigger common) r out
+  pub enough : CutShort filter trigger common
+
 module _ (filter trigger common output : List ℕ) where
-  abbrev pub Entry : Written → (out : List ℕ) → Type 0
-  Entry r out =
-      (r ≡ pair_answer filter trigger common output)
-      × ((told_in r ≡ told (pair_refusal output))
-      × ((out ≡ pair_output_after filter trigger common output)
-      × (OfWritten (PairDemand3 filter trigger common) r out × CutShort filter trigger common)))
-
-  pub too_short : length output < pair_output → Entry (Refused OutputLength) output
-  unfolding pair_answer pair_output_after kept_if written_of told told_in
+  pub too_short : length output < pair_output → Entry filter trigger common output (Err OutputLength) output
+  unfolding pair_answer pair_output_after pair_refusal unless kept_if written_of told told_in
   too_short h =
-      let e : pair_refusal output ≡ some OutputLength = refusal in (
-        sym (ap (λ x. written_of x (length (pair_prints filter trigger common))) e),
-        (
-          sym (ap told e),
-          (sym (ap (λ x. kept_if x output (over (pair_prints filter trigger common) output)) e), (tt, cut_short filter trigger common)),
-        ),
-      )
-    where
-      refusal : pair_refusal output ≡ some OutputLength
-      refusal = unfold pair_refusal unless in (rw (lt-leb pair_output (length output) h) refl)
+      let e = lt-leb pair_output (length output) h in
+      record { answer = rw e refl; refusal = rw e refl; output_is = rw e refl; runs = tt; enough = cut_short filter trigger common }
 
-  pub reported : pair_output ≤ length output → (size : ℕ) (out : List ℕ) → BothReported filter trigger common output size out → Entry (Wrote size) out
-  unfolding pair_answer pair_output_after kept_if written_of told told_in
+  pub reported : pair_output ≤ length output → (size : ℕ) (out : List ℕ) → BothReported filter trigger common output size out → Entry filter trigger common output (Ok size) out
+  unfolding pair_answer pair_output_after pair_refusal unless kept_if written_of told told_in
   reported room size out B =
-      let e : pair_refusal output ≡ none = fine in (
-        ap Wrote B.long ∙ sym (ap (λ x. written_of x (length (pair_prints filter trigger common))) e),
-        (
-          sym (ap told e),
-          (
-            B.written ∙ sym (ap (λ x. kept_if x output (over (pair_prints filter trigger common) output)) e),
-            (said filter trigger common output room size out B, cut_short filter trigger common),
-          ),
-        ),
-      )
-    where
-      fine : pair_refusal output ≡ none
-      fine = unfold pair_refusal unless in (rw (le-leb pair_output (length output) room) refl)
+      let e = le-leb pair_output (length output) room in
+      record {
+        answer = rw e (ap Ok B.long);
+        refusal = rw e refl;
+        output_is = rw e B.written;
+        runs = said filter trigger common output room size out B;
+        enough = cut_short filter trigger common;
+      }

@@ -10,7 +10,7 @@ ghost use Rattle.spec.specs.PairFiles.{pair_prints, pair_refusal, pair_answer, p
 ghost use Rattle.spec.specs.PairDemands.{PairDemand3};
 ghost use Rattle.pairfiles.specs.BothReports.{BothReported, CutShort};
 
-use spec::{Refusal, Written};
+use spec::Refusal;
 
 // The filter's report, and the trigger's from where it ends. Each kernel runs in memory of its own.
 fn report_both(filter: &[u8], trigger: &[u8], common: &[u8], output: &mut [u8]) -> usize
@@ -18,17 +18,23 @@ fn report_both(filter: &[u8], trigger: &[u8], common: &[u8], output: &mut [u8]) 
     ensures { BothReported filter.now trigger.now common.now output.old result output.new }
 {
     let read = commonfile::read_common(common);
-    let found = read.answer;
-    let words = read.words;
-    let count = read.count;
-    let first = kernelreport::report_kernel(filter, found, &words[..count], output);
-    let second = kernelreport::report_kernel(trigger, found, &words[..count], &mut output[first..]);
+    let cells = match &read {
+        Ok(found) => Ok(found.cells()),
+        Err(why) => Err(*why),
+    };
+    let first = kernelreport::report_kernel(filter, cells, output);
+    let second = kernelreport::report_kernel(trigger, cells, &mut output[first..]);
     first + second
 }
 
 // The entry for whoever has the three files' bytes. The output is 49,152 bytes or more; a shorter one is refused and left as it was lent. Of a common
 // file of 4,119 bytes or more no byte behind these is looked at, or would change anything.
-pub fn pair_files(filter: &[u8], trigger: &[u8], common: &[u8], output: &mut [u8]) -> Written
+pub fn pair_files(
+    filter: &[u8],
+    trigger: &[u8],
+    common: &[u8],
+    output: &mut [u8],
+) -> Result<usize, Refusal>
     ensures answer { result ≡ pair_answer filter.now trigger.now common.now output.old }
     ensures refusal { told_in result ≡ told (pair_refusal output.old) }
     ensures output { output.new ≡ pair_output_after filter.now trigger.now common.now output.old }
@@ -36,9 +42,9 @@ pub fn pair_files(filter: &[u8], trigger: &[u8], common: &[u8], output: &mut [u8
     ensures enough { CutShort filter.now trigger.now common.now }
 {
     if output.len() < 49152 {
-        return Written::Refused(Refusal::OutputLength);
+        return Err(Refusal::OutputLength);
     }
-    Written::Wrote(report_both(filter, trigger, common, output))
+    Ok(report_both(filter, trigger, common, output))
 }
 
 // What the program pair prints.

@@ -1,33 +1,16 @@
 -- Kinds of words put into a buffer of longer kinds: each kind gets its own. Assumes nothing.
 use mathlib.Core.Path.{◌≡◌, refl, sym, ◌∙◌, ap, ap₂}
 use mathlib.Core.List.{List, [], ◌∷◌, ◌++◌, append_assoc}
-use Prim.Native.Nat.{ℕ, zero, suc, ◌+◌, ◌*◌, ◌≤◌, ◌<◌}
-use native.Mathlib.Nat.{mul-le-mul_right}
+use Prim.Native.Nat.{ℕ, zero, suc, ◌+◌, ◌*◌, ◌≤◌}
 use native.Mathlib.Omega.{arith}
 use lib.ListN.{length, take, drop, length-append}
 use lib.Seq.{take_at, drop_at, drop-drop}
 use Rattle.spec.specs.Lists.{joined}
 use Rattle.layout.specs.Views.{part, put_part}
 use Rattle.layout.proofs.Lists.{Even, later}
-use Rattle.layout.proofs.Parts.{part_size, put_size}
-use Rattle.placing.specs.Kinds.{kind_placed, kinds_placed, KindsAsk}
+use Rattle.layout.proofs.Parts.{put_size}
+use Rattle.placing.specs.Kinds.{kind_placed, kinds_placed}
 use Rattle.placing.proofs.Stretches.{put_behind, put_before}
-
-module _ (kinds first k total at : ℕ) (words to : List ℕ) (A : KindsAsk kinds first k total at words to) where
-  -- The words of kind j are inside, and so are their places.
-  pub word_inside : (j : ℕ) → j < kinds → j * k + k ≤ length words
-  word_inside j h = let m : (j + 1) * k ≤ kinds * k = mul-le-mul_right k (omega arith) in omega (arith, A.words_are)
-
-  pub place_inside : (j : ℕ) → j < kinds → (first + j) * total + total ≤ length to
-  place_inside j h = let m : (first + j + 1) * total ≤ (first + kinds) * total = mul-le-mul_right total (omega arith) in omega (arith, A.room)
-
-  pub kinds_size : (n : ℕ) → n ≤ kinds → length (kinds_placed first total at k n words to) ≡ length to
-  unfolding kinds_placed kind_placed
-  kinds_size zero h = refl
-  kinds_size (suc j) h =
-      let before = kinds_size j (omega arith) in
-      let size = part_size (j * k) k words (word_inside j h) in
-      put_size ((first + j) * total + at) (part (j * k) k words) (kinds_placed first total at k j words to) (omega (arith, place_inside j h, A.within)) ∙ before
 
 -- Kind n + 1 is kind n of those behind the first.
 kind_later : (first total at k n : ℕ) (words to : List ℕ)

@@ -1,11 +1,10 @@
--- A stretch put into lists that are joined, and the loops that put it word by word. Assumes nothing.
+-- A stretch put into lists that are joined. Assumes nothing.
 use mathlib.Core.Path.{◌≡◌, sym, ◌∙◌, ap, ap₂}
-use mathlib.Core.List.{List, ◌++◌, append_assoc, append-nil}
-use Prim.Native.Nat.{ℕ, suc, ◌+◌, ◌-◌, ◌≤◌, ◌<◌}
-use native.Mathlib.Numerals.{add-one}
+use mathlib.Core.List.{List, ◌++◌, append_assoc}
+use Prim.Native.Nat.{ℕ, ◌+◌, ◌-◌, ◌≤◌}
 use native.Mathlib.Omega.{arith}
-use lib.ListN.{length, get_or, set, take, drop, replicate, length-append, length-replicate, drop_of_length-le, replicate-append-replicate}
-use lib.Seq.{take-append-le, drop-append-le, take-append-add, drop-append-add, drop_at, length-take-le, drop-cons, set_at, append_snoc, paste}
+use lib.ListN.{length, take, drop, replicate, length-append, length-replicate, replicate-append-replicate}
+use lib.Seq.{take-append-le, drop-append-le, take-append-add, drop-append-add, drop_at}
 use Rattle.layout.specs.Views.{put_part}
 
 module _ {A : Type 0} where
@@ -29,24 +28,6 @@ module _ {A : Type 0} where
   pub put_front : (ys xs zs : List A) → length ys ≡ length xs → put_part 0 ys (xs ++ zs) ≡ ys ++ zs
   unfolding put_part
   put_front ys xs zs e = ap (λ r. ys ++ r) (drop_at xs zs (0 + length ys) (omega arith))
-
-  -- The first n words, put one after the other.
-  pub put_first : (at n : ℕ) (ys xs : List A) → n ≤ length ys → paste xs at ys n ≡ put_part at (take n ys) xs
-  unfolding put_part
-  put_first at n ys xs h =
-      append_assoc (take at xs) (take n ys) (drop (at + n) xs)
-      ∙ ap (λ (j : ℕ). take at xs ++ (take n ys ++ drop (at + j) xs)) (sym (length-take-le n ys h))
-
--- Zeros over the first i words.
-pub zeros_more : (xs l : List ℕ) (i : ℕ) → i < length xs → l ≡ replicate i 0 ++ drop i xs → set l i 0 ≡ replicate (i + 1) 0 ++ drop (i + 1) xs
-zeros_more xs l i h e =
-    ap (λ (x : List ℕ). set x i 0) (e ∙ ap (λ r. replicate i 0 ++ r) (drop-cons xs i 0 h))
-    ∙ set_at (replicate i 0) (get_or xs i 0) (drop (suc i) xs) 0 i (length-replicate i 0)
-    ∙ sym (append_snoc (replicate i 0) 0 (drop (suc i) xs))
-    ∙ ap₂ ◌++◌ (replicate-append-replicate i 1 0) (ap (λ (j : ℕ). drop j xs) (sym (add-one i)))
-
-pub zeros_all : (xs : List ℕ) (i : ℕ) → i ≡ length xs → replicate i 0 ++ drop i xs ≡ replicate (length xs) 0
-zeros_all xs i e = ap₂ ◌++◌ (ap (λ (j : ℕ). replicate j 0) e) (drop_of_length-le xs {i = i} (omega arith)) ∙ append-nil (replicate (length xs) 0)
 
 -- Counts put behind others, in a buffer of n words that is 0 from there on.
 pub counts_put : (n : ℕ) (us vs steps : List ℕ) → steps ≡ us ++ replicate (n - length us) 0 → length us + length vs ≤ n

@@ -10,22 +10,20 @@ pub fn place_first(words: &[u32], n: usize, at: usize, to: &mut [u32])
     requires { (n ≤ length words.now) × (at + n ≤ length to.old) }
     ensures { to.new ≡ put_part at (take n words.now) to.old }
 {
-    let mut i = 0;
-    while i < n {
-        to[at + i] = words[i];
-        i += 1;
-    }
+    place(&words[..n], at, to);
 }
 
 // All of them.
+#[tactic(auto, unfolding(layout::specs::Views::put_part))]
 pub fn place(words: &[u32], at: usize, to: &mut [u32])
     requires { at + length words.now ≤ length to.old }
     ensures { to.new ≡ put_part at words.now to.old }
 {
-    place_first(words, words.len(), at, to);
+    to[at..at + words.len()].copy_from_slice(words);
 }
 
 // The k words of kind j.
+#[tactic(auto, unfolding(crate::specs::Kinds::kind_placed, layout::specs::Views::part))]
 fn place_kind(
     words: &[u32],
     j: usize,
@@ -45,6 +43,7 @@ fn place_kind(
 }
 
 // The words of a part of k cells, put to place `at` of each kind of the launch's `total` words, from kind `first` on.
+#[tactic(auto, unfolding(crate::specs::Kinds::kinds_placed))]
 pub fn place_kinds(
     words: &[u32],
     kinds: usize,
@@ -57,10 +56,8 @@ pub fn place_kinds(
     requires { KindsAsk kinds first k total at words.now to.old }
     ensures { to.new ≡ kinds_placed first total at k kinds words.now to.old }
 {
-    let mut j = 0;
-    while j < kinds {
+    for j in 0..kinds {
         place_kind(words, j, first, k, total, at, to);
-        j += 1;
     }
 }
 
@@ -68,11 +65,7 @@ pub fn place_kinds(
 pub fn zero(to: &mut [u32])
     ensures { to.new ≡ replicate (length to.old) 0 }
 {
-    let mut i = 0;
-    while i < to.len() {
-        to[i] = 0;
-        i += 1;
-    }
+    to.fill(0);
 }
 
 // A group's counts of steps, behind those of the groups before it.

@@ -17,10 +17,9 @@ use Rattle.spec.specs.Table.{Table, row_of, rows_of, row_at}
 use Rattle.spec.specs.TableCheck.{Open, in_then, in_else, in_loop, opener, else_fits, endif_fits, endwhile_fits, fits}
 use Rattle.structure.proofs.Ops.{Plain}
 use Rattle.structure.proofs.Nesting.{starts_if, starts_loop, end_op}
-use Rattle.reader.specs.declared.Reach.{Reach}
-use Rattle.reader.specs.declared.Reach.TheVariants.{To, Refused}
+use Rattle.std.specs.Prelude.{Result, Ok, Err}
 use Rattle.reader.specs.Answer.{if_loop}
-use Rattle.reader.specs.Parts.{IsTable, own_refusal, Opens, Ends, Passes, Fails, Notes, Span, Stops, Body, Construct, BodyIs, ConstructIs, ClosesIs}
+use Rattle.reader.specs.Parts.{IsTable, own_refusal, Opens, Ends, Passes, Fails, Notes, Span, Stops, Body, Construct, ConstructIs, ClosesIs}
 use Rattle.spec.proofs.Laws.{rows_length, row_bytes_lem, byte_if, byte_else, byte_endif, byte_while, byte_endwhile}
 use Rattle.reader.proofs.Passing.{fail_row, pass_plain, too_deep, pass_none, pass_on, fail_on, Reaches, reach_pass, reach_fail, reach_left}
 use Rattle.reader.proofs.Passing.{reach_open, reach_else, reach_end, reach_misfit, loop_end}
@@ -113,24 +112,20 @@ module _ (t : List ℕ) (w : IsTable t) where
     ninth (inl e) = too_deep T a (in_table a l) own (op_of_lem a 32 l e byte_if) starts_if
     ninth (inr e) = too_deep T a (in_table a l) own (op_of_lem a 35 l e byte_while) starts_loop
 
-    first_fails : {why : Refusal} → Opens (get_or t (a * 4) 0) → d < 8 → Fails T (d + 1) (a + 1) why → Fails T d a why
+    pub first_fails : {why : Refusal} → Opens (get_or t (a * 4) 0) → d < 8 → Fails T (d + 1) (a + 1) why → Fails T d a why
     first_fails (inl e) m f = reach_fail (reach_open (in_table a l) own (op_of_lem a 32 l e byte_if) starts_if m) (rw (add-one d, add-one a) at f)
     first_fails (inr e) m f = reach_fail (reach_open (in_table a l) own (op_of_lem a 35 l e byte_while) starts_loop m) (rw (add-one d, add-one a) at f)
-
-    pub first_refused : (x y : List ℕ) {r : Reach} {why : Refusal} → r ≡ Refused why → Opens (get_or t (a * 4) 0) → d < 8
-        → BodyIs t (d + 1) (a + 1) x y r → ConstructIs t d a x y r
-    first_refused x y e o m b = rw e (first_fails o m (rw e at b))
 
     -- Row k, where a body in the open construct o ends, and the byte of the op that closes o.
     module _ (o : Open) (k end : ℕ) (opens : opener o ≡ a) (closes : op_of end ≡ end_op o) (p : Reaches T d a k o) (stops : k * 4 < length t → Stops t k)
         (misfit : k * 4 < length t → (get_or t (k * 4) 0 ≡ end → ⊥) → (os : List Open) → fits (op_of (get_or t (k * 4) 0)) (o ∷ os) ≡ false) where
-      close_fails : {why : Refusal} → ClosesIs t a k end (Refused why) → Fails T d a why
+      close_fails : {why : Refusal} → ClosesIs t a k end (Err why) → Fails T d a why
       close_fails (inl c) = rw c.0 (subst (λ r. Fails T d a (LeftOpen r)) opens (reach_left p (at_end_lem k c.1)))
       close_fails (inr c) =
           rw c.0
           (reach_misfit (in_table k c.1) (stops c.1).own p (λ os. rw (op_is k c.1) (misfit c.1 c.2 os)))
 
-      close_passes : {b : ℕ} → ClosesIs t a k end (To b) → Passes T d a b
+      close_passes : {b : ℕ} → ClosesIs t a k end (Ok b) → Passes T d a b
       close_passes c = rw (c.0, add-one k) (reach_end (in_table k c.1) (stops c.1).own p (op_of_lem k end c.1 c.2 closes))
 
     -- The first part of an IF: up to an ENDIF, or to an ELSE.
@@ -143,10 +138,10 @@ module _ (t : List ℕ) (w : IsTable t) where
       then_notes =
           notes_on (omega arith) (omega (arith, b.span.on)) (notes_row a x (λ v u. rw (op_of_lem a 32 l e byte_if))) (rw (add-one a) at b.span.notes)
 
-      pub if_closes : (k * 4 < length t → get_or t (k * 4) 0 ≡ 33 → ⊥) → (r : Reach) → ClosesIs t a k 34 r → ConstructIs t d a x y r
+      pub if_closes : (k * 4 < length t → get_or t (k * 4) 0 ≡ 33 → ⊥) → (r : Result ℕ Refusal) → ClosesIs t a k 34 r → ConstructIs t d a x y r
       unfolding opener end_op if_loop
-      if_closes n (Refused why) c = close_fails (in_then a) k 34 refl byte_endif in_then_lem b.stops (λ g h os. misfit_then _ a os (b.stops g).byte (n g) h) c
-      if_closes n (To j) c =
+      if_closes n (Err why) c = close_fails (in_then a) k 34 refl byte_endif in_then_lem b.stops (λ g h os. misfit_then _ a os (b.stops g).byte (n g) h) c
+      if_closes n (Ok j) c =
           record {
             onward = omega (arith, c.0, b.span.on);
             span = record {
@@ -162,20 +157,17 @@ module _ (t : List ℕ) (w : IsTable t) where
         at_else : Reaches T d a (suc k) (in_else a)
         at_else = reach_else (in_table k g) (b.stops g).own in_then_lem (op_of_lem k 33 g f byte_else)
 
-        second_fails : {why : Refusal} → Fails T (d + 1) (k + 1) why → Fails T d a why
+        pub second_fails : {why : Refusal} → Fails T (d + 1) (k + 1) why → Fails T d a why
         second_fails h = reach_fail at_else (rw (add-one d, add-one k) at h)
-
-        pub second_refused : (z : List ℕ) {r : Reach} {why : Refusal} → r ≡ Refused why → BodyIs t (d + 1) (k + 1) y z r → ConstructIs t d a x z r
-        second_refused z q h = rw q (second_fails (rw q at h))
 
         module _ {j : ℕ} {z : List ℕ} (s : Body t (d + 1) (k + 1) j y z) where
           in_else_lem : Reaches T d a j (in_else a)
           in_else_lem = reach_pass at_else (rw (add-one d, add-one k) at s.span.passes)
 
-          pub else_closes : (r : Reach) → ClosesIs t a j 34 r → ConstructIs t d a x z r
+          pub else_closes : (r : Result ℕ Refusal) → ClosesIs t a j 34 r → ConstructIs t d a x z r
           unfolding opener end_op if_loop
-          else_closes (Refused why) c = close_fails (in_else a) j 34 refl byte_endif in_else_lem s.stops (λ g h os. misfit_else _ a os (s.stops g).byte h) c
-          else_closes (To i) c =
+          else_closes (Err why) c = close_fails (in_else a) j 34 refl byte_endif in_else_lem s.stops (λ g h os. misfit_else _ a os (s.stops g).byte h) c
+          else_closes (Ok i) c =
               record {
                 onward = omega (arith, c.0, b.span.on, s.span.on);
                 span = record {
@@ -195,14 +187,11 @@ module _ (t : List ℕ) (w : IsTable t) where
       in_loop_lem : Reaches T d a k (in_loop a)
       in_loop_lem = reach_pass (reach_open (in_table a l) own (op_of_lem a 35 l e byte_while) starts_loop m) (rw (add-one d, add-one a) at b.span.passes)
 
-      loop_fails : {why : Refusal} → ClosesIs t a k 36 (Refused why) → Fails T d a why
+      pub loop_fails : {why : Refusal} → ClosesIs t a k 36 (Err why) → Fails T d a why
       unfolding opener end_op
       loop_fails c = close_fails (in_loop a) k 36 refl byte_endwhile in_loop_lem b.stops (λ g h os. misfit_loop _ a os (b.stops g).byte h) c
 
-      pub loop_refused : (z : List ℕ) {r : Reach} {why : Refusal} → r ≡ Refused why → ClosesIs t a k 36 r → ConstructIs t d a x z r
-      loop_refused z q c = rw q (loop_fails (rw q at c))
-
-      pub loop_closes : {j : ℕ} → a < length x → ClosesIs t a k 36 (To j) → Construct t d a j x (set y a (j - 1))
+      pub loop_closes : {j : ℕ} → a < length x → ClosesIs t a k 36 (Ok j) → Construct t d a j x (set y a (j - 1))
       unfolding opener end_op if_loop
       loop_closes {j} n c =
           let q : j - 1 ≡ k = omega (arith, c.0) in

@@ -13,9 +13,6 @@ use Rattle.spec.specs.Op.{op_of}
 use Rattle.spec.specs.Table.{Table, no_row, rows_of, row_at, end_of}
 use Rattle.spec.specs.TableCheck.{Open, else_fits, endif_fits, endwhile_fits, fits, table_refusal}
 use Rattle.spec.proofs.Laws.{lt_or_le, zeros, byte_else, byte_endif, byte_endwhile}
-use Rattle.reader.specs.declared.Read.{Read}
-use Rattle.admission.specs.declared.Admission.TheVariants.{Refused}
-use Rattle.admission.specs.Refusing.{refusal_of}
 use Rattle.reader.specs.Answer.{if_loop, if_accepted, end_at}
 use Rattle.reader.specs.Parts.{IsTable, Ends, Fails, Body}
 use Rattle.reader.proofs.Passing.{fail_on, misplaced, pass_all}
@@ -36,15 +33,9 @@ past : (T : Table) (i e : ℕ) → length T ≤ i → if_loop (row_at T i).op e 
 unfolding row_at no_row if_loop
 past T i e l = rw (get_or-eq_default T no_row l)
 
--- What the contract of the whole reader says.
-abbrev pub Answers : List ℕ → Read → Type 0
-Answers t r = (refusal_of r.answer ≡ table_refusal (rows_of t)) × ((i : ℕ) → i < 256 → get_or r.ends i 0 ≡ end_at (rows_of t) i)
-
-pub refused_whole : (t : List ℕ) (why : Refusal) (r : Read) → Fails (rows_of t) 0 0 why → (r.answer ≡ Refused why) × (r.ends ≡ replicate 256 0) → Answers t r
-unfolding table_refusal end_at if_accepted
-refused_whole t why r f e =
-    let n : table_refusal (rows_of t) ≡ some why = f [] refl in
-    (ap refusal_of e.0 ∙ sym n, λ i l. rw (e.1, n) (zeros 256 i))
+pub refused_whole : (t : List ℕ) (why : Refusal) → Fails (rows_of t) 0 0 why → table_refusal (rows_of t) ≡ some why
+unfolding table_refusal
+refused_whole t why f = f [] refl
 
 module _ (t : List ℕ) (w : IsTable t) (k : ℕ) (y : List ℕ) (b : Body t 0 0 k (replicate 256 0) y) where
   pub stray : k * 4 < length t → Fails (rows_of t) 0 0 (Misplaced k)

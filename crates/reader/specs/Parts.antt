@@ -1,5 +1,5 @@
 -- What the parts of the reader answer: how far a body or a construct goes, and what is refused in it. Assumes nothing.
-use Rattle.std.specs.Prelude.{◌≡◌, ◌⊎◌, List, false, ℕ, ◌+◌, ◌*◌, ◌%◌, ◌<◌, ◌≤◌, length, get_or, drop}
+use Rattle.std.specs.Prelude.{◌≡◌, ◌⊎◌, List, false, ℕ, ◌+◌, ◌*◌, ◌%◌, ◌<◌, ◌≤◌, length, get_or, drop, Result, Ok, Err}
 use Rattle.std.proofs.Math.Option.{Option, none, some}
 use Rattle.spec.specs.declared.Refusal.{Refusal}
 use Rattle.spec.specs.declared.Refusal.TheVariants.{UnknownOp, BadOperand, Misplaced, LeftOpen}
@@ -8,8 +8,6 @@ use Rattle.spec.specs.Op.{form, operands_fit}
 use Rattle.spec.specs.Table.{Row, Table, rows_of, row_at, scan, end_of}
 use Rattle.spec.specs.TableCheck.{Open, is_known, rows_refusal}
 use Rattle.reader.specs.Answer.{if_loop}
-use Rattle.reader.specs.declared.Reach.{Reach}
-use Rattle.reader.specs.declared.Reach.TheVariants.{To, Refused}
 
 -- The bytes of at most 256 whole rows.
 abbrev pub IsTable : List ℕ → Type 0
@@ -72,15 +70,15 @@ pub record Construct (t : List ℕ) (d a b : ℕ) (before after : List ℕ) : Ty
   pub onward : a < b
 
 -- What the two readers answer, from row a on.
-abbrev pub BodyIs : List ℕ → (d a : ℕ) → (before after : List ℕ) → Reach → Type 0
-BodyIs t d a before after (To b) = Body t d a b before after
-BodyIs t d a before after (Refused why) = Fails (rows_of t) d a why
+abbrev pub BodyIs : List ℕ → (d a : ℕ) → (before after : List ℕ) → Result ℕ Refusal → Type 0
+BodyIs t d a before after (Ok b) = Body t d a b before after
+BodyIs t d a before after (Err why) = Fails (rows_of t) d a why
 
-abbrev pub ConstructIs : List ℕ → (d a : ℕ) → (before after : List ℕ) → Reach → Type 0
-ConstructIs t d a before after (To b) = Construct t d a b before after
-ConstructIs t d a before after (Refused why) = Fails (rows_of t) d a why
+abbrev pub ConstructIs : List ℕ → (d a : ℕ) → (before after : List ℕ) → Result ℕ Refusal → Type 0
+ConstructIs t d a before after (Ok b) = Construct t d a b before after
+ConstructIs t d a before after (Err why) = Fails (rows_of t) d a why
 
 -- What is answered at row k, where the construct that row o opens wants the op `end`.
-abbrev pub ClosesIs : List ℕ → (o k end : ℕ) → Reach → Type 0
-ClosesIs t o k end (To b) = (b ≡ k + 1) × (k * 4 < length t) × (get_or t (k * 4) 0 ≡ end)
-ClosesIs t o k end (Refused why) = ((why ≡ LeftOpen o) × (k * 4 ≡ length t)) ⊎ ((why ≡ Misplaced k) × (k * 4 < length t) × (get_or t (k * 4) 0 ≡ end → ⊥))
+abbrev pub ClosesIs : List ℕ → (o k end : ℕ) → Result ℕ Refusal → Type 0
+ClosesIs t o k end (Ok b) = (b ≡ k + 1) × (k * 4 < length t) × (get_or t (k * 4) 0 ≡ end)
+ClosesIs t o k end (Err why) = ((why ≡ LeftOpen o) × (k * 4 ≡ length t)) ⊎ ((why ≡ Misplaced k) × (k * 4 < length t) × (get_or t (k * 4) 0 ≡ end → ⊥))

@@ -1,7 +1,7 @@
 // Reads a table by recursive descent: its first refusal, or where each of its loops ends.
 #![tactic(auto)]
 
-ghost use Rattle.std.specs.Prelude.{◌≡◌, ◌&&◌, ℕ, ◌*◌, ◌%◌, ◌<◌, ◌≤◌, eqb, ltb, length, get_or, replicate};
+ghost use Rattle.std.specs.Prelude.{◌≡◌, ◌&&◌, ℕ, ◌*◌, ◌%◌, ◌<◌, ◌≤◌, eqb, ltb, length, get_or, IfOk};
 ghost use Rattle.std.proofs.Math.Option.{none};
 ghost use Rattle.admission.specs.Refusing.{refusal_of};
 ghost use Rattle.spec.specs.Table.{rows_of, row_at};
@@ -9,7 +9,6 @@ ghost use Rattle.spec.specs.TableCheck.{table_refusal};
 ghost use Rattle.reader.specs.Answer.{end_at};
 ghost use Rattle.reader.specs.Parts.{IsTable, own_refusal, Opens, ClosesIs, BodyIs, ConstructIs};
 
-use admission::Admission;
 use optable::Form;
 use spec::Refusal;
 
@@ -23,34 +22,20 @@ const WHILE: u8 = 35;
 
 const ENDWHILE: u8 = 36;
 
-// ends holds, at each WHILE of an accepted table, the row of its ENDWHILE, and 0 everywhere else.
-#[derive(Clone, Copy)]
-pub struct Read {
-    pub answer: Admission,
-    pub ends: [u8; 256],
-}
-
-// The row that a body or a construct is read up to, or the refusal met in it.
-#[derive(Clone, Copy)]
-enum Reach {
-    To(usize),
-    Refused(Refusal),
-}
-
 // Refusals 3 and 4, for which a row is looked at by itself.
-fn row_fits(table: &[u8], row: usize) -> Admission
+fn row_fits(table: &[u8], row: usize) -> Result<(), Refusal>
     requires { (IsTable table.now) × (row * 4 < length table.now) }
     ensures { refusal_of result ≡ own_refusal row (row_at (rows_of table.now) row) }
 {
     let at = row * 4;
     let form = optable::form_of(table[at]);
     if let Form::UnknownForm = form {
-        return Admission::Refused(Refusal::UnknownOp(row as u32));
+        return Err(Refusal::UnknownOp(row as u32));
     }
     if optable::operands_fit(form, table[at + 1], table[at + 2], table[at + 3]) {
-        Admission::Accepted
+        Ok(())
     } else {
-        Admission::Refused(Refusal::BadOperand(row as u32))
+        Err(Refusal::BadOperand(row as u32))
     }
 }
 
@@ -63,107 +48,75 @@ fn is_else(table: &[u8], row: usize) -> bool
 }
 
 // `row` closes the construct that `opener` opens if its op is `end`. A construct that is left open is refused at `opener`.
-fn closes(table: &[u8], opener: usize, row: usize, end: u8) -> Reach
+fn closes(table: &[u8], opener: usize, row: usize, end: u8) -> Result<usize, Refusal>
     requires { (IsTable table.now) × (opener < row) × (row * 4 ≤ length table.now) }
     ensures { ClosesIs table.now opener row end result }
 {
     if row * 4 == table.len() {
-        return Reach::Refused(Refusal::LeftOpen(opener as u32));
+        return Err(Refusal::LeftOpen(opener as u32));
     }
     if table[row * 4] == end {
-        Reach::To(row + 1)
+        Ok(row + 1)
     } else {
-        Reach::Refused(Refusal::Misplaced(row as u32))
+        Err(Refusal::Misplaced(row as u32))
     }
 }
 
 // A body ends where the table does, or at an ELSE, ENDIF or ENDWHILE that is of no construct in it. A loop, so that only nesting takes stack.
 #[cycle(body_construct)]
-fn body(table: &[u8], from: usize, depth: usize, ends: &mut [u8; 256]) -> Reach
+fn body(table: &[u8], from: usize, depth: usize, ends: &mut [u8; 256]) -> Result<usize, Refusal>
     requires { (IsTable table.now) × (from * 4 ≤ length table.now) × (depth ≤ 8) × (length ends.old ≡ 256) }
     ensures { BodyIs table.now depth from ends.old ends.new result }
 {
     let rows = table.len() / 4;
     let mut row = from;
+    // No `for`: a construct moves the row past itself.
     while row < rows {
-        match row_fits(table, row) {
-            Admission::Refused(why) => return Reach::Refused(why),
-            Admission::Accepted => {}
-        }
-        let op = table[row * 4];
-        // ENDIF has an arm of its own: beside ELSE it would make the arm a range of numbers.
-        match op {
-            IF | WHILE => match construct(table, row, depth, ends) {
-                Reach::To(next) => row = next,
-                Reach::Refused(why) => return Reach::Refused(why),
-            },
-            ELSE | ENDWHILE => return Reach::To(row),
-            ENDIF => return Reach::To(row),
+        row_fits(table, row)?;
+        // ENDIF has an arm of its own: tried beside ELSE, which makes a range of numbers, and the last arm's proof doesn't close: it loses what its op is not.
+        match table[row * 4] {
+            IF | WHILE => row = construct(table, row, depth, ends)?,
+            ELSE | ENDWHILE => return Ok(row),
+            ENDIF => return Ok(row),
             _ => row += 1,
         }
     }
-    Reach::To(row)
+    Ok(row)
 }
 
 // A ninth construct is refused before its body is read: at most nine bodies are being read at once.
 #[cycle(body_construct)]
-fn construct(table: &[u8], row: usize, depth: usize, ends: &mut [u8; 256]) -> Reach
+fn construct(table: &[u8], row: usize, depth: usize, ends: &mut [u8; 256]) -> Result<usize, Refusal>
     requires { (IsTable table.now) × (row * 4 < length table.now) × (depth ≤ 8) × (Opens (get_or table.now (row * 4) 0))
         × (own_refusal row (row_at (rows_of table.now) row) ≡ none) × (length ends.old ≡ 256) }
     ensures { ConstructIs table.now depth row ends.old ends.new result }
 {
     if depth == 8 {
-        return Reach::Refused(Refusal::TooDeep(row as u32));
+        return Err(Refusal::TooDeep(row as u32));
     }
-    let first = body(table, row + 1, depth + 1, ends);
-    let Reach::To(stop) = first else {
-        return first;
-    };
+    let stop = body(table, row + 1, depth + 1, ends)?;
     if table[row * 4] == WHILE {
-        let closed = closes(table, row, stop, ENDWHILE);
-        if let Reach::To(next) = closed {
-            ends[row] = (next - 1) as u8;
-        }
-        return closed;
+        let next = closes(table, row, stop, ENDWHILE)?;
+        ends[row] = (next - 1) as u8;
+        return Ok(next);
     }
     if !is_else(table, stop) {
         return closes(table, row, stop, ENDIF);
     }
-    let second = body(table, stop + 1, depth + 1, ends);
-    let Reach::To(last) = second else {
-        return second;
-    };
+    let last = body(table, stop + 1, depth + 1, ends)?;
     closes(table, row, last, ENDIF)
 }
 
-// The ends that were noted before the refusal are dropped.
-fn refused(why: Refusal) -> Read
-    ensures { (result.answer ≡ Admission.Refused why) × (result.ends ≡ replicate 256 0) }
-{
-    Read {
-        answer: Admission::Refused(why),
-        ends: [0u8; 256],
-    }
-}
-
-// The caller has tested the length.
-pub fn read_table(table: &[u8]) -> Read
+// Where the loops of a table end: at each WHILE of an accepted one the row of its ENDWHILE, and 0 everywhere else. The caller has tested the length.
+pub fn read_table(table: &[u8]) -> Result<[u8; 256], Refusal>
     requires { (length table.now % 4 ≡ 0) × (length table.now ≤ 4 * 256) }
-    ensures answer { refusal_of result.answer ≡ table_refusal (rows_of table.now) }
-    ensures ends { (i : ℕ) → i < 256 → get_or result.ends i 0 ≡ end_at (rows_of table.now) i }
+    ensures answer { refusal_of result ≡ table_refusal (rows_of table.now) }
+    ensures ends { IfOk result (λ ends. (i : ℕ) → i < 256 → get_or ends i 0 ≡ end_at (rows_of table.now) i) }
 {
     let mut ends = [0u8; 256];
-    match body(table, 0, 0, &mut ends) {
-        Reach::To(row) => {
-            if row * 4 < table.len() {
-                refused(Refusal::Misplaced(row as u32))
-            } else {
-                Read {
-                    answer: Admission::Accepted,
-                    ends: ends,
-                }
-            }
-        }
-        Reach::Refused(why) => refused(why),
+    let row = body(table, 0, 0, &mut ends)?;
+    if row * 4 < table.len() {
+        return Err(Refusal::Misplaced(row as u32));
     }
+    Ok(ends)
 }

@@ -6,7 +6,7 @@ ghost use Rattle.spec.specs.Answers.{refusal_number, refusal_place};
 ghost use Rattle.spec.specs.Report.{refusal_report};
 ghost use Rattle.spec.specs.Entries.{over};
 
-use spec::{Refusal, Subject, Written};
+use spec::{Refusal, Subject};
 
 // Its number and its place, written at the start of an output that has room for any report.
 pub fn report_refusal(why: Refusal, output: &mut [u8]) -> usize
@@ -15,12 +15,7 @@ pub fn report_refusal(why: Refusal, output: &mut [u8]) -> usize
     ensures written { output.new ≡ over (refusal_report (refusal_number why) (refusal_place why)) output.old }
     ensures fits { result ≤ 24576 }
 {
-    let told = refusals::words(why);
-    let subject = Subject::Refused(told[0], told[1]);
-    let none: [u32; 0] = [];
-    match report::write_report(subject, &none, &none, &none, output) {
-        Written::Wrote(size) => size,
-        // A refusal's report has room.
-        Written::Refused(short) => 0,
-    }
+    let [number, place] = refusals::words(why);
+    // It is never turned back: it has room.
+    report::write_report(Subject::Refused(number, place), &[], &[], &[], output).unwrap()
 }

@@ -6,6 +6,8 @@ ghost use Rattle.refusals.specs.Words.{refusal_words};
 
 use spec::Refusal;
 
+// No `From<Refusal>`: neither type is of this crate, and spec has types and no conversions.
+#[tactic(auto, unfolding(crate::specs::Words::refusal_words, spec::specs::Answers::refusal_number, spec::specs::Answers::refusal_place))]
 pub fn words(why: Refusal) -> [u32; 2]
     ensures { result ≡ refusal_words why }
 {

@@ -1,19 +1,14 @@
 -- What the writer's answer and buffer are in each of its cases. Assumes nothing.
-use mathlib.Core.Path.{◌≡◌, refl, sym, ap, ◌∙◌}
-use mathlib.Core.List.{List, [], ◌∷◌}
-use mathlib.Core.Option.{Option, none, some, none-ne-some}
-use mathlib.Core.Bool.{and-false}
-use Prim.Native.Nat.{ℕ, ◌+◌, ◌≤◌, ◌<◌}
-use native.Mathlib.Omega.{arith}
-use borrow.Author.Tests.{le-leb, lt-leb}
-use lib.Dec.{leb}
+use Rattle.std.specs.Prelude.{Result}
+use mathlib.Core.Path.{◌≡◌, refl, ap, ◌∙◌}
+use mathlib.Core.List.{List}
+use mathlib.Core.Option.{Option, none, some}
+use Prim.Native.Nat.{ℕ, ◌+◌, ◌≤◌}
+use borrow.Author.Tests.{le-leb}
 use lib.ListN.{length}
 use Rattle.spec.specs.declared.Outcome.{Outcome}
 use Rattle.spec.specs.declared.Subject.{Subject}
 use Rattle.spec.specs.declared.Refusal.{Refusal}
-use Rattle.spec.specs.declared.Refusal.TheVariants.{ReportLines, ReportTooLong}
-use Rattle.spec.specs.declared.Written.{Written}
-use Rattle.spec.specs.declared.Written.TheVariants as written
 use Rattle.spec.specs.Answers.{unless, or_else, first, told, told_in}
 use Rattle.spec.specs.Report.{report_of}
 use Rattle.spec.specs.Reading.{Readable}
@@ -21,32 +16,15 @@ use Rattle.spec.specs.Demands.{OfWritten}
 use Rattle.spec.proofs.Laws.{front_of_lem}
 use Rattle.readback.proofs.Reports.{readable}
 use Rattle.spec.specs.Entries.{over, lines_reported, writer_refusal, written_of, writer_answer, writer_buffer, kept_if}
-use Rattle.report.specs.Subjects.{ran, refused, FitsOutput}
+use Rattle.report.specs.Subjects.{ran, refused}
 
--- 23.
-pub no_steps : (o : Outcome) (steps cells global : List ℕ) → length steps < 1 → lines_reported (ran o) steps cells global ≡ some ReportLines
+pub lines_right : (o : Outcome) (steps cells global : List ℕ) → 1 ≤ length steps → length steps ≤ 256
+    → let all = length cells + length global in
+    1 ≤ all → all ≤ 1024 → lines_reported (ran o) steps cells global ≡ none
 unfolding lines_reported first or_else unless
-no_steps o steps cells global h = rw (lt-leb 1 (length steps) h)
-
-pub many_steps : (o : Outcome) (steps cells global : List ℕ) → 256 < length steps → lines_reported (ran o) steps cells global ≡ some ReportLines
-unfolding lines_reported first or_else unless
-many_steps o steps cells global h = rw (lt-leb (length steps) 256 h, and-false (leb 1 (length steps)))
-
-module _ (o : Outcome) (steps cells global : List ℕ) (some-steps : 1 ≤ length steps) (few-steps : length steps ≤ 256) where
-  abbrev all : ℕ
-  all = length cells + length global
-
-  pub no_cells : all < 1 → lines_reported (ran o) steps cells global ≡ some ReportLines
-  unfolding lines_reported first or_else unless
-  no_cells h = rw (le-leb 1 (length steps) some-steps, le-leb (length steps) 256 few-steps, lt-leb 1 all h)
-
-  pub many_cells_lem : 1024 < all → lines_reported (ran o) steps cells global ≡ some ReportLines
-  unfolding lines_reported first or_else unless
-  many_cells_lem h = rw (le-leb 1 (length steps) some-steps, le-leb (length steps) 256 few-steps, lt-leb all 1024 h, and-false (leb 1 all))
-
-  pub lines_right : 1 ≤ all → all ≤ 1024 → lines_reported (ran o) steps cells global ≡ none
-  unfolding lines_reported first or_else unless
-  lines_right l h = rw (le-leb 1 (length steps) some-steps, le-leb (length steps) 256 few-steps, le-leb 1 all l, le-leb all 1024 h)
+lines_right o steps cells global one few l h =
+    let all = length cells + length global in
+    rw (le-leb 1 (length steps) one, le-leb (length steps) 256 few, le-leb 1 all l, le-leb all 1024 h)
 
 pub no_lines_asked : (number place : ℕ) (steps cells global : List ℕ) → lines_reported (refused number place) steps cells global ≡ none
 unfolding lines_reported
@@ -64,56 +42,24 @@ of_written P none w out h = rw (front_of_lem w out (over w out) refl) h
 of_written P (some why) w out h = tt
 
 module _ (what : Subject) (steps cells global out : List ℕ) where
-  -- The report was counted to n bytes. 22, with the length that is needed.
-  module _ (n : ℕ) (right : lines_reported what steps cells global ≡ none) (counted : n ≡ length (report_of what steps cells global)) where
-    pub too_long : length out < n → writer_refusal what steps cells global out ≡ some (ReportTooLong n)
-    unfolding writer_refusal first or_else unless
-    too_long h = rw (right, ← counted, lt-leb n (length out) h)
-
-    pub fitting : n ≤ length out → writer_refusal what steps cells global out ≡ none
-    unfolding writer_refusal first or_else unless
-    fitting h = rw (right, ← counted, le-leb n (length out) h)
-
-  pub fits : (n : ℕ) → n ≡ length (report_of what steps cells global) → n ≤ 24576 → FitsOutput what steps cells global
-  fits n e h q = omega arith
-
-  -- The answer r and the buffer l are the definition's.
-  abbrev pub Answers : Written → List ℕ → Type 0
-  Answers r l = (r ≡ writer_answer what steps cells global out) × ((l ≡ writer_buffer what steps cells global out) × FitsOutput what steps cells global)
-
-  pub turned_back : (r : Refusal) → writer_refusal what steps cells global out ≡ some r → FitsOutput what steps cells global → Answers (written.Refused r) out
-  unfolding writer_answer written_of writer_buffer kept_if
-  turned_back r e f = (rw e refl, (rw e refl, f))
-
-  pub taken : (l : List ℕ) (n : ℕ) → writer_refusal what steps cells global out ≡ none → n ≡ length (report_of what steps cells global)
-      → l ≡ over (report_of what steps cells global) out → FitsOutput what steps cells global → Answers (written.Wrote n) l
-  unfolding writer_answer written_of writer_buffer kept_if
-  taken l n e en el f = (rw e (ap written.Wrote en), (rw e el, f))
-
-  -- By 23.
-  pub lines_refused : (r : Refusal) → lines_reported what steps cells global ≡ some r → Answers (written.Refused r) out
-  unfolding writer_refusal first or_else
-  lines_refused r e =
-      turned_back r
-      (ap (λ (x : Option Refusal). or_else x
-      (first (unless (leb (length (report_of what steps cells global)) (length out)) (ReportTooLong (length (report_of what steps cells global))) ∷ []))) e)
-      (λ q. absurd (none-ne-some r (sym q ∙ e)))
+  -- The report was counted to n bytes.
+  pub fitting : (n : ℕ) → lines_reported what steps cells global ≡ none → n ≡ length (report_of what steps cells global) → n ≤ length out
+      → writer_refusal what steps cells global out ≡ none
+  unfolding writer_refusal first or_else unless
+  fitting n right counted h = rw (right, ← counted, le-leb n (length out) h)
 
   -- What a writer promises that answers and writes as the definition says.
-  pub promised : (l : List ℕ) (r : Written) → r ≡ writer_answer what steps cells global out → l ≡ writer_buffer what steps cells global out
-      → (told_in r ≡ told (writer_refusal what steps cells global out)) × OfWritten (Readable what) r l
+  pub refusal_is : (r : Result ℕ Refusal) → r ≡ writer_answer what steps cells global out → told_in r ≡ told (writer_refusal what steps cells global out)
+  unfolding writer_answer
+  refusal_is r a = ap told_in a ∙ told_in_lem (writer_refusal what steps cells global out) _
+
+  pub reads_as : (l : List ℕ) (r : Result ℕ Refusal) → r ≡ writer_answer what steps cells global out → l ≡ writer_buffer what steps cells global out
+      → OfWritten (Readable what) r l
   unfolding writer_answer writer_buffer
-  promised l r a b = (
-    ap told_in a ∙ told_in_lem (writer_refusal what steps cells global out) _,
-    rw (a, b) (of_written (Readable what) (writer_refusal what steps cells global out) (report_of what steps cells global) out (readable what steps cells global)),
-  )
+  reads_as l r a b =
+      rw (a, b) (of_written (Readable what) (writer_refusal what steps cells global out) (report_of what steps cells global) out (readable what steps cells global))
 
-  pub whole : (l : List ℕ) (r : Written) → Answers r l
-      → (r ≡ writer_answer what steps cells global out) × ((l ≡ writer_buffer what steps cells global out)
-      × (FitsOutput what steps cells global × ((told_in r ≡ told (writer_refusal what steps cells global out)) × OfWritten (Readable what) r l)))
-  whole l r h = (h.0, (h.1.0, (h.1.1, promised l r h.0 h.1.0)))
-
--- Whoever unfolds this sees that a refusal's report depends on no steps and no cells.
-unfoldable pub without_lines : Unit {0}
-unfolding writer_answer writer_buffer writer_refusal lines_reported report_of
-without_lines = tt
+-- Whoever unfolds this sees what the writer answers and writes.
+unfoldable pub defined : Unit {0}
+unfolding report_of lines_reported writer_refusal writer_answer writer_buffer written_of kept_if first or_else unless
+defined = tt

@@ -7,6 +7,8 @@ use native.Mathlib.Nat.{pow-suc}
 use native.Mathlib.Omega.{arith}
 use borrow.Author.Tests.{lt-ltb, le-ltb}
 use lib.ListN.{length, length-append}
+use Rattle.std.specs.Fmt as fmt
+use Rattle.std.proofs.lemmas.Fmt.{decimal_digit, decimal_step}
 use Rattle.spec.specs.Text.{digits_within, decimal}
 
 pub digits_one : (k n : ℕ) → n < 10 → digits_within k n ≡ (48 + n) ∷ []
@@ -62,3 +64,15 @@ at_most (suc k) n h = by (dec_lt n 10) (at_most k (n / 10) (omega (arith, pow-su
 
 pub word_digits : (n : ℕ) → n < 2 ^ 32 → length (decimal n) ≤ 10
 word_digits n h = at_most 9 n (omega arith)
+
+-- The library's digits of a number are these. A word has at most ten, the library's bound is 64.
+printed : (k n : ℕ) → n < 10 ^ k → n < 2 ^ 64 → fmt.decimal n ≡ decimal n
+printed zero n h w = decimal_digit n (omega arith) ∙ sym (decimal_one n (omega arith))
+printed (suc k) n h w = by (dec_lt n 10) (printed k (n / 10) (omega (arith, pow-suc 10 k)) (omega arith))
+  where
+    by : Dec (n < 10) → fmt.decimal (n / 10) ≡ decimal (n / 10) → fmt.decimal n ≡ decimal n
+    by (yes l) rest = decimal_digit n l ∙ sym (decimal_one n l)
+    by (no l) rest = decimal_step n (omega arith) w ∙ ap (λ ds. ds ++ ((48 + n % 10) ∷ [])) rest ∙ sym (decimal_more n (omega arith))
+
+pub decimal_same : (n : ℕ) → n < 2 ^ 32 → fmt.decimal n ≡ decimal n
+decimal_same n h = printed 10 n (omega arith) (omega arith)

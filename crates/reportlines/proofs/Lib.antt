@@ -3,3 +3,4 @@ pub mod Decimal
 pub mod Words
 pub mod Writing
 pub mod Lines
+pub mod Values

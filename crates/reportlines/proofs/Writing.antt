@@ -1,16 +1,13 @@
 -- Writing from the start of the part of a buffer that begins where the last writing ended. Assumes nothing.
 use mathlib.Core.Path.{◌≡◌, refl, sym, ap, ap₂, ◌∙◌}
-use mathlib.Core.List.{List, [], ◌∷◌, ◌++◌, append_assoc, append-nil}
-use Prim.Native.Nat.{ℕ, suc, ◌+◌, ◌-◌, ◌/◌, ◌%◌, ◌≤◌, ◌<◌}
-use native.Mathlib.Numerals.{add-one}
+use mathlib.Core.List.{List, [], ◌++◌, append_assoc, append-nil}
+use Prim.Native.Nat.{ℕ, ◌+◌, ◌-◌, ◌≤◌}
 use native.Mathlib.Omega.{arith}
-use lib.ListN.{length, get_or, set, take, drop, length-append, length-drop, length-set, drop_of_length-le, take-append-drop}
-use lib.Seq.{take_all, take-length, take_at, drop_at, drop-drop, drop-cons, take-suc, set_at, length-take-le, get_or-set_same, drop-set-lt}
+use lib.ListN.{length, take, drop, length-append, length-drop, drop_of_length-le, take-append-drop}
+use lib.Seq.{take_all, take_at, drop_at, drop-drop, length-take-le}
 use borrow.Rule.Slice.PartMut.{mid_of, put_mid}
-use Rattle.spec.specs.Text.{decimal}
 use Rattle.spec.specs.Entries.{over}
 use Rattle.reportlines.specs.Places.{over_from}
-use Rattle.reportlines.proofs.Decimal.{decimal_one, decimal_more, length_one, length_more}
 
 pub over_length : (w xs : List ℕ) → length w ≤ length xs → length (over w xs) ≡ length xs
 unfolding over
@@ -43,15 +40,6 @@ put_behind xs l ys v w at e el ey =
     ∙ ap (λ (p : List ℕ). w ++ p) (drop-drop (length w) at xs) in
     ap₂ (λ (f p : List ℕ). f ++ p) front (ap₂ (λ (y z : List ℕ). y ++ z) mid none ∙ append-nil (w ++ drop (at + length w) xs)) ∙ joined v w xs at e
 
-set_behind : (xs l v : List ℕ) (at b : ℕ) → at ≡ length v → l ≡ over v xs → length v < length xs → set l at b ≡ over (v ++ (b ∷ [])) xs
-unfolding over
-set_behind xs l v at b e el h =
-    let more : at < length xs = omega arith in
-    ap (λ (x : List ℕ). set x at b) (el ∙ ap (λ (n : ℕ). v ++ drop n xs) (sym e) ∙ ap (λ (p : List ℕ). v ++ p) (drop-cons xs at 0 more))
-    ∙ set_at v (get_or xs at 0) (drop (suc at) xs) b at (sym e)
-    ∙ ap (λ (n : ℕ). v ++ (b ∷ drop n xs)) (sym (add-one at))
-    ∙ joined v (b ∷ []) xs at e
-
 -- v has been written from the start of a buffer that held xs and now holds l, and ends before `at`.
 pub record Stands (xs l v : List ℕ) (at : ℕ) : Type 0 where
   pub ended : at ≡ length v
@@ -64,13 +52,6 @@ started h e el = record { ended = e; bytes = el; fitted = h }
 pub same_size : {xs l v : List ℕ} {at : ℕ} → Stands xs l v at → length l ≡ length xs
 same_size {xs} {l} {v} s = ap length s.bytes ∙ over_length v xs s.fitted
 
-pub within : {xs l v : List ℕ} {at : ℕ} → Stands xs l v at → at ≤ length l
-within s = omega (arith, same_size s, s.ended, s.fitted)
-
--- The next writing has room in the part from `at` on.
-pub room : {xs l v : List ℕ} {at : ℕ} (w : List ℕ) → Stands xs l v at → at + length w ≤ length xs → length w ≤ length (part at l)
-room {xs} {l} {v} {at} w s h = rw (take_all (length l - at) (drop at l) (simp length-drop (omega arith))) (simp length-drop (omega (arith, same_size s)))
-
 -- That part, lent to what writes w at its start, comes back: w stands behind v.
 pub onward : {xs l v : List ℕ} {at n : ℕ} (w ys : List ℕ) → Stands xs l v at → at + length w ≤ length xs → n ≡ length w
     → ys ≡ over w (part at l) → Stands xs (back at l ys) (v ++ w) (at + n)
@@ -79,15 +60,6 @@ onward {xs} {l} {v} {at} {n} w ys s h en ey =
       ended = ap₂ ◌+◌ s.ended en ∙ sym (length-append v w);
       bytes = put_behind xs l ys v w at s.ended s.bytes ey;
       fitted = omega (arith, length-append v w, s.ended);
-    }
-
--- One byte more.
-pub byte_onward : {xs l v : List ℕ} {at : ℕ} (b : ℕ) → Stands xs l v at → at < length xs → Stands xs (set l at b) (v ++ (b ∷ [])) (at + 1)
-byte_onward {xs} {l} {v} {at} b s h =
-    record {
-      ended = ap (λ (n : ℕ). n + 1) s.ended ∙ sym (length-append v (b ∷ []));
-      bytes = set_behind xs l v at b s.ended s.bytes (omega (arith, s.ended));
-      fitted = omega (arith, length-append v (b ∷ []), s.ended);
     }
 
 -- What a contract says of the whole.
@@ -100,12 +72,6 @@ unfolding over
 itself xs at h =
     let e : length (take at xs) ≡ at = length-take-le at xs h in
     started (omega arith) (sym e) (sym (take-append-drop at xs) ∙ ap (λ (n : ℕ). take at xs ++ drop n xs) (sym e))
-
--- The part from `at` on, lent to what writes w at its start.
-pub put_at : (xs w ys : List ℕ) (at n : ℕ) → at + length w ≤ length xs → n ≡ length w → ys ≡ over w (part at xs)
-    → (at + n ≡ at + length w) × (back at xs ys ≡ over_from at w xs)
-unfolding over_from
-put_at xs w ys at n h en ey = (ap (λ (k : ℕ). at + k) en, (onward {n = n} w ys (itself xs at (omega arith)) h en ey).bytes)
 
 -- What was written from `at` on stands behind v.
 pub next : {xs l v : List ℕ} {at r : ℕ} (w l' : List ℕ) → Stands xs l v at → at + length w ≤ length xs → r ≡ at + length w → l' ≡ over_from at w l
@@ -122,49 +88,9 @@ next {xs} {l} {v} {at} {r} w l' s h er el =
     started (omega (arith, length-append v w, s.ended)) (er ∙ ap (λ (n : ℕ). n + length w) s.ended ∙ sym (length-append v w))
     (el ∙ ap (λ (x : List ℕ). (x ++ w) ++ drop (length (x ++ w)) l) front ∙ ap (λ (x : List ℕ). (v ++ w) ++ x) rest)
 
--- The first i elements of src have been copied to the front of a buffer that held xs and now holds l.
-pub record Copying (src xs l : List ℕ) (i : ℕ) : Type 0 where
-  pub under : i ≤ length src
-  pub long : length l ≡ length xs
-  pub front : l ≡ over (take i src) xs
-
-pub copy_none : (src xs : List ℕ) → Copying src xs xs 0
-unfolding over
-copy_none src xs = record { under = omega arith; long = refl; front = refl }
-
-pub copy_more : {src xs l : List ℕ} {i : ℕ} → Copying src xs l i → i < length src → length src ≤ length xs → Copying src xs (set l i (get_or src i 0)) (i + 1)
-copy_more {src} {xs} {l} {i} s h room =
-    let size : length (take i src) ≡ i = length-take-le i src s.under in
-    record {
-      under = omega arith;
-      long = length-set l i (get_or src i 0) ∙ s.long;
-      front =
-          set_behind xs l (take i src) i (get_or src i 0) (sym size) s.front (omega arith)
-          ∙ ap (λ (p : List ℕ). over p xs) (sym (take-suc src i 0 h) ∙ ap (λ (n : ℕ). take n src) (sym (add-one i)));
-    }
-
-pub copy_all : {src xs l : List ℕ} {i : ℕ} → Copying src xs l i → length src ≤ i → (i ≡ length src) × (l ≡ over src xs)
-copy_all {src} {xs} {l} {i} s h =
-    let all : i ≡ length src = omega (arith, s.under) in
-    (all, s.front ∙ ap (λ (p : List ℕ). over p xs) (ap (λ (n : ℕ). take n src) all ∙ take-length src))
-
--- A number's last digit is written, and the others stand before it.
-pub digit_written : (xs : List ℕ) (rest i : ℕ) → 10 ≤ rest → i ≡ length (decimal rest) → i ≤ length xs
-    → decimal (rest / 10) ++ drop (i - 1) (set xs (i - 1) (48 + rest % 10)) ≡ decimal rest ++ drop i xs
-digit_written xs rest i h e l =
-    let d = 48 + rest % 10 in
-    let room : i - 1 < length xs = omega (arith, length_more rest h) in
-    let one_more : suc (i - 1) ≡ i = omega (arith, length_more rest h) in
-    let from : drop (i - 1) (set xs (i - 1) d) ≡ d ∷ drop i xs =
-    drop-cons (set xs (i - 1) d) (i - 1) 0 (simp length-set room)
-    ∙ ap₂ (λ (b : ℕ) (p : List ℕ). b ∷ p) (get_or-set_same xs (i - 1) d 0 room)
-    (drop-set-lt (suc (i - 1)) xs (i - 1) d (omega arith) ∙ ap (λ (n : ℕ). drop n xs) one_more) in
-    ap (λ (p : List ℕ). decimal (rest / 10) ++ p) from
-    ∙ sym (append_assoc (decimal (rest / 10)) (d ∷ []) (drop i xs))
-    ∙ ap (λ (ds : List ℕ). ds ++ drop i xs) (sym (decimal_more rest h))
-
--- The first digit.
-pub first_written : (xs : List ℕ) (rest i : ℕ) → rest < 10 → i ≡ length (decimal rest) → 1 ≤ length xs → set xs 0 (48 + rest) ≡ decimal rest ++ drop i xs
-first_written [] rest i h e l = absurd (omega arith)
-first_written (x ∷ xs) rest i h e l =
-    ap (λ (ds : List ℕ). ds ++ xs) (sym (decimal_one rest h)) ∙ ap (λ (n : ℕ). decimal rest ++ drop n (x ∷ xs)) (sym (length_one rest h) ∙ sym e)
+-- Exactly the part that w takes, overwritten by w.
+pub put_part : (xs w ys : List ℕ) (at : ℕ) → ys ≡ w → at + length w ≤ length xs → put_mid at (at + length w - at) xs ys ≡ over_from at w xs
+unfolding over_from
+put_part xs w ys at e h =
+    let size : at + length w - at ≡ length w = omega arith in
+    rw (e, size, drop-drop (length w) at xs) (joined (take at xs) w xs at (sym (length-take-le at xs (omega arith))))

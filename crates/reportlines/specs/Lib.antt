@@ -1,3 +1,3 @@
--- Words of a report, and writing from a place on. Assumes nothing.
-pub mod Words
+-- Lines of a report, and writing from a place on. Assumes nothing.
+pub mod Lines
 pub mod Places

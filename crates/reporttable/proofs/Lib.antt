@@ -1,3 +1,3 @@
--- Laws of lines told by their number, and of the table of keys. Assumes nothing.
-pub mod Numbered
-pub mod Keys
+-- The lists of lines, opened; the bytes of lines, and their writing. Assumes nothing.
+pub mod Opened
+pub mod Lists

@@ -1,2 +1,3 @@
--- Lines told by their number. Assumes nothing.
-pub mod Numbered
+-- The values of a run's lines, and lines that are made of items. Assumes nothing.
+pub mod Values
+pub mod Items

@@ -13,8 +13,9 @@ ghost use Rattle.spec.specs.PairDemands.{PairDemand3};
 ghost use Rattle.pairfiles.specs.BothReports.{CutShort};
 ghost use Rattle.answerwords.specs.Codes.{length_in, refusal_in, ran_in, outcome_in, why_in, outcome_from, RanDemand3};
 
-use spec::{Answer, Subject};
+use spec::Subject;
 
+#[tactic(auto, using(answerwords::proofs::Back::of_length))]
 pub fn sekufoyi_check_file(
     file: &[u8],
     cells: &mut [u32],
@@ -45,6 +46,7 @@ pub fn sekufoyi_check_file(
     answerwords::tell_written(answer, refusal)
 }
 
+#[tactic(auto, using(answerwords::proofs::Back::of_length))]
 pub fn sekufoyi_pair_files(
     filter: &[u8],
     trigger: &[u8],
@@ -62,6 +64,7 @@ pub fn sekufoyi_pair_files(
     answerwords::tell_written(answer, refusal)
 }
 
+#[tactic(auto, unfolding(answerwords::specs::Codes::ran_in, answerwords::specs::Codes::outcome_in, answerwords::specs::Codes::why_in))]
 pub fn sekufoyi_bare_launch(
     table: &[u8],
     threads: u32,
@@ -99,12 +102,12 @@ pub fn sekufoyi_bare_launch(
     match launch::bare_launch(
         table, threads, count, groups, shared, limit, cells, global, log, records, steps,
     ) {
-        Answer::Refused(why) => {
+        Err(why) => {
             *outcome = [0; 11];
             *refusal = refusals::words(why);
             false
         }
-        Answer::Ran(ended) => {
+        Ok(ended) => {
             *outcome = answerwords::outcome_words(ended);
             *refusal = [0, 0];
             true
@@ -112,6 +115,7 @@ pub fn sekufoyi_bare_launch(
     }
 }
 
+#[tactic(auto, using(answerwords::proofs::Back::of_length))]
 pub fn sekufoyi_write_report(
     outcome: &[u32; 11],
     steps: &[u32],
@@ -138,6 +142,7 @@ pub fn sekufoyi_write_report(
     answerwords::tell_written(answer, refusal)
 }
 
+#[tactic(auto, using(answerwords::proofs::Back::of_length))]
 pub fn sekufoyi_write_refusal(
     number: u32,
     place: u32,

@@ -1,4 +1,5 @@
-// The library sekufoyi for C: an export for each of its functions, under its name and with its clauses. include/sekufoyi.h declares them.
+// The library sekufoyi for C: an export for each of its functions, under its name and with its clauses, which an export must say itself: C has no other contract.
+// include/sekufoyi.h declares them.
 #![tactic(auto)]
 
 ghost use Rattle.std.specs.Prelude.{◌≡◌, []};

@@ -1,4 +1,5 @@
 -- What demand 3 says of one launch: wrong counts are refuted by a run of it, be they in hand, lent or in a report. Assumes nothing.
+use Rattle.std.specs.Prelude.{Ok}
 use mathlib.Core.Path.{◌≡◌, refl, ap, sym, ◌∙◌}
 use mathlib.Core.List.{List, [], ◌∷◌, ◌++◌, map}
 use mathlib.Core.Option.{Option, none, some}
@@ -6,7 +7,6 @@ use Prim.Native.Nat.{ℕ}
 use native.Mathlib.Omega.{arith}
 use lib.ListN.{get_or, replicate}
 use Rattle.spec.specs.Answers.{Passed, Outcome}
-use Rattle.spec.specs.declared.Answer.TheVariants as answer
 use Rattle.spec.specs.Table.{Table, row_of}
 use Rattle.spec.specs.Shape.{Sizes, sizes, one_group}
 use Rattle.spec.specs.Threads as own
@@ -62,7 +62,7 @@ its_bytes = 2 ∷ 0 ∷ 0 ∷ 0 ∷ 37 ∷ 0 ∷ 0 ∷ 0 ∷ 32 ∷ 0 ∷ 0 ∷ 
 abbrev pub its_outcome : Outcome
 its_outcome = record { verdict = Passed; row = 5; group = 0; rows = 5; barriers = 1; conflicts = 0 }
 
-pub counts_taken : BareDemand3 its_bytes (sizes 2 1 1 0) 100 (9 ∷ []) [] (answer.Ran its_outcome) (9 ∷ []) [] (3 ∷ 4 ∷ replicate 254 0)
+pub counts_taken : BareDemand3 its_bytes (sizes 2 1 1 0) 100 (9 ∷ []) [] (Ok its_outcome) (9 ∷ []) [] (3 ∷ 4 ∷ replicate 254 0)
     → Demand3 lopsided its_sizes (9 ∷ []) 100 its_outcome (3 ∷ 4 ∷ []) (9 ∷ [])
 unfolding computing lopsided its_bytes
 counts_taken d = d
@@ -112,7 +112,7 @@ abbrev pub sharing_outcome : Outcome
 sharing_outcome = record { verdict = Passed; row = 3; group = 1; rows = 6; barriers = 0; conflicts = 0 }
 
 pub both_kinds_taken :
-    BareDemand3 sharing_bytes two_groups 100 (9 ∷ 8 ∷ []) (100 ∷ []) (answer.Ran sharing_outcome) (0 ∷ 1 ∷ []) (101 ∷ []) (3 ∷ 3 ∷ replicate 254 7)
+    BareDemand3 sharing_bytes two_groups 100 (9 ∷ 8 ∷ []) (100 ∷ []) (Ok sharing_outcome) (0 ∷ 1 ∷ []) (101 ∷ []) (3 ∷ 3 ∷ replicate 254 7)
     → Demand3 sharing two_groups (9 ∷ 8 ∷ 100 ∷ []) 100 sharing_outcome (3 ∷ 3 ∷ []) (0 ∷ 1 ∷ 101 ∷ [])
 unfolding computing sharing sharing_bytes
 both_kinds_taken d = d

@@ -1,15 +1,14 @@
 -- What the entries answer and what they leave in each lent buffer: limits from both sides, two faults at once, lengths, and what is kept. Assumes nothing.
+use Rattle.std.specs.Prelude.{Result, Ok, Err}
 use mathlib.Core.Path.{◌≡◌, refl}
 use mathlib.Core.List.{List, [], ◌∷◌, ◌++◌, map}
 use mathlib.Core.Option.{none, some}
 use Prim.Native.Nat.{ℕ, ◌-◌}
 use lib.ListN.{replicate}
-use Rattle.spec.specs.Answers.{Answer, Passed, Race, GroupRace, WriteWrite, Subject, Written, Refusal, LineNotDue}
+use Rattle.spec.specs.Answers.{Outcome, Passed, Race, GroupRace, WriteWrite, Subject, Refusal, LineNotDue}
 use Rattle.spec.specs.Answers.{CellsLength, LogLength, RecordsLength, OutputLength, ReportLines, ReportTooLong, ThreadsOutOfRange, TooManyCells, TooManyRows}
 use Rattle.spec.specs.Answers.{told_by, told_in}
-use Rattle.spec.specs.declared.Answer.TheVariants as answer
 use Rattle.spec.specs.declared.Subject.TheVariants as subject
-use Rattle.spec.specs.declared.Written.TheVariants as written
 use Rattle.spec.specs.Shape.{Sizes, sizes}
 use Rattle.spec.specs.Entries.{over, bare_numbers, bare_lent, bare_refusal, bare_answer, bare_cells, bare_global, bare_log, bare_records, bare_steps}
 use Rattle.spec.specs.Entries.{writer_answer, writer_buffer}
@@ -148,7 +147,7 @@ bare_stages = refl
 
 -- A bare launch's answer, own cells, global cells, log, step counts and records.
 unfoldable pub bare_all : (table : List ℕ) → Sizes → (limit : ℕ) → (lent_cells lent_global lent_log lent_steps lent_records : List ℕ)
-    → Answer × (List ℕ × (List ℕ × (List ℕ × (List ℕ × List ℕ))))
+    → Result Outcome Refusal × (List ℕ × (List ℕ × (List ℕ × (List ℕ × List ℕ))))
 bare_all table Z limit lent_cells lent_global lent_log lent_steps lent_records = (
   bare_answer table Z limit lent_cells lent_global lent_log lent_records,
   (
@@ -171,7 +170,7 @@ bare_all table Z limit lent_cells lent_global lent_log lent_steps lent_records =
 pub bare_passed :
     bare_all (2 ∷ 0 ∷ 0 ∷ 0 ∷ 17 ∷ 0 ∷ 0 ∷ 0 ∷ []) (sizes 3 4 1 0) 2 (5 ∷ 6 ∷ 7 ∷ 8 ∷ []) [] (replicate 32 9) (replicate 256 9) (replicate 3080 9)
     ≡ (
-      answer.Ran (record { verdict = Passed; row = 2; group = 0; rows = 2; barriers = 0; conflicts = 0 }),
+      Ok (record { verdict = Passed; row = 2; group = 0; rows = 2; barriers = 0; conflicts = 0 }),
       (
         0 ∷ 1 ∷ 2 ∷ 8 ∷ [],
         ([], (replicate 4 0 ++ (1 ∷ 2 ∷ 4 ∷ replicate 6 0 ++ (1 ∷ 2 ∷ replicate 17 0)), (2 ∷ 2 ∷ 2 ∷ replicate 253 0, 0 ∷ 2 ∷ 0 ∷ replicate 3077 9))),
@@ -184,7 +183,7 @@ bare_passed = refl
 pub bare_race :
     bare_all (2 ∷ 1 ∷ 0 ∷ 0 ∷ 37 ∷ 0 ∷ 0 ∷ 0 ∷ 17 ∷ 0 ∷ 1 ∷ 0 ∷ []) (sizes 3 2 1 0) 10 (5 ∷ 6 ∷ []) [] (replicate 16 9) (replicate 256 7) (replicate 3075 9)
     ≡ (
-      answer.Ran (record { verdict = Race 1 0 WriteWrite 0; row = 2; group = 0; rows = 2; barriers = 1; conflicts = 0 }),
+      Ok (record { verdict = Race 1 0 WriteWrite 0; row = 2; group = 0; rows = 2; barriers = 1; conflicts = 0 }),
       (0 ∷ 6 ∷ [], ([], (0 ∷ 0 ∷ 1 ∷ replicate 13 0, (2 ∷ 1 ∷ 1 ∷ replicate 253 0, 0 ∷ 2 ∷ 0 ∷ 2 ∷ 0 ∷ 0 ∷ replicate 3069 9)))),
     )
 unfolding computing bare_all
@@ -195,7 +194,7 @@ pub bare_added :
     bare_all (2 ∷ 0 ∷ 0 ∷ 0 ∷ 1 ∷ 1 ∷ 1 ∷ 0 ∷ 4 ∷ 2 ∷ 0 ∷ 1 ∷ 18 ∷ 1 ∷ 2 ∷ 0 ∷ []) (sizes 3 2 1 0) 10 (5 ∷ 6 ∷ []) [] (replicate 16 9)
     (replicate 256 7) (replicate 3075 6)
     ≡ (
-      answer.Ran (record { verdict = Passed; row = 4; group = 0; rows = 4; barriers = 0; conflicts = 0 }),
+      Ok (record { verdict = Passed; row = 4; group = 0; rows = 4; barriers = 0; conflicts = 0 }),
       (5 ∷ 12 ∷ [], ([], (replicate 5 0 ++ (7 ∷ replicate 10 0), (4 ∷ 4 ∷ 4 ∷ replicate 253 0, 0 ∷ 4 ∷ 0 ∷ replicate 3072 6)))),
     )
 unfolding computing bare_all
@@ -209,7 +208,7 @@ depositing = 2 ∷ 0 ∷ 0 ∷ 0 ∷ 19 ∷ 1 ∷ 0 ∷ 0 ∷ 17 ∷ 0 ∷ 1 ∷
 pub bare_groups :
     bare_all depositing (sizes 2 3 2 2) 10 (5 ∷ 6 ∷ 7 ∷ 8 ∷ 9 ∷ 10 ∷ []) (100 ∷ 200 ∷ []) (replicate 64 9) (replicate 256 7) (replicate 3075 6)
     ≡ (
-      answer.Ran (record { verdict = Passed; row = 4; group = 1; rows = 8; barriers = 0; conflicts = 0 }),
+      Ok (record { verdict = Passed; row = 4; group = 1; rows = 8; barriers = 0; conflicts = 0 }),
       (
         0 ∷ 1 ∷ 7 ∷ 2 ∷ 3 ∷ 10 ∷ [],
         (
@@ -233,7 +232,7 @@ bare_groups = refl
 pub bare_group_race :
     bare_all (1 ∷ 1 ∷ 5 ∷ 0 ∷ 21 ∷ 0 ∷ 1 ∷ 0 ∷ []) (sizes 1 1 2 1) 10 (7 ∷ 8 ∷ []) (9 ∷ []) (replicate 24 9) (replicate 256 7) (replicate 3075 6)
     ≡ (
-      answer.Ran (record { verdict = GroupRace 0 0 WriteWrite 0; row = 1; group = 1; rows = 3; barriers = 0; conflicts = 0 }),
+      Ok (record { verdict = GroupRace 0 0 WriteWrite 0; row = 1; group = 1; rows = 3; barriers = 0; conflicts = 0 }),
       (7 ∷ 8 ∷ [], (5 ∷ [], (replicate 20 0 ++ (1 ∷ 0 ∷ 0 ∷ 0 ∷ []), (2 ∷ 1 ∷ replicate 254 0, 0 ∷ 2 ∷ 0 ∷ 0 ∷ 1 ∷ 0 ∷ replicate 3069 6)))),
     )
 unfolding computing bare_all
@@ -246,11 +245,11 @@ unfolding computing
 bare_all_threads = refl
 
 -- A refusal leaves every buffer: 8; 33; 20 for too many global cells; 21 where the log has five words a cell; 30.
-unfoldable pub kept_all : Refusal → (cells global log records : ℕ) → Answer × (List ℕ × (List ℕ × (List ℕ × (List ℕ × List ℕ))))
+unfoldable pub kept_all : Refusal → (cells global log records : ℕ) → Result Outcome Refusal × (List ℕ × (List ℕ × (List ℕ × (List ℕ × List ℕ))))
 kept_all why cells global log records =
-    (answer.Refused why, (replicate cells 5, (replicate global 6, (replicate log 9, (replicate 256 8, replicate records 7)))))
+    (Err why, (replicate cells 5, (replicate global 6, (replicate log 9, (replicate 256 8, replicate records 7)))))
 
-unfoldable pub lending : Sizes → (cells global log records : ℕ) → Answer × (List ℕ × (List ℕ × (List ℕ × (List ℕ × List ℕ))))
+unfoldable pub lending : Sizes → (cells global log records : ℕ) → Result Outcome Refusal × (List ℕ × (List ℕ × (List ℕ × (List ℕ × List ℕ))))
 lending Z cells global log records =
     bare_all depositing Z 10 (replicate cells 5) (replicate global 6) (replicate log 9) (replicate 256 8) (replicate records 7)
 
@@ -298,21 +297,21 @@ its_report =
     lines "verdict=passed/row=-/group=-/othergroup=-/thread=-/other=-/kind=-/at=-/rows=3/steps=4/steps=2/barriers=0/conflicts=6/cell=5/cell=17/gcell=8/end=report"
 
 -- Its answer and the buffer after it. That report needs 151 bytes: 150 are too short and left as they were, 151 are filled, of 153 the last two are kept.
-unfoldable pub wrote : Subject → (steps cells global buffer : List ℕ) → Written × List ℕ
+unfoldable pub wrote : Subject → (steps cells global buffer : List ℕ) → Result ℕ Refusal × List ℕ
 wrote what steps cells global buffer = (writer_answer what steps cells global buffer, writer_buffer what steps cells global buffer)
 
 pub writer_lengths : map (λ n. wrote an_outcome (4 ∷ 2 ∷ []) (5 ∷ 17 ∷ []) (8 ∷ []) (replicate n 7)) (0 ∷ 150 ∷ 151 ∷ 153 ∷ []) ≡
-    (written.Refused (ReportTooLong 151), [])
-    ∷ (written.Refused (ReportTooLong 151), replicate 150 7)
-    ∷ (written.Wrote 151, its_report)
-    ∷ (written.Wrote 151, its_report ++ (7 ∷ 7 ∷ []))
+    (Err (ReportTooLong 151), [])
+    ∷ (Err (ReportTooLong 151), replicate 150 7)
+    ∷ (Ok 151, its_report)
+    ∷ (Ok 151, its_report ++ (7 ∷ 7 ∷ []))
     ∷ []
 unfolding computing an_outcome its_report wrote
 writer_lengths = refl
 
 -- 23 goes before 22, and for a run only: the own cells and the global ones are none together, or over 1,024. With one step count the report has 120 bytes, 7
 -- for each own cell of one digit and 8 for each such global one.
-unfoldable pub writing : (steps cells global : ℕ) → Written
+unfoldable pub writing : (steps cells global : ℕ) → Result ℕ Refusal
 writing steps cells global = writer_answer an_outcome (replicate steps 5) (replicate cells 5) (replicate global 5) (replicate 5 7)
 
 pub writer_cells :
@@ -321,39 +320,39 @@ pub writer_cells :
     ∷ map (λ n. writing 1 1000 n) (24 ∷ 25 ∷ [])
     ∷ (writing 1 1024 1 ∷ writing 1 1 1024 ∷ writing 1 1024 1024 ∷ [])
     ∷ []
-    ≡ (written.Refused ReportLines ∷ written.Refused (ReportTooLong 127) ∷ written.Refused (ReportTooLong 7288) ∷ written.Refused ReportLines ∷ [])
-    ∷ (written.Refused (ReportTooLong 128) ∷ written.Refused (ReportTooLong 8312) ∷ written.Refused ReportLines ∷ [])
-    ∷ (written.Refused (ReportTooLong 7312) ∷ written.Refused ReportLines ∷ [])
-    ∷ (written.Refused ReportLines ∷ written.Refused ReportLines ∷ written.Refused ReportLines ∷ [])
+    ≡ (Err ReportLines ∷ Err (ReportTooLong 127) ∷ Err (ReportTooLong 7288) ∷ Err ReportLines ∷ [])
+    ∷ (Err (ReportTooLong 128) ∷ Err (ReportTooLong 8312) ∷ Err ReportLines ∷ [])
+    ∷ (Err (ReportTooLong 7312) ∷ Err ReportLines ∷ [])
+    ∷ (Err ReportLines ∷ Err ReportLines ∷ Err ReportLines ∷ [])
     ∷ []
 unfolding computing an_outcome writing
 writer_cells = refl
 
 -- Likewise 0 and 257 step counts; with 256 of one digit and one own cell the report has 119 + 256 * 8 bytes.
 pub writer_steps : map (λ n. writing n 1 0) (0 ∷ 1 ∷ 32 ∷ 33 ∷ 256 ∷ 257 ∷ []) ≡
-    written.Refused ReportLines
-    ∷ written.Refused (ReportTooLong 127)
-    ∷ written.Refused (ReportTooLong 375)
-    ∷ written.Refused (ReportTooLong 383)
-    ∷ written.Refused (ReportTooLong 2167)
-    ∷ written.Refused ReportLines
+    Err ReportLines
+    ∷ Err (ReportTooLong 127)
+    ∷ Err (ReportTooLong 375)
+    ∷ Err (ReportTooLong 383)
+    ∷ Err (ReportTooLong 2167)
+    ∷ Err ReportLines
     ∷ []
 unfolding computing an_outcome writing
 writer_steps = refl
 
 -- Both at once.
 pub writer_both : map (λ n. writer_answer an_outcome (replicate n 5) (replicate (1025 - n) 5) [] (replicate 20000 7)) (0 ∷ 1 ∷ 32 ∷ 256 ∷ 257 ∷ []) ≡
-    written.Refused ReportLines ∷ written.Wrote 7288 ∷ written.Wrote 7319 ∷ written.Wrote 7543 ∷ written.Refused ReportLines ∷ []
+    Err ReportLines ∷ Ok 7288 ∷ Ok 7319 ∷ Ok 7543 ∷ Err ReportLines ∷ []
 unfolding computing an_outcome
 writer_both = refl
 
 -- Without any cell nothing is written; without own cells the global one is.
 pub writer_no_cells :
     wrote an_outcome (3 ∷ []) [] [] (replicate 3 7) ∷ wrote an_outcome (3 ∷ []) [] [] (replicate 200 7) ∷ wrote an_outcome (3 ∷ []) [] (4 ∷ []) (replicate 128 7) ∷ []
-    ≡ (written.Refused ReportLines, replicate 3 7)
-    ∷ (written.Refused ReportLines, replicate 200 7)
+    ≡ (Err ReportLines, replicate 3 7)
+    ∷ (Err ReportLines, replicate 200 7)
     ∷ (
-      written.Wrote 128,
+      Ok 128,
       lines "verdict=passed/row=-/group=-/othergroup=-/thread=-/other=-/kind=-/at=-/rows=3/steps=3/barriers=0/conflicts=6/gcell=4/end=report",
     )
     ∷ []
@@ -366,9 +365,9 @@ pub writer_refusal_lem :
     ∷ wrote (subject.Refused 22 98) [] [] [] (replicate 32 7)
     ∷ wrote (subject.Refused 22 98) (replicate 257 1) (replicate 1025 1) (replicate 1025 1) (replicate 31 7)
     ∷ []
-    ≡ (written.Refused (ReportTooLong 31), replicate 30 7)
-    ∷ (written.Wrote 31, lines "refused=22/place=98/end=report" ++ (7 ∷ []))
-    ∷ (written.Wrote 31, lines "refused=22/place=98/end=report")
+    ≡ (Err (ReportTooLong 31), replicate 30 7)
+    ∷ (Ok 31, lines "refused=22/place=98/end=report" ++ (7 ∷ []))
+    ∷ (Ok 31, lines "refused=22/place=98/end=report")
     ∷ []
 unfolding computing wrote
 writer_refusal_lem = refl
@@ -428,7 +427,7 @@ printed_for_groups =
 
 -- The answer and, in their order, own cells, global cells, log, records and output.
 unfoldable pub file_all : (file lent_cells lent_global lent_log lent_records output : List ℕ)
-    → Written × (List ℕ × (List ℕ × (List ℕ × (List ℕ × List ℕ))))
+    → Result ℕ Refusal × (List ℕ × (List ℕ × (List ℕ × (List ℕ × List ℕ))))
 file_all file lent_cells lent_global lent_log lent_records output = (
   file_answer file lent_cells lent_global lent_log lent_records output,
   (
@@ -443,7 +442,7 @@ file_all file lent_cells lent_global lent_log lent_records output = (
   ),
 )
 
-unfoldable pub lent_to : List ℕ → (records output : ℕ) → Written × (List ℕ × (List ℕ × (List ℕ × (List ℕ × List ℕ))))
+unfoldable pub lent_to : List ℕ → (records output : ℕ) → Result ℕ Refusal × (List ℕ × (List ℕ × (List ℕ × (List ℕ × List ℕ))))
 lent_to file records output = file_all file (replicate 1024 9) (replicate 1024 5) (replicate 8192 8) (replicate records 6) (replicate output 7)
 
 -- The report is written, 158 bytes; behind it, behind the three cells, the twenty-four words of the log and the three of one record all is kept, and all of the
@@ -451,7 +450,7 @@ lent_to file records output = file_all file (replicate 1024 9) (replicate 1024 5
 pub file_passed :
     lent_to a_file 3075 24576
     ≡ (
-      written.Wrote 158,
+      Ok 158,
       (
         1 ∷ 2 ∷ 4294967295 ∷ replicate 1021 9,
         (
@@ -470,7 +469,7 @@ file_passed = refl
 pub file_groups :
     lent_to group_file 3080 25000
     ≡ (
-      written.Wrote 182,
+      Ok 182,
       (
         0 ∷ 1 ∷ 2 ∷ 3 ∷ replicate 1020 9,
         (
@@ -496,11 +495,11 @@ unfolding computing a_file printed_for group_file printed_for_groups
 file_prints = refl
 
 -- Refusals from the state, and one from the input, which goes first: every buffer is left as it was lent.
-unfoldable pub file_kept : Refusal → (cells global log records output : ℕ) → Written × (List ℕ × (List ℕ × (List ℕ × (List ℕ × List ℕ))))
+unfoldable pub file_kept : Refusal → (cells global log records output : ℕ) → Result ℕ Refusal × (List ℕ × (List ℕ × (List ℕ × (List ℕ × List ℕ))))
 file_kept why cells global log records output =
-    (written.Refused why, (replicate cells 9, (replicate global 5, (replicate log 8, (replicate records 6, replicate output 7)))))
+    (Err why, (replicate cells 9, (replicate global 5, (replicate log 8, (replicate records 6, replicate output 7)))))
 
-unfoldable pub lending_to : List ℕ → (cells global log records output : ℕ) → Written × (List ℕ × (List ℕ × (List ℕ × (List ℕ × List ℕ))))
+unfoldable pub lending_to : List ℕ → (cells global log records output : ℕ) → Result ℕ Refusal × (List ℕ × (List ℕ × (List ℕ × (List ℕ × List ℕ))))
 lending_to file cells global log records output =
     file_all file (replicate cells 9) (replicate global 5) (replicate log 8) (replicate records 6) (replicate output 7)
 
@@ -531,8 +530,8 @@ unfolding computing
 written_over = refl
 
 -- What answers tell of a refusal, by number and place; a run and a report tell of none.
-pub answers_tell : told_by (answer.Refused (TooManyRows 5)) ∷ told_by (answer.Ran (record { verdict = Passed; row = 1; group = 6; rows = 2; barriers = 4; conflicts = 3 }))
-    ∷ told_in (written.Refused (ReportTooLong 31)) ∷ told_in (written.Wrote 31) ∷ []
+pub answers_tell : told_by (Err (TooManyRows 5)) ∷ told_by (Ok (record { verdict = Passed; row = 1; group = 6; rows = 2; barriers = 4; conflicts = 3 }))
+    ∷ told_in (Err (ReportTooLong 31)) ∷ told_in (Ok 31) ∷ []
     ≡ some (2, 5) ∷ none ∷ some (22, 31) ∷ none ∷ []
 unfolding computing
 answers_tell = refl

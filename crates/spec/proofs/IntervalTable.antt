@@ -1,11 +1,11 @@
 -- Bank conflicts of lists of cells and of rows, the records of intervals, what is lent for them and what it holds afterwards. Assumes nothing.
+use Rattle.std.specs.Prelude.{Result, Ok, Err}
 use mathlib.Core.Path.{◌≡◌, refl}
 use mathlib.Core.List.{List, [], ◌∷◌, ◌++◌, map}
 use mathlib.Core.Bool.{true, false}
 use Prim.Native.Nat.{ℕ, ◌-◌, ◌*◌}
 use lib.ListN.{length, drop, replicate}
-use Rattle.spec.specs.Answers.{Answer, Passed, Race, WriteWrite, Outside, Diverged, Spent, LogLength, RecordsLength}
-use Rattle.spec.specs.declared.Answer.TheVariants as answer
+use Rattle.spec.specs.Answers.{Outcome, Passed, Race, WriteWrite, Outside, Diverged, Spent, LogLength, RecordsLength, Refusal}
 use Rattle.spec.specs.declared.Subject.TheVariants as subject
 use Rattle.spec.specs.Op.{GLOBAL, MEM, LOAD, STORE, ATOMICADD, op_of}
 use Rattle.spec.specs.Table.{Table, row_of}
@@ -193,7 +193,7 @@ many_records_lem = refl
 unfoldable pub two_apart : List ℕ
 two_apart = 2 ∷ 0 ∷ 0 ∷ 0 ∷ 1 ∷ 1 ∷ 16 ∷ 0 ∷ 6 ∷ 2 ∷ 0 ∷ 1 ∷ []
 
-unfoldable pub launched : (table : List ℕ) → (limit : ℕ) → (log records : List ℕ) → Answer × List ℕ
+unfoldable pub launched : (table : List ℕ) → (limit : ℕ) → (log records : List ℕ) → Result Outcome Refusal × List ℕ
 launched table limit log records =
     let Z = sizes 2 17 1 0 in
     (bare_answer table Z limit (replicate 17 7) [] log records, bare_records table Z limit (replicate 17 7) [] log records)
@@ -210,11 +210,11 @@ pub each_verdict :
     ∷ launched (two_intervals (32 ∷ 0 ∷ 0 ∷ 0 ∷ 37 ∷ 0 ∷ 0 ∷ 0 ∷ 34 ∷ 0 ∷ 0 ∷ 0 ∷ [])) 100 (replicate 136 9) (replicate 3078 9)
     ∷ launched (two_intervals (37 ∷ 0 ∷ 0 ∷ 0 ∷ [])) 6 (replicate 136 9) (replicate 3079 9)
     ∷ []
-    ≡ (answer.Ran (record { verdict = Passed; row = 6; group = 0; rows = 6; barriers = 1; conflicts = 2 }), 0 ∷ 5 ∷ 1 ∷ 5 ∷ 1 ∷ 1 ∷ replicate 3069 9)
-    ∷ (answer.Ran (record { verdict = Race 1 0 WriteWrite 7; row = 6; group = 0; rows = 6; barriers = 1; conflicts = 2 }), 0 ∷ 5 ∷ 1 ∷ 5 ∷ 1 ∷ 1 ∷ replicate 3070 9)
-    ∷ (answer.Ran (record { verdict = Outside 0 49; row = 7; group = 0; rows = 7; barriers = 1; conflicts = 2 }), 0 ∷ 5 ∷ 1 ∷ 5 ∷ 2 ∷ 1 ∷ replicate 3071 9)
-    ∷ (answer.Ran (record { verdict = Diverged 1 0; row = 7; group = 0; rows = 7; barriers = 1; conflicts = 2 }), 0 ∷ 5 ∷ 1 ∷ 5 ∷ 2 ∷ 1 ∷ replicate 3072 9)
-    ∷ (answer.Ran (record { verdict = Spent; row = 6; group = 0; rows = 6; barriers = 1; conflicts = 2 }), 0 ∷ 5 ∷ 1 ∷ 5 ∷ 1 ∷ 1 ∷ replicate 3073 9)
+    ≡ (Ok (record { verdict = Passed; row = 6; group = 0; rows = 6; barriers = 1; conflicts = 2 }), 0 ∷ 5 ∷ 1 ∷ 5 ∷ 1 ∷ 1 ∷ replicate 3069 9)
+    ∷ (Ok (record { verdict = Race 1 0 WriteWrite 7; row = 6; group = 0; rows = 6; barriers = 1; conflicts = 2 }), 0 ∷ 5 ∷ 1 ∷ 5 ∷ 1 ∷ 1 ∷ replicate 3070 9)
+    ∷ (Ok (record { verdict = Outside 0 49; row = 7; group = 0; rows = 7; barriers = 1; conflicts = 2 }), 0 ∷ 5 ∷ 1 ∷ 5 ∷ 2 ∷ 1 ∷ replicate 3071 9)
+    ∷ (Ok (record { verdict = Diverged 1 0; row = 7; group = 0; rows = 7; barriers = 1; conflicts = 2 }), 0 ∷ 5 ∷ 1 ∷ 5 ∷ 2 ∷ 1 ∷ replicate 3072 9)
+    ∷ (Ok (record { verdict = Spent; row = 6; group = 0; rows = 6; barriers = 1; conflicts = 2 }), 0 ∷ 5 ∷ 1 ∷ 5 ∷ 1 ∷ 1 ∷ replicate 3073 9)
     ∷ []
 unfolding computing two_apart two_intervals launched
 each_verdict = refl
@@ -225,7 +225,7 @@ pub records_kept :
     ∷ launched (two_intervals []) 100 (replicate 135 9) (replicate 3074 9)
     ∷ launched (two_intervals []) 100 (replicate 136 9) (replicate 3074 9)
     ∷ []
-    ≡ (answer.Refused LogLength, replicate 3075 9) ∷ (answer.Refused LogLength, replicate 3074 9) ∷ (answer.Refused RecordsLength, replicate 3074 9) ∷ []
+    ≡ (Err LogLength, replicate 3075 9) ∷ (Err LogLength, replicate 3074 9) ∷ (Err RecordsLength, replicate 3074 9) ∷ []
 unfolding computing two_apart two_intervals launched
 records_kept = refl
 

@@ -1,5 +1,6 @@
 -- Item 12, computed: the common file, what two kernels are refused for, whole pairs with all that is printed, the pair's entry, and both kernels' threads in one
 -- machine. `/` stands between the lines. Assumes nothing.
+use Rattle.std.specs.Prelude.{Ok, Err}
 use mathlib.Core.Path.{◌≡◌, refl}
 use mathlib.Core.Logic.{◌⊎◌, inl, inr}
 use mathlib.Core.List.{List, [], ◌∷◌, ◌++◌, map}
@@ -7,7 +8,6 @@ use mathlib.Core.Bool.{Bool, true, false}
 use Prim.Native.Nat.{ℕ, ◌+◌, ◌-◌, ◌*◌}
 use lib.ListN.{replicate}
 use Rattle.spec.specs.Answers.{CommonFile, LineNotDue, OutputLength}
-use Rattle.spec.specs.declared.Written.TheVariants as written
 use Rattle.spec.specs.Lists.{joined}
 use Rattle.spec.specs.Text.{text}
 use Rattle.spec.specs.LaunchFile.{accepted, refused}
@@ -175,7 +175,7 @@ pub pair_room : map (λ n. told_as (pair_refusal (replicate n 7))) (49152 ∷ 49
 unfolding computing or_zero told_as
 pair_room = refl
 
-pub pair_answers : map (λ n. pair_answer [] (text "kernel=1\nthreads=33\n") no_common (replicate n 7)) (49152 ∷ 49151 ∷ []) ≡ written.Wrote 59 ∷ written.Refused OutputLength ∷ []
+pub pair_answers : map (λ n. pair_answer [] (text "kernel=1\nthreads=33\n") no_common (replicate n 7)) (49152 ∷ 49151 ∷ []) ≡ Ok 59 ∷ Err OutputLength ∷ []
 unfolding computing no_common
 pair_answers = refl
 

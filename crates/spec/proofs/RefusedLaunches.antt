@@ -1,11 +1,11 @@
 -- Bare launches that are refused: the answer is the first refusal of the order, and the lent buffers are left as they were. Assumes nothing.
+use Rattle.std.specs.Prelude.{Result, Err}
 use mathlib.Core.Path.{◌≡◌, refl}
 use mathlib.Core.List.{List, [], ◌∷◌}
 use Prim.Native.Nat.{ℕ}
 use lib.ListN.{replicate}
-use Rattle.spec.specs.Answers.{Refusal, Answer, TableLength, ThreadsOutOfRange, CellsOutOfRange, GroupsOutOfRange, TooManyCells, LimitOutOfRange, UnknownOp}
+use Rattle.spec.specs.Answers.{Outcome, Refusal, TableLength, ThreadsOutOfRange, CellsOutOfRange, GroupsOutOfRange, TooManyCells, LimitOutOfRange, UnknownOp}
 use Rattle.spec.specs.Answers.{CellsLength, LogLength, RecordsLength}
-use Rattle.spec.specs.declared.Answer.TheVariants as answer
 use Rattle.spec.specs.Shape.{Sizes, sizes}
 use Rattle.spec.specs.Entries.{bare_answer, bare_cells, bare_global, bare_log, bare_records}
 use Rattle.spec.proofs.Computing.{computing}
@@ -17,7 +17,7 @@ unfoldable pub lent_global : List ℕ
 lent_global = 7 ∷ []
 
 -- The answer, both kinds of cells, the log and the records of a bare launch.
-unfoldable pub bare : (table : List ℕ) → Sizes → (limit : ℕ) → (log records : List ℕ) → Answer × (List ℕ × (List ℕ × (List ℕ × List ℕ)))
+unfoldable pub bare : (table : List ℕ) → Sizes → (limit : ℕ) → (log records : List ℕ) → Result Outcome Refusal × (List ℕ × (List ℕ × (List ℕ × List ℕ)))
 bare table Z limit log records = (
   bare_answer table Z limit lent_cells lent_global log records,
   (
@@ -30,8 +30,8 @@ bare table Z limit log records = (
 )
 
 -- What it comes to where it is refused.
-unfoldable pub kept : Refusal → (log records : List ℕ) → Answer × (List ℕ × (List ℕ × (List ℕ × List ℕ)))
-kept why log records = (answer.Refused why, (lent_cells, (lent_global, (log, records))))
+unfoldable pub kept : Refusal → (log records : List ℕ) → Result Outcome Refusal × (List ℕ × (List ℕ × (List ℕ × List ℕ)))
+kept why log records = (Err why, (lent_cells, (lent_global, (log, records))))
 
 unfoldable pub lent_log : List ℕ
 lent_log = 1 ∷ 2 ∷ 3 ∷ 4 ∷ []

@@ -1,5 +1,5 @@
 -- The answers' types, as the source declares them (src/lib.rt), and document 01's numbers for them. Assumes nothing.
-use Rattle.std.specs.Prelude.{ℕ, Bool, true, false, List, [], ◌∷◌}
+use Rattle.std.specs.Prelude.{ℕ, Bool, true, false, List, [], ◌∷◌, Result, Ok, Err}
 use Rattle.std.proofs.Math.Option.{Option, none, some}
 pub use Rattle.spec.specs.declared.AccessKind.{AccessKind}
 pub use Rattle.spec.specs.declared.AccessKind.TheVariants.{ReadWrite, WriteRead, WriteWrite, ReadAdd, AddRead, WriteAdd, AddWrite}
@@ -11,10 +11,6 @@ pub use Rattle.spec.specs.declared.Refusal.TheVariants.{TableLength, TooManyRows
 pub use Rattle.spec.specs.declared.Refusal.TheVariants.{ThreadsOutOfRange, CellsOutOfRange, LimitOutOfRange, LineNotDue, FileTooLong}
 pub use Rattle.spec.specs.declared.Refusal.TheVariants.{CellsLength, LogLength, ReportTooLong, ReportLines, OutputLength, RecordsLength}
 pub use Rattle.spec.specs.declared.Refusal.TheVariants.{GroupsOutOfRange, TooManyCells, CommonFile}
-pub use Rattle.spec.specs.declared.Answer.{Answer}
-pub use Rattle.spec.specs.declared.Written.{Written}
-use Rattle.spec.specs.declared.Answer.TheVariants as answer
-use Rattle.spec.specs.declared.Written.TheVariants as written
 pub use Rattle.spec.specs.declared.Subject.{Subject}
 pub use Rattle.spec.specs.declared.Value.{Value}
 pub use Rattle.spec.specs.declared.Details.{Details}
@@ -75,13 +71,13 @@ unfoldable pub told : Option Refusal → Option (ℕ × ℕ)
 told none = none
 told (some r) = some (named r)
 
-unfoldable pub told_by : Answer → Option (ℕ × ℕ)
-told_by (answer.Refused r) = some (named r)
-told_by (answer.Ran o) = none
+unfoldable pub told_by : Result Outcome Refusal → Option (ℕ × ℕ)
+told_by (Err r) = some (named r)
+told_by (Ok o) = none
 
-unfoldable pub told_in : Written → Option (ℕ × ℕ)
-told_in (written.Refused r) = some (named r)
-told_in (written.Wrote size) = none
+unfoldable pub told_in : Result ℕ Refusal → Option (ℕ × ℕ)
+told_in (Err r) = some (named r)
+told_in (Ok size) = none
 
 -- A test that is refused where it fails; and the first refusal of several tests, in their order.
 unfoldable pub unless : Bool → Refusal → Option Refusal

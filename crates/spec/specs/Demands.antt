@@ -1,9 +1,7 @@
 -- Demand 3, of what the caller of each public entry holds in hand: a bare launch's answer, and the bytes of a report. Assumes nothing.
-use Rattle.std.specs.Prelude.{◌≡◌, ◌↔◌, List, [], ◌∷◌, ◌++◌, map, true, false, ℕ, ◌<◌, take}
+use Rattle.std.specs.Prelude.{◌≡◌, ◌↔◌, List, [], ◌∷◌, ◌++◌, map, true, false, ℕ, ◌<◌, take, Result, Ok, Err}
 use Rattle.std.proofs.Math.Option.{some}
-use Rattle.spec.specs.Answers.{Outcome, Answer, Written}
-use Rattle.spec.specs.declared.Answer.TheVariants as answer
-use Rattle.spec.specs.declared.Written.TheVariants as written
+use Rattle.spec.specs.Answers.{Refusal, Outcome}
 use Rattle.spec.specs.Shape.{Sizes, all_threads}
 use Rattle.spec.specs.LaunchRun.{counted_barriers}
 use Rattle.spec.specs.AllRuns.{EveryRunEndsWell, counted_in_all, PassedSays, Demand3}
@@ -17,9 +15,9 @@ abbrev pub LaunchDemand3 : Launch → Outcome → (steps final : List ℕ) → T
 LaunchDemand3 launch o steps final = Demand3 launch.table launch.sizes launch.cells launch.limit o steps final
 
 -- Of a bare launch: of the outcome that it answers, and of both kinds of cells and the step counts as the call leaves them. A refusal speaks of no run.
-abbrev pub BareDemand3 : (table : List ℕ) → Sizes → (limit : ℕ) → (lent_cells lent_global : List ℕ) → Answer → (left left_global counts : List ℕ) → Type 0
-BareDemand3 table Z limit lent_cells lent_global (answer.Refused why) left left_global counts = Unit {0}
-BareDemand3 table Z limit lent_cells lent_global (answer.Ran o) left left_global counts =
+abbrev pub BareDemand3 : (table : List ℕ) → Sizes → (limit : ℕ) → (lent_cells lent_global : List ℕ) → Result Outcome Refusal → (left left_global counts : List ℕ) → Type 0
+BareDemand3 table Z limit lent_cells lent_global (Err why) left left_global counts = Unit {0}
+BareDemand3 table Z limit lent_cells lent_global (Ok o) left left_global counts =
     LaunchDemand3 (bare_launch table Z limit lent_cells lent_global) o (take (all_threads Z) counts) (left ++ left_global)
 
 -- Every run of a launch ends well; each group's own cells at its counted barriers.
@@ -63,9 +61,9 @@ abbrev pub FileReadable : (file report : List ℕ) → Type 0
 FileReadable file report = Readable (subject_of (file_launch file)) report
 
 -- Of the report that an entry has written, which stands at the front of its output. A refusal has written none. (Answers for C: length 0.)
-abbrev pub OfWritten : (List ℕ → Type 0) → Written → (output : List ℕ) → Type 0
-OfWritten P (written.Refused why) output = Unit {0}
-OfWritten P (written.Wrote size) output = P (take size output)
+abbrev pub OfWritten : (List ℕ → Type 0) → Result ℕ Refusal → (output : List ℕ) → Type 0
+OfWritten P (Err why) output = Unit {0}
+OfWritten P (Ok size) output = P (take size output)
 
 abbrev pub OfLength : (List ℕ → Type 0) → (size : ℕ) → (output : List ℕ) → Type 0
 OfLength P size output = 0 < size → P (take size output)

@@ -1,12 +1,10 @@
 -- What each public entry answers and what it leaves in each lent buffer, for all inputs. "Turned back", "The launch file and the report". Assumes nothing.
-use Rattle.std.specs.Prelude.{List, [], ◌∷◌, ◌++◌, ◌&&◌, ℕ, ◌+◌, ◌*◌, ◌/◌, ◌%◌, eqb, leb, length, drop, replicate}
+use Rattle.std.specs.Prelude.{List, [], ◌∷◌, ◌++◌, ◌&&◌, ℕ, ◌+◌, ◌*◌, ◌/◌, ◌%◌, eqb, leb, length, drop, replicate, Result, Ok, Err}
 use Rattle.std.proofs.Math.Option.{Option, none, some}
 use Rattle.spec.specs.Limits.{max_threads, max_groups, max_launch_threads, max_cells, max_rows, max_limit, launch_log_per_cell, records_lent, file_cells, file_log, file_output}
 use Rattle.spec.specs.Answers.{Outcome, Refusal, TableLength, TooManyRows, ThreadsOutOfRange, CellsOutOfRange, GroupsOutOfRange, TooManyCells, LimitOutOfRange}
 use Rattle.spec.specs.Answers.{CellsLength, LogLength, RecordsLength, OutputLength, ReportLines, ReportTooLong}
-use Rattle.spec.specs.Answers.{Answer, Written, Subject, refusal_number, refusal_place, unless, first}
-use Rattle.spec.specs.declared.Answer.TheVariants as answer
-use Rattle.spec.specs.declared.Written.TheVariants as written
+use Rattle.spec.specs.Answers.{Subject, refusal_number, refusal_place, unless, first}
 use Rattle.spec.specs.declared.Subject.TheVariants as subject
 use Rattle.spec.specs.Table.{rows_of}
 use Rattle.spec.specs.TableCheck.{table_refusal}
@@ -58,16 +56,16 @@ bare_refusal table Z limit lent_cells lent_global lent_log lent_records =
 unfoldable pub bare_launch : (table : List ℕ) → Sizes → (limit : ℕ) → (lent_cells lent_global : List ℕ) → Launch
 bare_launch table Z limit lent_cells lent_global = record { sizes = Z; limit = limit; table = rows_of table; cells = lent_cells ++ lent_global }
 
-unfoldable pub answer_of : Option Refusal → Outcome → Answer
-answer_of none o = answer.Ran o
-answer_of (some r) o = answer.Refused r
+unfoldable pub answer_of : Option Refusal → Outcome → Result Outcome Refusal
+answer_of none o = Ok o
+answer_of (some r) o = Err r
 
 -- A buffer that a refusal leaves as it was lent.
 unfoldable pub kept_if : Option Refusal → (lent new : List ℕ) → List ℕ
 kept_if none lent new = new
 kept_if (some r) lent new = lent
 
-unfoldable pub bare_answer : (table : List ℕ) → Sizes → (limit : ℕ) → (lent_cells lent_global lent_log lent_records : List ℕ) → Answer
+unfoldable pub bare_answer : (table : List ℕ) → Sizes → (limit : ℕ) → (lent_cells lent_global lent_log lent_records : List ℕ) → Result Outcome Refusal
 bare_answer table Z limit lent_cells lent_global lent_log lent_records =
     answer_of (bare_refusal table Z limit lent_cells lent_global lent_log lent_records) (launch_outcome (bare_launch table Z limit lent_cells lent_global))
 
@@ -111,11 +109,11 @@ writer_refusal what steps cells global buffer =
     let needed = length (report_of what steps cells global) in
     first (lines_reported what steps cells global ∷ unless (leb needed (length buffer)) (ReportTooLong needed) ∷ [])
 
-unfoldable pub written_of : Option Refusal → ℕ → Written
-written_of none n = written.Wrote n
-written_of (some r) n = written.Refused r
+unfoldable pub written_of : Option Refusal → ℕ → Result ℕ Refusal
+written_of none n = Ok n
+written_of (some r) n = Err r
 
-unfoldable pub writer_answer : Subject → (steps cells global buffer : List ℕ) → Written
+unfoldable pub writer_answer : Subject → (steps cells global buffer : List ℕ) → Result ℕ Refusal
 writer_answer what steps cells global buffer = written_of (writer_refusal what steps cells global buffer) (length (report_of what steps cells global))
 
 unfoldable pub writer_buffer : Subject → (steps cells global buffer : List ℕ) → List ℕ
@@ -153,11 +151,11 @@ unfoldable pub launch_report : Launch → List ℕ
 launch_report launch = run_report (launch_outcome launch) (launch_steps launch) (own_after launch) (global_after launch)
 
 -- The answer: the refusal, or the report's length.
-unfoldable pub report_length : Checked Launch → Written
-report_length (refused r) = written.Refused r
-report_length (accepted launch) = written.Wrote (length (launch_report launch))
+unfoldable pub report_length : Checked Launch → Result ℕ Refusal
+report_length (refused r) = Err r
+report_length (accepted launch) = Ok (length (launch_report launch))
 
-unfoldable pub file_answer : (file lent_cells lent_global lent_log lent_records output : List ℕ) → Written
+unfoldable pub file_answer : (file lent_cells lent_global lent_log lent_records output : List ℕ) → Result ℕ Refusal
 file_answer file lent_cells lent_global lent_log lent_records output = report_length (file_checked file lent_cells lent_global lent_log lent_records output)
 
 -- A refusal leaves each buffer as it was lent. An accepted launch leaves what its run makes from the buffer's start; the rest is kept.

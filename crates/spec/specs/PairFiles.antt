@@ -1,8 +1,8 @@
 -- Item 12, the program pair: the common file, and what is printed of two kernels' files. Assumes nothing.
-use Rattle.std.specs.Prelude.{List, ◌++◌, ℕ, leb, length}
+use Rattle.std.specs.Prelude.{List, ◌++◌, ℕ, leb, length, Result}
 use Rattle.std.proofs.Math.Option.{Option}
 use Rattle.spec.specs.Limits.{max_common, pair_output}
-use Rattle.spec.specs.Answers.{Refusal, CommonFile, OutputLength, refusal_place, unless, Written}
+use Rattle.spec.specs.Answers.{Refusal, CommonFile, OutputLength, refusal_place, unless}
 use Rattle.spec.specs.Shape.{with_common}
 use Rattle.spec.specs.Launch.{Launch}
 use Rattle.spec.specs.LaunchFile.{Checked, refused, accepted, Read, stop, read, Reader, ◌>>=◌, ◌>>◌, gives, times, due, file_ends, exactly, number, due_number, file_launch}
@@ -49,7 +49,7 @@ pair_prints filter trigger common = kernel_prints filter common ++ kernel_prints
 unfoldable pub pair_refusal : (output : List ℕ) → Option Refusal
 pair_refusal output = unless (leb pair_output (length output)) OutputLength
 
-unfoldable pub pair_answer : (filter trigger common output : List ℕ) → Written
+unfoldable pub pair_answer : (filter trigger common output : List ℕ) → Result ℕ Refusal
 pair_answer filter trigger common output = written_of (pair_refusal output) (length (pair_prints filter trigger common))
 
 unfoldable pub pair_output_after : (filter trigger common output : List ℕ) → List ℕ

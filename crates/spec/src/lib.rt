@@ -2,7 +2,7 @@
 #![tactic(auto)]
 
 // The kind of a race: what the other thread did to the cell, then what the acting thread does to it.
-#[derive(Clone, Copy)]
+#[derive(Clone, Copy, Debug, PartialEq, Eq)]
 pub enum AccessKind {
     ReadWrite,
     WriteRead,
@@ -19,7 +19,7 @@ pub enum AccessKind {
 // Outside: the thread, the number that it used.
 // Common: the thread that would have changed a common cell, the number that it used.
 // Diverged: the lowest enabled thread, the lowest one not enabled.
-#[derive(Clone, Copy)]
+#[derive(Clone, Copy, Debug, PartialEq, Eq)]
 pub enum Verdict {
     Passed,
     Race(u32, u32, AccessKind, u32),
@@ -31,7 +31,7 @@ pub enum Verdict {
 }
 
 // What a report says beside the steps of each thread and the cells: the verdict, the row and the group where the run stopped, and the counts.
-#[derive(Clone, Copy)]
+#[derive(Clone, Copy, Debug, PartialEq, Eq)]
 pub struct Outcome {
     pub verdict: Verdict,
     pub row: u32,
@@ -43,7 +43,7 @@ pub struct Outcome {
 
 // Why an input is turned back. A case holds its place where that is no constant:
 // a line, a row, or the length that was needed.
-#[derive(Clone, Copy)]
+#[derive(Clone, Copy, Debug, PartialEq, Eq)]
 pub enum Refusal {
     TableLength,
     TooManyRows(u32),
@@ -68,29 +68,16 @@ pub enum Refusal {
     CommonFile(u32),
 }
 
-// The bare launch answers a refusal or the outcome of the run.
-#[derive(Clone, Copy)]
-pub enum Answer {
-    Refused(Refusal),
-    Ran(Outcome),
-}
-
-// The entries that write a report answer a refusal or the report's length.
-#[derive(Clone, Copy)]
-pub enum Written {
-    Refused(Refusal),
-    Wrote(usize),
-}
-
-// What a report is made of: the outcome of a run, or a refusal's number and place.
-#[derive(Clone, Copy)]
+// What a report is made of: the outcome of a run, or a refusal's number and place. It is no Result over Refusal: from C come any two words
+// (`sekufoyi_write_refusal`), and a report of a refusal is no failure.
+#[derive(Clone, Copy, Debug, PartialEq, Eq)]
 pub enum Subject {
     Ran(Outcome),
     Refused(u32, u32),
 }
 
 // What a line of a report says behind its `=`.
-#[derive(Clone, Copy)]
+#[derive(Clone, Copy, Debug, PartialEq, Eq)]
 pub enum Value {
     Hyphen,
     Number(u32),
@@ -100,7 +87,7 @@ pub enum Value {
 }
 
 // What a report says of where a run stopped.
-#[derive(Clone, Copy)]
+#[derive(Clone, Copy, Debug, PartialEq, Eq)]
 pub struct Details {
     pub row: Value,
     pub group: Value,

@@ -8,8 +8,8 @@ use lib.ListN.{length, get_or}
 use Rattle.spec.specs.LockStep.{LockState, run_row}
 use Rattle.spec.specs.Table.{Table, rows_of, row_at, end_of}
 use Rattle.layout.specs.declared.State.{State}
-use Rattle.layout.specs.declared.Next.{Next}
-use Rattle.layout.specs.declared.Next.TheVariants as next
+use Rattle.layout.specs.Next.{Next}
+use Rattle.layout.specs.Next as next
 use Rattle.layout.specs.Memory.{Computed, KeptBut, shape_by, cell_in}
 use Rattle.layout.specs.Represents.{Represents, Counts, moved_on}
 use Rattle.layout.specs.Constructs.{barrier_next, barrier_log}

@@ -8,12 +8,12 @@ use native.Mathlib.Omega.{arith}
 use native.Mathlib.Decide.{ℕ_discrete}
 use borrow.Author.Tests.{le-ltb, eq-eqb, ne_eqb}
 use lib.Dec.{eqb}
-use Rattle.layout.specs.declared.Access.{Access}
-use Rattle.layout.specs.declared.Access.TheVariants.{Done, Stop}
+use Rattle.layout.specs.Memory.{Access}
+use Rattle.std.specs.Prelude.{Ok, Err}
 use Rattle.layout.specs.declared.Turns.{Turns}
 use Rattle.layout.specs.declared.State.{State}
-use Rattle.layout.specs.declared.Next.{Next}
-use Rattle.layout.specs.declared.Next.TheVariants as next
+use Rattle.layout.specs.Next.{Next}
+use Rattle.layout.specs.Next as next
 use Rattle.layout.specs.Represents.{moved_on, reached, accessed}
 use Rattle.layout.specs.Constructs.{ConstructDone, construct_state, while_state, passed_state, diverged_next, barrier_next}
 use Rattle.layout.specs.Memory.{holding_word, cell_in, CellRegister}
@@ -70,8 +70,8 @@ module _ (op n group : ℕ) (cell : ℕ → ℕ) (s : State) (records stamps mem
       neither (inr h) = omega arith
 
       left : (a : Access) → records_after group cost s (accessed (reached s t.reach) a) records ≡ paid a (s.barriers + group) cost records
-      left Done = after_charged group cost s _ records refl
-      left (Stop v) = unfold records_after in refl
+      left (Ok tt) = after_charged group cost s _ records refl
+      left (Err v) = unfold records_after in refl
 
 -- The cells of the row's own bytes.
 pub recorded_at : (s : State) (op n group d a d' a' : ℕ) (r : Next) (records records' stamps' memo' regs : List ℕ) → d ≡ d' → a ≡ a'

@@ -1,13 +1,13 @@
 -- What a row's own function leaves, and what the row comes to. Assumes nothing.
 use Rattle.std.specs.Prelude.{◌≡◌, List, ℕ, ◌+◌, ◌*◌, ◌<◌, get_or}
 use Rattle.layout.specs.declared.State.{State}
-use Rattle.layout.specs.declared.Next.{Next}
-use Rattle.layout.specs.declared.Next.TheVariants as next
+use Rattle.layout.specs.Next.{Next}
+use Rattle.layout.specs.Next as next
 use Rattle.layout.specs.Constructs.{ConstructDone}
 use Rattle.layout.specs.Counting.{Settled, NextCounted}
 use Rattle.layout.specs.Groups.{SharedLeft}
 use Rattle.layout.specs.Running.{Steps}
-use Rattle.step.specs.declared.Operands.{Operands}
+use Rattle.layout.specs.declared.Operands.{Operands}
 use Rattle.step.specs.Recording.{RowRecorded, cell_due}
 
 -- The bytes of a row behind its op.

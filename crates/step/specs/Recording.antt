@@ -3,11 +3,11 @@ use Rattle.std.specs.Prelude.{◌≡◌, ◌⊎◌, List, map, ℕ, ◌+◌, ◌
 use Rattle.spec.specs.Mask.{Mask, mask_word, members}
 use Rattle.spec.specs.Banks.{conflict_cost}
 use Rattle.layout.specs.declared.State.{State}
-use Rattle.layout.specs.declared.Next.{Next}
-use Rattle.layout.specs.declared.Next.TheVariants as next
+use Rattle.layout.specs.Next.{Next}
+use Rattle.layout.specs.Next as next
 use Rattle.layout.specs.Memory.{cell_in}
-use Rattle.layout.specs.declared.Access.{Access}
-use Rattle.layout.specs.declared.Access.TheVariants.{Done, Stop}
+use Rattle.layout.specs.Memory.{Access}
+use Rattle.std.specs.Prelude.{Ok, Err}
 use Rattle.banks.specs.Counting.{Known, Older, own}
 use Rattle.banks.specs.Remembering.{Memo}
 use Rattle.intervals.specs.Records.{charged, records_after}
@@ -18,8 +18,8 @@ cell_due table s regs t = cell_in (get_or table (s.row * 4) 0) (get_or table (s.
 
 -- The records after a row's accesses: a row that is finished is charged.
 abbrev pub paid : Access → (earlier cost : ℕ) → List ℕ → List ℕ
-paid Done earlier cost records = charged earlier cost records
-paid (Stop v) earlier cost records = records
+paid (Ok tt) earlier cost records = charged earlier cost records
+paid (Err v) earlier cost records = records
 
 -- The row's cost, which is that of its accesses of own cells; what it leaves in the records; no stamp is a later row's, and what is remembered is right.
 pub record RowRecorded (op n group : ℕ) (cell : ℕ → ℕ) (s : State) (r : Next) (records records' stamps' memo' : List ℕ) : Type 0 where

@@ -3,7 +3,7 @@
 
 ghost use Rattle.std.specs.Prelude.{◌≡◌, ◌+◌, ◌*◌, ◌^◌, ◌<◌, ◌≤◌, length, get_or};
 ghost use Rattle.spec.specs.Limits.{log_per_cell};
-ghost use Rattle.layout.specs.declared.Next.TheVariants as next;
+ghost use Rattle.layout.specs.Next as next;
 ghost use Rattle.layout.specs.Constructs.{barrier_next, barrier_log};
 ghost use Rattle.layout.specs.Memory.{ComputeAsks, Computed, AccessAsks, InMemory, KeptBut, cell_in};
 ghost use Rattle.layout.specs.Represents.{Room, DepthAsks, moved_on, reached, accessed};
@@ -16,28 +16,14 @@ ghost use Rattle.intervals.specs.Records.{RecordAsks, records_after};
 ghost use Rattle.step.specs.Recording.{RowRecorded, paid};
 ghost use Rattle.step.specs.Arms.{OperandsAt, ConstructCounted};
 
-fn index(x: u8) -> usize
-    ensures { (result ≡ x) × (result < 256) }
-{
-    x as usize
-}
-
-// The bytes of a row behind its op.
-#[derive(Clone, Copy)]
-pub struct Operands {
-    pub d: usize,
-    pub a: usize,
-    pub b: usize,
-}
-
-pub fn row_operands(table: &[u8], row: usize) -> Operands
+pub fn row_operands(table: &[u8], row: usize) -> layout::Operands
     requires { (row < 256) × (row * 4 + 3 < length table.now) }
     ensures { OperandsAt table.now row result }
 {
-    Operands {
-        d: index(table[row * 4 + 1]),
-        a: index(table[row * 4 + 2]),
-        b: index(table[row * 4 + 3]),
+    layout::Operands {
+        d: table[row * 4 + 1] as usize,
+        a: table[row * 4 + 2] as usize,
+        b: table[row * 4 + 3] as usize,
     }
 }
 
@@ -46,16 +32,14 @@ pub fn compute_row(
     regs: &mut [u32; 512],
     n: u32,
     op: u8,
-    d: usize,
-    a: usize,
-    b: usize,
+    x: layout::Operands,
     s: layout::State,
 ) -> layout::Next
-    requires { Room s × (n ≤ 32) × (a < 256) × (b < 256) × ComputeAsks op d a b × (length regs.old ≡ 512) }
-    ensures { (result ≡ next.Go (moved_on s)) × Computed op n s.mask d a b regs.old regs.new }
+    requires { Room s × (n ≤ 32) × (x.a < 256) × (x.b < 256) × ComputeAsks op x.d x.a x.b × (length regs.old ≡ 512) }
+    ensures { (result ≡ next.Go (moved_on s)) × Computed op n s.mask x.d x.a x.b regs.old regs.new }
 {
-    compute::compute_row(regs, n, s.mask, op, d, a, b);
-    layout::Next::Go(constructs::moved(s))
+    compute::compute_row(regs, n, s.mask, op, x.d, x.a, x.b);
+    Ok(constructs::moved(s))
 }
 
 // The state with accesses logged of no cell above h.
@@ -65,12 +49,7 @@ fn reached(s: layout::State, h: u32) -> layout::State
 {
     layout::State {
         reach: s.reach | h,
-        row: s.row,
-        mask: s.mask,
-        depth: s.depth,
-        rows: s.rows,
-        since: s.since,
-        barriers: s.barriers,
+        ..s
     }
 }
 
@@ -85,79 +64,76 @@ fn after_access(
     requires { Room s × (group < 8) × RecordAsks (s.barriers + group) s.rows records.old × (cost ≤ 31) }
     ensures { (result ≡ accessed (reached s r.reach) r.access) × (records.new ≡ paid r.access (s.barriers + group) cost records.old) }
 {
-    let c = r.access;
     let z = reached(s, r.reach);
-    match c {
-        layout::Access::Done => {
+    match r.access {
+        Ok(()) => {
             intervals::charge(records, s.barriers + group, cost);
-            layout::Next::Go(constructs::moved(z))
+            Ok(constructs::moved(z))
         }
-        layout::Access::Stop(v) => layout::Next::Stop(z, v),
+        Err(verdict) => Err(layout::Stopped { state: z, verdict }),
     }
 }
 
 // The accesses of a row, and what they cost: that is found first, since a LOAD may put something else where the number of its cell was.
+// The lent slices stay apart: tried as fields of one value, each function then owed for each field a clause that it keeps its reference.
 pub fn access_row(
     regs: &mut [u32; 512],
     cells: &mut [u32],
     log: &mut [u32],
-    common: &[u32],
-    stamps: &mut [u32; 1024],
-    memo: &mut [u32; 544],
+    costs: &mut banks::Costs,
     records: &mut [u32],
-    n: u32,
+    kernel: &layout::Kernel,
     op: u8,
-    d: usize,
-    a: usize,
+    x: layout::Operands,
     group: u32,
     s: layout::State,
 ) -> layout::Next
-    requires { Room s × (group < 8) × (s.mask < 2 ^ n) × AccessAsks op d a cells.old log.old × InMemory n regs.old cells.old log.old
-        × Older (s.rows + 1) stamps.old × Memo memo.old × RecordAsks (s.barriers + group) s.rows records.old }
-    ensures { AccessDone op n d a s common.now regs.old cells.old log.old result
-        regs.new cells.new log.new × KeptBut d n regs.old regs.new × StepsOn s result
-        × RowRecorded op n group (cell_in op d a regs.old) s result records.old records.new stamps.new memo.new }
+    requires { Room s × (group < 8) × (s.mask < 2 ^ kernel.now.threads) × AccessAsks op x.d x.a cells.old log.old
+        × InMemory kernel.now.threads regs.old cells.old log.old
+        × Older (s.rows + 1) costs.old.stamps × Memo costs.old.memo × RecordAsks (s.barriers + group) s.rows records.old }
+    ensures { AccessDone op kernel.now.threads x.d x.a s kernel.now.common.now regs.old cells.old log.old result
+        regs.new cells.new log.new × KeptBut x.d kernel.now.threads regs.old regs.new × StepsOn s result
+        × RowRecorded op kernel.now.threads group (cell_in op x.d x.a regs.old) s result records.old records.new
+        costs.new.stamps costs.new.memo }
 {
-    let numbers = access::cell_register(op, d, a);
+    let row = layout::AccessRow {
+        op: layout::AccessOp::of(op),
+        d: x.d,
+        a: x.a,
+    };
+    let numbers = access::cell_register(op, x.d, x.a);
     let cost = banks::row_cost(
         regs,
         numbers,
-        n,
+        kernel.threads,
         s.mask,
-        stamps,
+        costs,
         s.rows + 1,
-        memo,
         s.row % 16,
     );
-    after_access(
-        records,
-        memory::access_row(regs, cells, log, common, n, s.mask, op, d, a),
-        cost,
-        group,
-        s,
-    )
+    let r = memory::access_row(regs, cells, log, kernel.common, kernel.threads, s.mask, row);
+    after_access(records, r, cost, group, s)
 }
 
 // The row of a construct: where it changes the mask, what was stepped under the old one is added to the step counts.
 pub fn construct_row(
     regs: &[u32; 512],
-    saved: &mut [u32; 8],
-    openers: &mut [usize; 8],
+    opened: &mut layout::OpenConstructs,
     counts: &mut [u32; 32],
     ends: &[u8; 256],
     op: u8,
     a: usize,
     s: layout::State,
 ) -> layout::Next
-    requires { Room s × (32 ≤ op) × (op ≤ 36) × ((op ≡ 32 → a < 16) × (op ≡ 35 → a < 16)) × DepthAsks op s openers.old
+    requires { Room s × (32 ≤ op) × (op ≤ 36) × ((op ≡ 32 → a < 16) × (op ≡ 35 → a < 16)) × DepthAsks op s opened.old.rows
         × Roomy s.mask (s.since + 1) counts.old }
-    ensures { ConstructCounted op a (get_or ends.now s.row 0) s regs.now saved.old openers.old counts.old result
-        saved.new openers.new counts.new }
+    ensures { ConstructCounted op a (get_or ends.now s.row 0) s regs.now opened.old.masks opened.old.rows counts.old result
+        opened.new.masks opened.new.rows counts.new }
 {
-    let row = s.row;
-    let end = index(ends[row]);
-    let z = constructs::construct_row(regs, saved, openers, op, a, end, s);
-    layout::Next::Go(stepcounts::settle(counts, op, s.mask, z))
+    let end = ends[s.row] as usize;
+    let construct = layout::ConstructOp::of(op);
+    let z = constructs::construct_row(regs, opened, construct, a, end, s);
+    Ok(stepcounts::settle(counts, op, s.mask, z))
 }
 
 // After a barrier that lets the run go on: where all have passed it, the next interval starts at the row behind it, and the log of the global cells is
@@ -199,11 +175,7 @@ pub fn barrier_row(
         × (records.new ≡ records_after group 0 s result records.old)
         × SharedAfter s result shared.old shared.new }
 {
-    match constructs::barrier_row(log, cells, n, s) {
-        layout::Next::Go(z) => {
-            next_interval(records, shared, global, group, s, z);
-            layout::Next::Go(z)
-        }
-        layout::Next::Stop(z, v) => layout::Next::Stop(z, v),
-    }
+    let z = constructs::barrier_row(log, cells, n, s)?;
+    next_interval(records, shared, global, group, s, z);
+    Ok(z)
 }

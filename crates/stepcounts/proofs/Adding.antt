@@ -3,14 +3,13 @@ use mathlib.Core.Path.{◌≡◌, refl, sym, ◌∙◌, ap, subst}
 use mathlib.Core.Logic.{◌⊎◌, inl, inr}
 use mathlib.Core.List.{List}
 use Prim.Native.Nat.{ℕ, ◌+◌, ◌-◌, ◌*◌, ◌/◌, ◌%◌, ◌^◌, ◌<◌, ◌≤◌}
-use native.Mathlib.Nat.{not-suc-le-zero, zero-div, div-eq_of_lt, lt_of_lt_of_le, mod-lt}
+use native.Mathlib.Nat.{zero-div, div-eq_of_lt, lt_of_lt_of_le, mod-lt}
 use native.Mathlib.Omega.{arith}
 use native.Mathlib.Decide.{ℕ_discrete}
 use mathlib.Core.Bool.{Bool, true, false, cond}
 use lib.Dec.{eqb}
 use lib.Pow.{field, mod-mod-pow, pow_mono, pow_pos}
-use lib.ListN.{length, get_or, set, length-set}
-use lib.Seq.{get_or-set_same, get_or-set_other}
+use lib.ListN.{length, get_or}
 use Rattle.spec.proofs.Laws.{lt_or_le}
 use Rattle.layout.specs.declared.State.{State}
 use Rattle.layout.specs.Represents.{with_since}
@@ -39,40 +38,9 @@ bit_most b k h = by (ℕ_discrete b 0)
 
 -- The first t counts are added to.
 pub record Adding (mask k : ℕ) (counts counts' : List ℕ) (t : ℕ) : Type 0 where
-  pub few : t ≤ 32
   pub size : length counts' ≡ 32
   pub done : (j : ℕ) → j < t → get_or counts' j 0 ≡ steps_of mask k counts j
   pub rest : (j : ℕ) → t ≤ j → get_or counts' j 0 ≡ get_or counts j 0
-
-module _ (mask k : ℕ) (counts : List ℕ) where
-  pub adding_none : length counts ≡ 32 → Adding mask k counts counts 0
-  adding_none l = record { few = omega arith; size = l; done = λ j h. absurd (not-suc-le-zero h); rest = λ j h. refl }
-
-  module _ (counts' : List ℕ) (t : ℕ) (A : Adding mask k counts counts' t) where
-    pub adding_more : t < 32 → Adding mask k counts (set counts' t (get_or counts' t 0 + bit_of mask t * k)) (t + 1)
-    adding_more h =
-        record {
-          few = omega arith;
-          size = length-set counts' t _ ∙ A.size;
-          done = λ j q. by j q (ℕ_discrete j t);
-          rest = λ j q. get_or-set_other counts' t j _ 0 (λ e. omega arith) ∙ A.rest j (omega arith);
-        }
-      where
-        new : ℕ
-        new = get_or counts' t 0 + bit_of mask t * k
-
-        by : (j : ℕ) → j < t + 1 → Dec (j ≡ t) → get_or (set counts' t new) j 0 ≡ steps_of mask k counts j
-        by j q (yes e) =
-            ap (λ (i : ℕ). get_or (set counts' t new) i 0) e ∙ get_or-set_same counts' t new 0 (omega (arith, A.size))
-            ∙ ap (λ (y : ℕ). y + bit_of mask t * k) (A.rest t (omega arith)) ∙ ap (steps_of mask k counts) (sym e)
-        by j q (no n) = get_or-set_other counts' t j new 0 n ∙ A.done j (omega (arith, n))
-
-    pub adding_all : 32 ≤ t → Added mask k counts counts'
-    adding_all h = record { size = A.size; each = λ j l. A.done j (omega arith) }
-
-    -- The next count has room.
-    pub adding_fits : Roomy mask k counts → t < 32 → get_or counts' t 0 + bit_of mask t * k < 4294967296
-    adding_fits r h = omega (arith, A.rest t (omega arith), r.each t h)
 
 -- Nobody's steps.
 pub nobody_bit : (t : ℕ) → bit_of 0 t ≡ 0
@@ -100,8 +68,8 @@ pub high_bit : (m t j : ℕ) → t ≤ j → bit_of (m % 2 ^ t) j ≡ 0
 high_bit m t j h = ap (λ (x : ℕ). x % 2) (div-eq_of_lt (lt_of_lt_of_le (mod-lt m (pow_pos t)) (pow_mono {i = t} {j = j} h)))
 
 -- Room for a mask is room for those of it below a thread.
-pub roomy_below : (mask k t : ℕ) (counts : List ℕ) → Roomy mask k counts → Roomy (mask % 2 ^ t) k counts
-roomy_below mask k t counts r = record { size = r.size; each = λ j l. by j l (lt_or_le j t) }
+pub roomy_below : (mask k t low : ℕ) (counts : List ℕ) → low ≡ mask % 2 ^ t → Roomy mask k counts → Roomy low k counts
+roomy_below mask k t low counts e r = rw e (record { size = r.size; each = λ j l. by j l (lt_or_le j t) })
   where
     by : (j : ℕ) → j < 32 → (j < t) ⊎ (t ≤ j) → steps_of (mask % 2 ^ t) k counts j < 4294967296
     by j l (inl h) = subst (λ (b : ℕ). get_or counts j 0 + b * k < 4294967296) (sym (low_bit mask t j h)) (r.each j l)

@@ -9,11 +9,11 @@ use borrow.Author.Tests.{eq-eqb, ne_eqb}
 use lib.Dec.{eqb}
 use lib.ListN.{length}
 use Rattle.spec.specs.LockStep.{Step, continues, stops}
-use Rattle.layout.specs.declared.Access.{Access}
-use Rattle.layout.specs.declared.Access.TheVariants.{Done, Stop}
+use Rattle.layout.specs.Memory.{Access}
+use Rattle.std.specs.Prelude.{Ok, Err}
 use Rattle.layout.specs.declared.State.{State}
-use Rattle.layout.specs.declared.Next.{Next}
-use Rattle.layout.specs.declared.Next.TheVariants as next
+use Rattle.layout.specs.Next.{Next}
+use Rattle.layout.specs.Next as next
 use Rattle.layout.specs.Represents.{Represents, After, gone_on, moved_on, with_since, reached, accessed}
 use Rattle.layout.specs.Memory.{holding_word}
 use Rattle.layout.specs.Constructs.{if_state, else_state, endif_state, while_depth, left_state, while_state, endwhile_state, construct_state}
@@ -32,20 +32,20 @@ step_by op s r h k = rw (ne_eqb op 37 h, ne_eqb op 34 k)
 
 -- A computing row, and a row of accesses.
 pub counts_on : (op : ℕ) (s : State) (r : Next) (counts : List ℕ) → op < 32 → length counts ≡ 32 → StepsOn s r → NextCounted op s r counts counts
-counts_on op s (next.Go r) counts h l (em, es) =
+counts_on op s (Ok r) counts h l (em, es) =
     record {
       size = l;
       each = λ t q. ap₂ (λ (m k : ℕ). steps_of m k counts t) em es ∙ one_more s.mask s.since counts t
           ∙ ap (λ (m : ℕ). steps_of s.mask s.since counts t + bit_of m t) (sym (step_by op s r (λ e. omega arith) (λ e. omega arith)));
     }
-counts_on op s (next.Stop r v) counts h l (em, es) = (em, es, refl)
+counts_on op s (Err x) counts h l (em, es) = (em, es, refl)
 
 pub moved_on_lem : (s r : State) → r ≡ moved_on s → StepsOn s (next.Go r)
 moved_on_lem s r e = (ap (λ x. x.mask) e, ap (λ x. x.since) e)
 
 pub accessed_on : (s : State) (g : ℕ) (a : Access) (r : Next) → r ≡ accessed (reached s g) a → StepsOn s r
-accessed_on s g Done r e = subst (StepsOn s) (sym e) (refl, refl)
-accessed_on s g (Stop v) r e = subst (StepsOn s) (sym e) (refl, refl)
+accessed_on s g (Ok tt) r e = subst (StepsOn s) (sym e) (refl, refl)
+accessed_on s g (Err v) r e = subst (StepsOn s) (sym e) (refl, refl)
 
 -- BARRIER: nobody steps.
 barrier_step : (s r : State) → stepping 37 s r ≡ 0

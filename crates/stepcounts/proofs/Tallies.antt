@@ -4,6 +4,7 @@ use mathlib.Core.List.{List, [], ◌∷◌, ◌++◌}
 use Prim.Native.Nat.{ℕ, zero, suc, ◌+◌, ◌-◌, ◌*◌, ◌%◌, ◌^◌, ◌<◌, ◌≤◌}
 use native.Mathlib.Omega.{arith}
 use lib.ListN.{length, get_or, take, drop, replicate, length-replicate, length-append, length-take}
+use Rattle.std.proofs.lemmas.List.{ext_get_or}
 use Rattle.spec.specs.declared.Verdict.{Verdict}
 use Rattle.spec.specs.declared.Verdict.TheVariants.{Passed, Race, GroupRace, Outside, Common, Diverged, Spent}
 use Rattle.spec.specs.Mask.{Mask, mask_word, members}
@@ -17,13 +18,6 @@ use Rattle.layout.specs.Counting.{bit_of, steps_of, Roomy, Added, stepping, RowC
 use Rattle.stepcounts.proofs.Adding.{bit_add, bit_most, nobody_bit}
 use Rattle.stepcounts.proofs.Members.{stepped_by_mask, acted_below, stopper_below, below_bit}
 use Rattle.stepcounts.proofs.RowSteps.{Before, StoppedRow}
-
--- Two lists of one length with the same words are one.
-same_words : (xs ys : List ℕ) → length xs ≡ length ys → ((t : ℕ) → t < length xs → get_or xs t 0 ≡ get_or ys t 0) → xs ≡ ys
-same_words [] [] l h = refl
-same_words [] (y ∷ ys) l h = absurd (omega arith)
-same_words (x ∷ xs) [] l h = absurd (omega arith)
-same_words (x ∷ xs) (y ∷ ys) l h = ap₂ (λ (a : ℕ) (b : List ℕ). a ∷ b) (h 0 (omega arith)) (same_words xs ys (omega arith) (λ t q. h (suc t) (omega arith)))
 
 -- Counts written over zeros: a thread behind the last has 0 either way.
 padded_at : (xs : List ℕ) (k t : ℕ) → get_or (xs ++ replicate k 0) t 0 ≡ get_or xs t 0
@@ -43,7 +37,7 @@ over_zeros xs k = ap (λ (l : List ℕ). xs ++ l) (drop_zeros (length xs) k)
 counts_are : (xs counts : List ℕ) → length xs ≤ 32 → length counts ≡ 32 → ((t : ℕ) → t < 32 → get_or counts t 0 ≡ get_or xs t 0)
     → counts ≡ over xs (replicate 32 0)
 counts_are xs counts l e h =
-    same_words counts (xs ++ replicate (32 - length xs) 0)
+    ext_get_or 0 counts (xs ++ replicate (32 - length xs) 0)
     (omega (arith, length-append xs (replicate (32 - length xs) 0), length-replicate {A = ℕ} (32 - length xs) 0))
     (λ t q. h t (omega arith) ∙ sym (padded_at xs (32 - length xs) t))
     ∙ sym (over_zeros xs 32)

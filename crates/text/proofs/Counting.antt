@@ -2,6 +2,7 @@
 use mathlib.Core.Path.{◌≡◌, refl}
 use mathlib.Core.List.{List, [], ◌∷◌}
 use mathlib.Core.Bool.{Bool, true, false, cond, not, ◌&&◌, and-false, and-true, or-true}
+use mathlib.Core.Logic.{inl, inr}
 use mathlib.Core.Option.{none, some}
 use Prim.Native.Nat.{ℕ, ◌+◌, ◌-◌, ◌*◌, ◌<◌, ◌≤◌}
 use native.Mathlib.Numerals.{add-one}
@@ -10,6 +11,7 @@ use borrow.Author.Tests.{eq-eqb, ne_eqb, lt-ltb, le-ltb, le-leb, lt-leb, ltb-tru
 use lib.Dec.{eqb, ltb}
 use lib.ListN.{length, get_or, drop, drop_of_length-le}
 use lib.Seq.{drop-cons}
+use Rattle.std.specs.Char.{IsNotAsciiDigit}
 use Rattle.spec.specs.Lists.{every}
 use Rattle.spec.specs.Text.{is_digit, is_number, digits_value, number_below}
 use Rattle.text.specs.Numbers.{digits_below}
@@ -41,6 +43,10 @@ pub above_digits : (bound v : ℕ) (s : List ℕ) (i x : ℕ) → i < length s �
 unfolding digits_below every is_digit digits_value
 above_digits bound v s i x h e l = rw (drop-cons s i 0 h, ← e, le-leb 48 x (omega arith), le-ltb x 58 (omega arith))
 
+pub no_digit_there : (bound v : ℕ) (s : List ℕ) (i : ℕ) → i < length s → IsNotAsciiDigit (get_or s i 0) → digits_below bound v (drop i s) ≡ none
+no_digit_there bound v s i h (inl l) = below_digits bound v s i (get_or s i 0) h refl l
+no_digit_there bound v s i h (inr l) = above_digits bound v s i (get_or s i 0) h refl l
+
 pub no_more : (bound v : ℕ) (s : List ℕ) (i : ℕ) → length s ≤ i → v < bound → digits_below bound v (drop i s) ≡ some v
 unfolding digits_below every digits_value
 no_more bound v s i h l = rw (drop_of_length-le s {i = i} h, lt-ltb v bound l)
@@ -66,6 +72,15 @@ pub other_first : (bound : ℕ) (s : List ℕ) → (length s ≡ 0 → ⊥) → 
 unfolding number_below is_number digits_below
 other_first bound [] n m = absurd (n refl)
 other_first bound (x ∷ xs) n m = rw (ne_eqb x 48 m, and-true (every is_digit (x ∷ xs)))
+
+pub leading_zero : (bound x : ℕ) (xs : List ℕ) → x ≡ 48 → (length xs ≡ 0 → ⊥) → number_below bound (x ∷ xs) ≡ none
+leading_zero bound x xs e n = zero_first bound (x ∷ xs) (λ z. omega arith) (λ z. n (omega arith)) e
+
+pub lone_zero : (bound x : ℕ) (xs : List ℕ) → length xs ≡ 0 → number_below bound (x ∷ xs) ≡ digits_below bound 0 (x ∷ xs)
+lone_zero bound x xs e = one_digit bound (x ∷ xs) (omega arith)
+
+pub no_zero : (bound x : ℕ) (xs : List ℕ) → (x ≡ 48 → ⊥) → number_below bound (x ∷ xs) ≡ digits_below bound 0 (x ∷ xs)
+no_zero bound x xs n = other_first bound (x ∷ xs) (λ z. omega arith) n
 
 -- A number that was read is below its bound.
 some_below : (bound v n : ℕ) (t : Bool) → cond (t && ltb n bound) (some n) none ≡ some v → v < bound

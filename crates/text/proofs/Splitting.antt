@@ -1,17 +1,19 @@
--- That the first b of a text divides it as the definition does, and what a part from a place to the end is. Assumes nothing.
-use mathlib.Core.Path.{◌≡◌, refl, sym, ◌∙◌}
+-- That the first b of a text divides it as the definition does. Assumes nothing.
+use mathlib.Core.Path.{◌≡◌, refl, sym}
 use mathlib.Core.List.{List, [], ◌∷◌}
-use mathlib.Core.Bool.{Bool, true, false}
+use mathlib.Core.Bool.{Bool, true, false, cond}
 use mathlib.Core.Option.{none, some}
-use Prim.Native.Nat.{ℕ, zero, suc, ◌+◌, ◌-◌, ◌<◌, ◌≤◌}
+use Prim.Native.Nat.{ℕ, zero, suc, ◌+◌, ◌<◌}
 use native.Mathlib.Numerals.{add-one}
 use native.Mathlib.Omega.{arith}
-use borrow.Author.Tests.{eq-eqb, ne_eqb, lt-ltb, le-ltb, ltb-true, ltb-false}
-use lib.Dec.{ltb}
-use lib.ListN.{length, get_or, take, drop, length-drop, drop_of_length-le}
-use lib.Seq.{take_all, length-take-le}
+use borrow.Author.Tests.{eq-eqb, ne_eqb, eqb-true, eqb-false, ltb-true, ltb-false}
+use lib.Dec.{eqb, ltb}
+use lib.ListN.{length, get_or, take, drop}
+use Rattle.std.specs.Prelude.{Option, Some, None}
+use Rattle.std.specs.List.{position_or_len}
+use Rattle.std.proofs.lemmas.List.Sums.{passes_at_first, fails_before_first}
+use Rattle.std.proofs.lemmas.Option.{cond_some, none-some}
 use Rattle.spec.specs.Text.{starting_with, split_at}
-use Rattle.text.specs.Parts.{halves, front_in, back_in, front_of, back_of, First}
 
 first_at : (b : ℕ) (s : List ℕ) (i : ℕ) → i < length s → get_or s i 0 ≡ b → ((k : ℕ) → k < i → get_or s k 0 ≡ b → ⊥)
     → split_at b s ≡ some (record { before = take i s; behind = drop (suc i) s })
@@ -21,51 +23,24 @@ first_at b (x ∷ xs) zero h e n = simp (eq-eqb x b e)
 first_at b (x ∷ xs) (suc i) h e n =
     simp (ne_eqb x b (n zero (omega arith)), first_at b xs i (omega arith) e (λ k l. n (suc k) (omega arith)))
 
-pub found : (b : ℕ) (s : List ℕ) (i : ℕ) → i < length s → get_or s i 0 ≡ b → ((k : ℕ) → k < i → get_or s k 0 ≡ b → ⊥)
-    → First b s (take i s)
-unfolding halves front_of front_in
-found b s i h e n =
-    let l : i ≤ length s = omega arith in
-    record {
-      part = rw (first_at b s i h e n);
-      split = rw (first_at b s i h e n, length-take-le i s l, lt-ltb i (length s) h, add-one i);
-    }
-
 never : (b : ℕ) (s : List ℕ) → ((k : ℕ) → k < length s → get_or s k 0 ≡ b → ⊥) → split_at b s ≡ none
 unfolding split_at starting_with
 never b [] n = refl
 never b (x ∷ xs) n = simp (ne_eqb x b (n zero (omega arith)), never b xs (λ k l. n (suc k) (omega arith)))
 
-pub missing : (b : ℕ) (s : List ℕ) (i : ℕ) → length s ≤ i → ((k : ℕ) → k < i → get_or s k 0 ≡ b → ⊥) → First b s s
-unfolding halves front_of front_in
-missing b s i h n =
-    let e : split_at b s ≡ none = never b s (λ k l. n k (omega arith)) in
-    record { part = rw e; split = rw (e, le-ltb (length s) (length s) (omega arith)) }
+-- The place of the first b, as `position` answers it.
+abbrev pub place_of : ℕ → List ℕ → Option ℕ
+place_of b s = cond (ltb (position_or_len (λ x. eqb x b) s) (length s)) (Some (position_or_len (λ x. eqb x b) s)) None
 
-pub whole : (l : List ℕ) (n : ℕ) → take (length l - n) (drop n l) ≡ drop n l
-whole l n = take_all (length l - n) (drop n l) (simp length-drop (omega arith))
+pub found : (b : ℕ) (s : List ℕ) (i : ℕ) → place_of b s ≡ Some i → split_at b s ≡ some (record { before = take i s; behind = drop (i + 1) s })
+found b s i e =
+    let h = cond_some _ _ _ e in
+    rw (add-one i, ← h.1)
+    (first_at b s _ (ltb-true _ _ h.0) (eqb-true _ _ (passes_at_first (λ x. eqb x b) s 0 (ltb-true _ _ h.0))) (λ k l. eqb-false _ _ (fails_before_first (λ x. eqb x b) s k 0 l)))
 
--- Behind the end there is nothing.
-pub past : (l : List ℕ) (n m : ℕ) → length l ≤ n → length l ≤ m → drop n l ≡ drop m l
-past l n m h k = drop_of_length-le l {i = n} h ∙ sym (drop_of_length-le l {i = m} k)
-
--- What a caller learns of a part before the first b, by whether it is shorter than the text.
-pub cut : (b : ℕ) (s front : List ℕ) → First b s front → length front < length s
-    → split_at b s ≡ some (record { before = front; behind = drop (length front + 1) s })
-unfolding halves
-cut b s front f h = f.split ∙ rw (lt-ltb (length front) (length s) h)
-
-pub uncut : (b : ℕ) (s front : List ℕ) → First b s front → length s ≤ length front → split_at b s ≡ none
-unfolding halves
-uncut b s front f h = f.split ∙ rw (le-ltb (length front) (length s) h)
-
--- What is left behind that part is what the definition has behind the first b.
-left_by : (b : ℕ) (s front : List ℕ) → First b s front → (t : Bool) → ltb (length front) (length s) ≡ t → drop (length front + 1) s ≡ back_of b s
-unfolding back_of back_in
-left_by b s front f true e = rw (cut b s front f (ltb-true (length front) (length s) e))
-left_by b s front f false e =
-    let h : length s ≤ length front = ltb-false (length front) (length s) e in
-    rw (uncut b s front f h) (drop_of_length-le s {i = length front + 1} (omega arith))
-
-pub left : (b : ℕ) (s front : List ℕ) → First b s front → drop (length front + 1) s ≡ back_of b s
-left b s front f = left_by b s front f (ltb (length front) (length s)) refl
+pub missing : (b : ℕ) (s : List ℕ) → place_of b s ≡ None → split_at b s ≡ none
+missing b s e = by (ltb (position_or_len (λ x. eqb x b) s) (length s)) refl e
+  where
+    by : (t : Bool) → ltb (position_or_len (λ x. eqb x b) s) (length s) ≡ t → cond t (Some (position_or_len (λ x. eqb x b) s)) None ≡ None → split_at b s ≡ none
+    by true q p = absurd (none-some _ (sym p))
+    by false q p = never b s (λ k l. eqb-false _ _ (fails_before_first (λ x. eqb x b) s k 0 (omega (arith, ltb-false _ _ q))))

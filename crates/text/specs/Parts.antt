@@ -1,11 +1,14 @@
--- A text in two at a first byte, and at the end of a part that it begins with. Assumes nothing.
-use Rattle.std.specs.Prelude.{◌≡◌, List, [], cond, ℕ, ◌+◌, ltb, length, drop}
+-- A text in two at a first byte. Assumes nothing.
+use Rattle.std.specs.Prelude as std
+use Rattle.std.specs.Prelude.{◌≡◌, List, [], ℕ}
+use denote.Ref.{Bor}
 use Rattle.std.proofs.Math.Option.{Option, none, some}
 use Rattle.spec.specs.Text.{Halves, split_at}
 
--- A part that is shorter than the text has the byte that was looked for behind it. One that is as long has none.
-unfoldable pub halves : List ℕ → (front : List ℕ) → Option Halves
-halves s front = cond (ltb (length front) (length s)) (some (record { before = front; behind = drop (length front + 1) s })) none
+-- The parts that the source answers, as the definition has them.
+abbrev pub halves_of : std.Option (Bor (List ℕ) × Bor (List ℕ)) → Option Halves
+halves_of std.None = none
+halves_of (std.Some p) = some (record { before = p.0.now; behind = p.1.now })
 
 -- The part before the first b, or else all; and the part behind it, or else none.
 unfoldable pub front_in : List ℕ → Option Halves → List ℕ
@@ -21,7 +24,3 @@ front_of b s = front_in s (split_at b s)
 
 unfoldable pub back_of : ℕ → List ℕ → List ℕ
 back_of b s = back_in (split_at b s)
-
-pub record First (b : ℕ) (s front : List ℕ) : Type 0 where
-  pub part : front ≡ front_of b s
-  pub split : split_at b s ≡ halves s front

@@ -1,107 +1,45 @@
-// Parts of a text at a first byte, equal texts, and numbers in base ten. A part is a slice of the text itself.
+// A text in two at a first byte, and numbers in base ten. A part is a slice of the text itself.
 #![tactic(auto)]
 
-ghost use Rattle.std.specs.Prelude.{◌≡◌, ◌+◌, ◌≤◌, ◌^◌, length, drop};
-ghost use Rattle.spec.specs.Text.{number_below};
-ghost use Rattle.spec.specs.Lists.{equal_list};
-ghost use Rattle.text.specs.Parts.{First};
+ghost use Rattle.std.specs.Prelude.{◌≡◌, ◌≤◌, ◌^◌};
+ghost use Rattle.spec.specs.Text.{split_at, number_below};
+ghost use Rattle.text.specs.Parts.{halves_of};
 ghost use Rattle.text.specs.Numbers.{number_of, digits_below};
 
-// A number below a bound, or none.
-#[derive(Clone, Copy)]
-pub enum Number {
-    Value(u32),
-    Bad,
-}
-
-// The part before the first b; where there is no b, all of s.
-pub fn before<'a>(s: &'a [u8], b: u8) -> &'a [u8]
-    ensures { First b s.now result.now }
+// The parts before and behind the first b.
+pub fn split_once<'a>(s: &'a [u8], b: u8) -> Option<(&'a [u8], &'a [u8])>
+    ensures { halves_of result ≡ split_at b s.now }
 {
-    let mut i = 0;
-    while i < s.len() {
-        if s[i] == b {
-            return &s[..i];
-        }
-        i += 1;
-    }
-    s
+    let at = s.iter().position(|byte| *byte == b)?;
+    Some((&s[..at], &s[at + 1..]))
 }
 
-// What is left of s behind a part that it begins with, and behind the byte after that part.
-pub fn behind<'a, 'b>(s: &'a [u8], front: &'b [u8]) -> &'a [u8]
-    ensures { result.now ≡ drop (length front.now + 1) s.now }
-{
-    let n = front.len();
-    if n < s.len() {
-        let from = n + 1;
-        &s[from..]
-    } else {
-        let end = s.len();
-        &s[end..]
-    }
-}
-
-// Whether two texts are equal.
-pub fn same(s: &[u8], key: &[u8]) -> bool
-    ensures { result ≡ equal_list s.now key.now }
-{
-    if s.len() != key.len() {
-        return false;
-    }
-    let mut i = 0;
-    while i < s.len() {
-        if s[i] != key[i] {
-            return false;
-        }
-        i += 1;
-    }
-    true
-}
-
-fn wide(b: u8) -> u64
-    ensures { result ≡ b }
-{
-    b as u64
-}
-
-// The value of digits, where it is below the bound. It stops at the bound, so that no value is too large for a u64.
-fn digits(s: &[u8], bound: u64) -> Number
+// The value of digits, where it is below the bound. It stops at the bound, so that no value is too large for a u64. Not std's `parse`, which takes a sign.
+fn digits(s: &[u8], bound: u64) -> Option<u32>
     requires { (1 ≤ bound) × (bound ≤ 2 ^ 32) }
     ensures { digits_below bound 0 s.now ≡ number_of result }
 {
     let mut value: u64 = 0;
-    let mut i = 0;
-    while i < s.len() {
-        let b = wide(s[i]);
-        if b < 48 {
-            return Number::Bad;
+    for byte in s {
+        if !byte.is_ascii_digit() {
+            return None;
         }
-        if 57 < b {
-            return Number::Bad;
-        }
-        value = 10 * value + (b - 48);
+        value = 10 * value + u64::from(*byte - b'0');
         if bound <= value {
-            return Number::Bad;
+            return None;
         }
-        i += 1;
     }
-    Number::Value(value as u32)
+    Some(value as u32)
 }
 
 // A number without leading zeros, where it is below the bound.
-pub fn number_below(s: &[u8], bound: u64) -> Number
+pub fn number_below(s: &[u8], bound: u64) -> Option<u32>
     requires { (1 ≤ bound) × (bound ≤ 2 ^ 32) }
     ensures { number_below bound s.now ≡ number_of result }
 {
-    if s.len() == 0 {
-        return Number::Bad;
-    }
-    if s.len() == 1 {
-        return digits(s, bound);
-    }
-    if s[0] == 48 {
-        return Number::Bad;
+    let (first, others) = s.split_first()?;
+    if *first == b'0' && !others.is_empty() {
+        return None;
     }
     digits(s, bound)
 }

@@ -18,8 +18,7 @@ pub fn in_launch(group: u32, threads: u32, t: InGroup) -> InLaunch
     requires { (group < 8) × (threads ≤ 32) × (t.number < 32) }
     ensures { (result.number ≡ group * threads + t.number) × (result.number < 256) }
 {
-    let local = t.number;
     InLaunch {
-        number: group * threads + local,
+        number: group * threads + t.number,
     }
 }

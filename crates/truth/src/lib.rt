@@ -10,17 +10,16 @@ fn zero_lanes(regs: &[u32; 512], a: usize) -> u32
     ensures { ZerosAre a regs.now 32 result }
 {
     let mut z: u32 = 0;
-    let mut t = 0;
-    while t < 32 {
+    for t in 0..32 {
         if regs[a * 32 + t] == 0 {
-            z = z | (1 << t);
+            z |= 1 << t;
         }
-        t += 1;
     }
     z
 }
 
 // Those of the mask whose register a is nonzero.
+#[tactic(auto, unfolding(layout::specs::Memory::holding_word))]
 pub fn holding(regs: &[u32; 512], mask: u32, a: usize) -> u32
     requires { a < 16 }
     ensures { result ≡ holding_word mask a regs.now }

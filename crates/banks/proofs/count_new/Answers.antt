@@ -1,10 +1,7 @@
--- `banks::count_new` meets its contract. Assumes nothing.
+-- `banks::count_new` meets its contract where no number is an own cell's. Assumes nothing.
 use Rattle.banks.proofs.Memory.{older_still}
-use Rattle.banks.proofs.Near.{counted_far, counted_fewer}
+use Rattle.banks.proofs.Near.{counted_far}
 use Rattle.banks.proofs.count_new.Goals as goal
 
 pub returns-then-all_far : goal.returns-then-all_far
-returns-then-all_far c = counted_far _ _ _ _ _ (c.all_far.ensures c.if-all_far.true) (older_still _ _ c.requires.3)
-
-pub returns : goal.returns
-returns c = counted_fewer _ _ _ _ _ _ c.requires.2 c.count_row.ensures
+returns-then-all_far c = counted_far _ _ _ _ _ (c.all_far.ensures c.if-all_far.true) (older_still _ _ c.requires.2)

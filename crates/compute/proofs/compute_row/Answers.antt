@@ -14,4 +14,4 @@ returns c =
     let some-away = c.if-mask-all.false in
     let all = c.all-all in
     let value-lanes = c.value_lanes-v in
-    λ k o group. some_stored (value-lanes.ensures.of k o group) some-away all.ensures c.bits_of.ensures c.put.ensures
+    λ k o group. some_stored (value-lanes.ensures.of k o group) c.bits_of.result some-away all.ensures c.bits_of.ensures c.put.ensures

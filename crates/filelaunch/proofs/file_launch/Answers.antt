@@ -1,39 +1,18 @@
 -- `filelaunch::file_launch` meets its contract. Assumes nothing.
-use native.Mathlib.Omega.{arith}
-use Rattle.filelaunch.proofs.Whole.{few_rows_lem, table_used, table_length, whole_rows, checked_is, lines_turned_back}
+use Rattle.std.proofs.lemmas.Result.{err_from_is_err_and}
+use Rattle.filelaunch.proofs.Whole.{table_turned_back, checked_is, lines_turned_back}
 use Rattle.filelaunch.proofs.file_launch.Goals as goal
 
-pub returns-in-Refused : goal.returns-in-Refused
-returns-in-Refused c =
-    let lines = c.read_launch-parsed in
-    lines_turned_back c.args.file.now lines.result lines.ensures _ _ c.in-Refused.is
+pub returns-in_err-launch : goal.returns-in_err-launch
+returns-in_err-launch c =
+    let p = err_from_is_err_and c.from_residual.result c.from_residual.ensures.1 in
+    rw (p.1, p.2) (lines_turned_back _ _ c.in_err-launch.ensures)
 
-pub overflow_mul-used : goal.overflow_mul-used
-overflow_mul-used c =
-    let lines = c.read_launch-parsed in
-    let file = c.args.file.now in
-    omega (arith, few_rows_lem file lines.result lines.ensures c.in_default.is)
-
-pub slice_bounds-table-end : goal.slice_bounds-table-end
-slice_bounds-table-end c =
-    let lines = c.read_launch-parsed in
-    table_used c.args.file.now lines.result lines.ensures c.in_default.is
-
-pub slice_bounds-read_table-end : goal.slice_bounds-read_table-end
-slice_bounds-read_table-end c =
-    let lines = c.read_launch-parsed in
-    table_length c.args.file.now lines.result lines.ensures
-    c.in_default.is
-
-pub read_table-read-requires : goal.read_table-read-requires
-read_table-read-requires c =
-    let lines = c.read_launch-parsed in
-    whole_rows c.args.file.now lines.result lines.ensures
-    c.in_default.is
+pub returns-in_err-ends : goal.returns-in_err-ends
+returns-in_err-ends c =
+    let p = err_from_is_err_and c.from_residual-in_err-ends.result c.from_residual-in_err-ends.ensures.1 in
+    rw (p.1, p.2) (table_turned_back _ _ c.in_ok-launch.ensures _ (rw c.table_bytes.ensures at c.in_err-ends.ensures.answer))
 
 pub returns : goal.returns
 returns c =
-    let table = c.read_table-read in
-    let lines = c.read_launch-parsed in
-    checked_is c.args.file.now lines.result lines.ensures
-    c.in_default.is _ _ table.ensures.answer table.ensures.ends
+    checked_is _ _ c.in_ok-launch.ensures _ (rw c.table_bytes.ensures at c.in_ok-ends.ensures.answer) (rw c.table_bytes.ensures at c.in_ok-ends.ensures.ends)

@@ -4,18 +4,16 @@ use mathlib.Core.Path.{refl}
 use borrow.Author.Rules.{rules}
 use Rattle.filereport.proofs.report_file.Goals as goal
 
-pub returns-in-Wrote : goal.returns-in-Wrote
-returns-in-Wrote c =
-    let check-file = c.check_file in
-    let args = c.args in
-    let told = run_printed args.file.now _ _ _ _ args.output.now refl refl refl refl (search rules) _ _ (search rules) check-file.ensures.answer
-    check-file.ensures.output _ c.in-Wrote.is in
-    record { long = told.0; written = told.1.0; fits = told.1.1.0; reads = told.1.1.1.0; runs = told.1.1.1.1 }
+pub returns-in-Ok : goal.returns-in-Ok
+returns-in-Ok c =
+    let checked = c.check_file.ensures in
+    let told = run_printed c.args.file.now _ _ _ _ c.args.output.now refl refl refl refl (search rules) _ _ (search rules) checked.answer checked.output _ c.in-Ok.is in
+    record { long = told.long; written = told.written; fits = told.fits; reads = told.reads; runs = told.runs }
 
-pub returns-in-Refused : goal.returns-in-Refused
-returns-in-Refused c =
-    let check-file = c.check_file in
-    let args = c.args in
-    let told = refusal_printed args.file.now _ _ _ _ args.output.now refl refl refl refl (search rules) _ _ (search rules) check-file.ensures.answer
-    check-file.ensures.output _ _ _ c.in-Refused.is (c.report_refusal.ensures.long, (c.report_refusal.ensures.written, c.report_refusal.ensures.fits)) in
-    record { long = told.0; written = told.1.0; fits = told.1.1.0; reads = told.1.1.1.0; runs = told.1.1.1.1 }
+pub returns-in-Err : goal.returns-in-Err
+returns-in-Err c =
+    let checked = c.check_file.ensures in
+    let refused = c.report_refusal.ensures in
+    let told = refusal_printed c.args.file.now _ _ _ _ c.args.output.now refl refl refl refl (search rules) _ _ (search rules) checked.answer checked.output _ _ _ c.in-Err.is
+    refused.long refused.written refused.fits in
+    record { long = told.long; written = told.written; fits = told.fits; reads = told.reads; runs = told.runs }

@@ -17,8 +17,8 @@ invariant-loop-log l = let W₀ : Buffers = record {
   records = l.initial.records;
   counts = l.initial.counts;
   steps = l.initial.steps;
-  stamps = l.initial.stamps;
-  memo = l.initial.memo;
+  stamps = l.initial.costs.stamps;
+  memo = l.initial.costs.memo;
 } in
     let W : Buffers = record {
       cells = l.cells;
@@ -30,10 +30,11 @@ invariant-loop-log l = let W₀ : Buffers = record {
       records = l.records;
       counts = l.counts;
       steps = l.steps;
-      stamps = l.stamps;
-      memo = l.memo;
+      stamps = l.costs.stamps;
+      memo = l.costs.memo;
     } in
-    Kept W₀ W × Launched l.table (sizes_by l.n l.groups l.k l.common l.initial.global) l.limit (l.initial.cells ++ l.initial.global) l.initial.records (l.groups - 1 - l.g) l.g l.rows l.barriers W
+    Kept W₀ W × Launched l.kernel.table.now (sizes_by l.kernel.threads l.kernel.groups l.kernel.each l.kernel.common.now l.initial.global) l.kernel.limit
+    (l.initial.cells ++ l.initial.global) l.initial.records (l.kernel.groups - 1 - l.started.group) l.started.group l.started.rows l.started.barriers W
 
 abbrev pub decreases-loop-log : goal.decreases-loop-log
-decreases-loop-log l = l.groups - l.g
+decreases-loop-log l = l.kernel.groups - l.started.group

@@ -13,27 +13,11 @@ use Rattle.launchrun.proofs.run_launch.Goals as goal
 use Rattle.launchrun.proofs.run_launch.Goals.{Start}
 
 -- A group's own cells are not too many, nor are the global ones.
-few : (c : Start) → c.args.k ≤ 1024
-few c = own_few c.args.groups c.args.k (length c.args.global.now) c.requires.some_groups c.requires.total_few
+few : (c : Start) → c.args.kernel.now.each ≤ 1024
+few c = own_few c.args.kernel.now.groups c.args.kernel.now.each (length c.args.global.now) c.requires.some_groups c.requires.total_few
 
 few_global : (c : Start) → length c.args.global.now ≤ 1024
 few_global c = omega (arith, c.requires.total_few)
-
-pub overflow_mul-own : goal.overflow_mul-own
-overflow_mul-own c = omega (arith, few (goal.at.overflow_mul-own c).Start)
-
-pub slice_bounds-own-end : goal.slice_bounds-own-end
-slice_bounds-own-end c = omega (arith, few (goal.at.slice_bounds-own-end c).Start)
-
-pub slice_bounds-run_groups-end : goal.slice_bounds-run_groups-end
-slice_bounds-run_groups-end c = zeros_long (5 * c.args.k) 5120 (omega (arith, few (goal.at.slice_bounds-run_groups-end c).Start))
-
-pub slice_bounds-run_groups-end-2 : goal.slice_bounds-run_groups-end-2
-slice_bounds-run_groups-end-2 c = zeros_long (5 * length c.args.global.now) 5120 (omega (arith, few_global (goal.at.slice_bounds-run_groups-end-2 c).Start))
-
-pub slice_bounds-run_groups-end-3 : goal.slice_bounds-run_groups-end-3
-slice_bounds-run_groups-end-3 c =
-    zeros_long (3 * length c.args.global.now) 3074 (omega (arith, few_global (goal.at.slice_bounds-run_groups-end-3 c).Start))
 
 pub run_groups-requires : goal.run_groups-requires
 run_groups-requires c =
@@ -58,7 +42,7 @@ run_groups-requires c =
       },
       record {
         log_empty = zero.ensures ∙ ap (λ i. replicate i 0) (sym zero.auto.to);
-        own_sized = sym (zeros_long (5 * args.k) 5120 (omega (arith, few (goal.at.run_groups-requires c).Start)));
+        own_sized = sym (zeros_long (5 * args.kernel.now.each) 5120 (omega (arith, few (goal.at.run_groups-requires c).Start)));
         shared_sized = sym (zeros_long (5 * m) 5120 (omega (arith, few_global (goal.at.run_groups-requires c).Start)));
         masks_sized = sym (zeros_long (3 * m) 3074 (omega (arith, few_global (goal.at.run_groups-requires c).Start)));
         masks_empty = zeros_front (3 * m) 3074;
@@ -69,17 +53,14 @@ run_groups-requires c =
       },
     )
 
-pub shape_of-log : goal.shape_of-log
-shape_of-log c = c.run_groups.auto.log ∙ c.zero.auto.to
-
 pub returns : goal.returns
 returns c =
     let run = c.run_groups in
     let launch = c.launch in
     let args = c.args in
-    let Z = sizes_by args.n args.groups args.k args.common.now args.global.now in
-    run_is args.table.now Z args.limit args.cells.now args.global.now args.records.now run.result
+    let Z = sizes_by args.kernel.now.threads args.kernel.now.groups args.kernel.now.each args.kernel.now.common.now args.global.now in
+    run_is args.kernel.now.table.now Z args.kernel.now.limit args.cells.now args.global.now args.records.now run.result
     c.run_groups.new.cells c.run_groups.new.global c.run_groups.new.log c.run_groups.new.records c.run_groups.new.steps (run.auto.cells ∙ c.requires.cells_are)
-    (lent_is args.table.now Z args.limit (args.cells.now ++ args.global.now)
+    (lent_is args.kernel.now.table.now Z args.kernel.now.limit (args.cells.now ++ args.global.now)
     args.records.now launch.new.records run.result c.run_groups.new.cells c.run_groups.new.global c.run_groups.new.log c.run_groups.new.records c.run_groups.new.steps
     launch.ensures run.ensures)

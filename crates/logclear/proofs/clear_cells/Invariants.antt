@@ -1,11 +1,7 @@
 -- `logclear::clear_cells` meets its contract: the invariant is the promise after i turns. Assumes nothing.
 use mathlib.Core.Path.{◌≡◌}
-use Prim.Native.Nat.{◌-◌, ◌≤◌}
 use Rattle.spec.specs.Log.{cells_cleared}
 use Rattle.logclear.proofs.clear_cells.Given as goal
 
 abbrev pub invariant-loop-i : goal.invariant-loop-i
-invariant-loop-i l = (l.i ≤ l.turns) × (l.log ≡ cells_cleared l.cells l.i l.initial.log)
-
-abbrev pub decreases-loop-i : goal.decreases-loop-i
-decreases-loop-i l = l.turns - l.i
+invariant-loop-i l = l.log ≡ cells_cleared l.cells l.i l.initial.log

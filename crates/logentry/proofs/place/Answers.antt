@@ -1,19 +1,16 @@
 -- `logentry::place` meets its contract. Assumes nothing.
 use native.Mathlib.Omega.{arith}
-use Rattle.layout.proofs.LogTests.{offset_few, place_by}
+use Rattle.layout.specs.Logging.{mode_of, rank, place_of}
 use Rattle.logentry.proofs.place.Goals as goal
 
-pub overflow_mul-result : goal.overflow_mul-result
-overflow_mul-result c =
-    let args = c.args in
-    let few = offset_few args.op args.cells args.i c.requires.0 c.requires.1 c.requires.2 in
-    omega arith
+pub returns-in-Load : goal.returns-in-Load
+unfolding place_of rank mode_of
+returns-in-Load c = rw c.in-Load.is (omega arith)
 
-pub overflow_add-result : goal.overflow_add-result
-overflow_add-result c =
-    let args = c.args in
-    let few = offset_few args.op args.cells args.i c.requires.0 c.requires.1 c.requires.2 in
-    omega (arith, c.requires.3)
+pub returns-in-Store : goal.returns-in-Store
+unfolding place_of rank mode_of
+returns-in-Store c = rw c.in-Store.is (omega arith)
 
-pub returns : goal.returns
-returns c = place_by _ _ _ c.requires.0 c.requires.1
+pub returns-in-Add : goal.returns-in-Add
+unfolding place_of rank mode_of
+returns-in-Add c = rw c.in-Add.is (omega arith)

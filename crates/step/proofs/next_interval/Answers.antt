@@ -1,15 +1,11 @@
 -- `step::next_interval` meets its contract. Assumes nothing.
 use mathlib.Core.Path.{refl, sym, ap, ◌∙◌}
 use mathlib.Core.Bool.{cond}
-use native.Mathlib.Omega.{arith}
 use borrow.Author.Tests.{lt-ltb, le-ltb}
 use lib.ListN.{length, replicate}
 use Rattle.intervals.specs.Records.{records_after}
 use Rattle.intervals.proofs.Ledger.{charged_none}
 use Rattle.step.proofs.next_interval.Goals as goal
-
-pub overflow_add-s : goal.overflow_add-s
-overflow_add-s c = let pre = c.requires in omega (arith, pre.0.barriers_few, pre.0.rows_few, pre.1)
 
 pub returns-then-s-z : goal.returns-then-s-z
 unfolding records_after

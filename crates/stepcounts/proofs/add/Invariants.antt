@@ -1,10 +1,6 @@
 -- `stepcounts::add` meets its contract: each turn adds to one count. Assumes nothing.
-use Prim.Native.Nat.{◌-◌}
 use Rattle.stepcounts.proofs.Adding.{Adding}
 use Rattle.stepcounts.proofs.add.Given as goal
 
 abbrev pub invariant-loop-t : goal.invariant-loop-t
 invariant-loop-t l = Adding l.mask l.k l.initial.counts l.counts l.t
-
-abbrev pub decreases-loop-t : goal.decreases-loop-t
-decreases-loop-t l = 32 - l.t

@@ -1,2 +1,0 @@
--- A launch that is run on buffers of its own. Assumes nothing.
-pub mod Answers

@@ -1,2 +1,0 @@
--- Laws of tables of byte strings. Assumes nothing.
-pub mod Strings
