@@ -28,7 +28,8 @@ size_lines_lem : {lines old ns : List ℕ} {r : Result (Unit {0}) Refusal} → N
 unfolding lines_from all_lines size_lines length_lines
 size_lines_lem S = S.answer
 
-length_lines_lem : {lines old ns : List ℕ} {r : Result (Unit {0}) Refusal} → NumbersRead (lines_from 4 2) 6 lines old ns r → numbers length_lines 6 lines ≡ answered r ns 8 (lines_behind 2 lines)
+length_lines_lem : {lines old ns : List ℕ} {r : Result (Unit {0}) Refusal} → NumbersRead (lines_from 4 2) 6 lines old ns r
+    → numbers length_lines 6 lines ≡ answered r ns 8 (lines_behind 2 lines)
 unfolding lines_from all_lines size_lines length_lines
 length_lines_lem L = L.answer
 

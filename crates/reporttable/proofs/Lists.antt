@@ -29,7 +29,8 @@ unfolding bytes_of
 bytes_more [] i d h = absurd (omega arith)
 bytes_more (l ∷ ls) zero d h = append-nil (line_bytes l)
 bytes_more (l ∷ ls) (suc i) d h =
-    ap (λ (n : ℕ). bytes_of (take n (l ∷ ls))) (add-one (suc i)) ∙ ap (λ (b : List ℕ). line_bytes l ++ b) (ap (λ (n : ℕ). bytes_of (take n ls)) (sym (add-one i)) ∙ bytes_more ls i d (omega arith))
+    ap (λ (n : ℕ). bytes_of (take n (l ∷ ls))) (add-one (suc i))
+    ∙ ap (λ (b : List ℕ). line_bytes l ++ b) (ap (λ (n : ℕ). bytes_of (take n ls)) (sym (add-one i)) ∙ bytes_more ls i d (omega arith))
     ∙ sym (append_assoc (line_bytes l) (bytes_of (take i ls)) (line_bytes (get_or ls i d)))
 
 pub size_more : (ls : List report.Line) (i : ℕ) (d : report.Line) → i < length ls
