@@ -7,7 +7,7 @@ ghost use Rattle.spec.specs.declared.Outcome.{Outcome};
 ghost use Rattle.spec.specs.Report.{Line as Reported, bytes_of, each_line, head_lines, interval_lines, end_line, refusal_lines};
 ghost use Rattle.reportlines.specs.Lines.{told};
 ghost use Rattle.reportlines.specs.Places.{over_from};
-ghost use Rattle.reporttable.specs.Values.{run_values};
+ghost use Rattle.reporttable.specs.Values.{run_values, table_lines};
 ghost use Rattle.reporttable.specs.Items.{HasShortKey, Gives, KeysWithin, HasRoom};
 
 use reportlines::Line;
@@ -19,6 +19,7 @@ pub const VALUES: usize = 11;
 // The lines before the steps.
 #[tactic(auto, unfolding(crate::proofs::Opened::opened))]
 pub fn head_lines(values: [Value; VALUES]) -> [Line<'static>; 9]
+    ensures each { map told result ≡ table_lines values 0 9 }
     ensures lines { (o : Outcome) → values ≡ run_values o → map told result ≡ head_lines o }
     ensures short { All HasShortKey result }
 {
@@ -50,6 +51,7 @@ pub fn head_lines(values: [Value; VALUES]) -> [Line<'static>; 9]
 // The lines behind the steps.
 #[tactic(auto, unfolding(crate::proofs::Opened::opened))]
 pub fn interval_lines(values: [Value; VALUES]) -> [Line<'static>; 2]
+    ensures each { map told result ≡ table_lines values 9 2 }
     ensures lines { (o : Outcome) → values ≡ run_values o → map told result ≡ interval_lines o }
     ensures short { All HasShortKey result }
 {
