@@ -10,7 +10,7 @@ ghost use Rattle.layout.specs.Memory.{AccessAsks, AccessOne, AccessMade, AccessS
 // One more than the highest thread of this mask of n: a loop over threads ends there.
 pub fn reaching(mask: u32, n: u32) -> u32
     requires { (n ≤ 32) × (mask < 2 ^ n) }
-    ensures { (mask < 2 ^ result) × (result ≤ n) }
+    ensures { (mask < 2 ^ result) × (result ≤ n) × (2 ^ result ≤ 2 * mask + 1) }
 {
     32 - mask.leading_zeros()
 }

@@ -16,7 +16,11 @@ returns c =
     let n = c.args.n in
     let top = leading_length 32 mask (omega arith) in
     let m : top.0 ≡ 32 - count_leading_zeros 32 mask = omega (arith, top.1) in
-    (subst (λ (k : ℕ). mask < 2 ^ k) m top.2, subst (λ (k : ℕ). k ≤ n) m (not_past n top.0 mask c.requires.1 top.3))
+    let least : 2 ^ top.0 ≤ 2 * mask + 1 = top.3 in (
+      subst (λ (k : ℕ). mask < 2 ^ k) m top.2,
+      subst (λ (k : ℕ). k ≤ n) m (not_past n top.0 mask c.requires.1 top.3),
+      subst (λ (k : ℕ). 2 ^ k ≤ 2 * mask + 1) m least,
+    )
   where
     not_past : (n m x : ℕ) → x < 2 ^ n → 2 ^ m ≤ 2 * x + 1 → m ≤ n
     not_past n m x h g = ⊎_elim past (λ l. l) (lt_or_le n m)
