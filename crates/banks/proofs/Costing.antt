@@ -6,8 +6,8 @@ use mathlib.Core.Bool.{Bool, true, false, cond, false≢true}
 use Prim.Native.Nat.{ℕ, suc, ◌+◌, ◌-◌, ◌/◌, ◌%◌, ◌^◌, ◌<◌, ◌≤◌}
 use native.Mathlib.Omega.{arith}
 use borrow.Author.Tests.{lt-ltb, le-ltb}
-use native.Mathlib.Nat.{div-eq_of_lt, lt_of_lt_of_le}
-use lib.Pow.{shr-shr, pow_mono}
+use native.Mathlib.Nat.{div-eq_of_lt}
+use lib.Pow.{shr-shr}
 use lib.ListN.{length, get_or, replicate, get_or-replicate}
 use Rattle.spec.specs.Mask.{Mask, mask_word, members, members_from}
 use Rattle.spec.specs.Lists.{any_of, passing}
@@ -215,8 +215,8 @@ module _ (cell : ℕ → ℕ) (mask stamp t : ℕ) (stamps counts : List ℕ) (m
       by (inl e) = omega (arith, G.tracking.few, G.come)
       by (inr e) = omega (arith, G.tracking.few, G.come)
 
-  pub going_whole : 32 ≤ t → mask < 2 ^ 32 → (r : ℕ) → r ≡ most - 1 + far → RowCounted cell 32 mask stamp r stamps
-  going_whole all small r e =
+  pub going_whole : mask < 2 ^ t → (r : ℕ) → r ≡ most - 1 + far → RowCounted cell 32 mask stamp r stamps
+  going_whole small r e =
       record {
         whole = λ l E q k.
             let C = G.costings E q k in
@@ -234,7 +234,7 @@ module _ (cell : ℕ → ℕ) (mask stamp t : ℕ) (stamps counts : List ℕ) (m
       }
     where
       none : mask / 2 ^ t ≡ 0
-      none = div-eq_of_lt (lt_of_lt_of_le small (pow_mono {i = 32} {j = t} all))
+      none = div-eq_of_lt small
 
       none_far : r < 32 → (far ≡ 0) ⊎ (far ≡ 32) → far ≡ 0
       none_far l (inl f) = f

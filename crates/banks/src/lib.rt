@@ -37,9 +37,11 @@ fn count_row(numbers: &[u32], mask: u32, stamps: &mut [u32; 1024], stamp: u32) -
     let mut counts: [u32; 16] = [0; 16];
     let mut most: u32 = 0;
     let mut far: u32 = 0;
-    for (t, number) in numbers.iter().enumerate() {
+    // No thread from here on is enabled.
+    let reach = (32 - mask.leading_zeros()) as usize;
+    for t in 0..reach {
         if (mask >> t) % 2 == 1 {
-            let i = *number as usize;
+            let i = numbers[t] as usize;
             if i < 1024 {
                 most = count(stamps, &mut counts, stamp, i, most);
             } else {

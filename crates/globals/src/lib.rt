@@ -27,6 +27,7 @@ fn group_race(
 }
 
 // A thread's access, by the group of the bit `own`.
+#[inline(always)]
 fn access_one(
     regs: &mut [u32; 512],
     cells: &mut [u32],
@@ -43,7 +44,8 @@ fn access_one(
         × SameBut turn.cell (length cells.old) log.old log.new }
 {
     if !access::goes_on(regs, cells, log, turn, row) {
-        return Err(access::verdict(regs, cells, log, turn, row));
+        // Of a copy: handed on itself, the turn would be put into memory for each access that goes on too.
+        return Err(access::verdict(regs, cells, log, layout::Turn { ..turn }, row));
     }
     let i = turn.cell as usize;
     let k = cells.len();
@@ -57,6 +59,7 @@ fn access_one(
 }
 
 // The turn of a thread, the lowest of those that are left: nothing where it is not enabled.
+#[inline(always)]
 fn turn(
     regs: &mut [u32; 512],
     cells: &mut [u32],
@@ -87,7 +90,9 @@ fn turn(
 }
 
 // The accesses of the enabled threads, lowest first, up to one that does not go on.
-pub fn access_row(
+// Inlined into each arm of `access_row`, where the op is known.
+#[inline(always)]
+fn accesses(
     regs: &mut [u32; 512],
     cells: &mut [u32],
     log: &mut [u32],
@@ -119,5 +124,45 @@ pub fn access_row(
     layout::Turns {
         access: Ok(()),
         reach,
+    }
+}
+
+// With a loop for each op, so that what the op decides is decided once a row.
+pub fn access_row(
+    regs: &mut [u32; 512],
+    cells: &mut [u32],
+    log: &mut [u32],
+    masks: &mut [u32],
+    n: u32,
+    mask: u32,
+    row: layout::AccessRow,
+    group: u32,
+) -> layout::Turns
+    requires { (n ≤ 32) × (mask < 2 ^ n) × (group < 8) × GlobalAsks (number row.op) row.d row.a cells.old log.old masks.old }
+    ensures { GlobalRow (number row.op) n mask row.d row.a group regs.old cells.old log.old masks.old result
+        regs.new cells.new log.new masks.new }
+{
+    match row.op {
+        layout::AccessOp::Load => {
+            let loads = layout::AccessRow {
+                op: layout::AccessOp::Load,
+                ..row
+            };
+            accesses(regs, cells, log, masks, n, mask, loads, group)
+        }
+        layout::AccessOp::Store => {
+            let stores = layout::AccessRow {
+                op: layout::AccessOp::Store,
+                ..row
+            };
+            accesses(regs, cells, log, masks, n, mask, stores, group)
+        }
+        layout::AccessOp::Add => {
+            let adds = layout::AccessRow {
+                op: layout::AccessOp::Add,
+                ..row
+            };
+            accesses(regs, cells, log, masks, n, mask, adds, group)
+        }
     }
 }

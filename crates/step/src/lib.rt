@@ -96,11 +96,6 @@ pub fn access_row(
         × RowRecorded op kernel.now.threads group (cell_in op x.d x.a regs.old) s result records.old records.new
         costs.new.stamps costs.new.memo }
 {
-    let row = layout::AccessRow {
-        op: layout::AccessOp::of(op),
-        d: x.d,
-        a: x.a,
-    };
     let numbers = access::cell_register(op, x.d, x.a);
     let cost = banks::row_cost(
         regs,
@@ -111,6 +106,11 @@ pub fn access_row(
         s.rows + 1,
         s.row % 16,
     );
+    let row = layout::AccessRow {
+        op: layout::AccessOp::of(op),
+        d: x.d,
+        a: x.a,
+    };
     let r = memory::access_row(regs, cells, log, kernel.common, kernel.threads, s.mask, row);
     after_access(records, r, cost, group, s)
 }
@@ -175,7 +175,11 @@ pub fn barrier_row(
         × (records.new ≡ records_after group 0 s result records.old)
         × SharedAfter s result shared.old shared.new }
 {
-    let z = constructs::barrier_row(log, cells, n, s)?;
-    next_interval(records, shared, global, group, s, z);
-    Ok(z)
+    // Handed on as it is: taken apart by a `?` and put together again, two words of its state share a register in the run's loop.
+    let next = constructs::barrier_row(log, cells, n, s);
+    match next {
+        Ok(z) => next_interval(records, shared, global, group, s, z),
+        Err(_) => {}
+    }
+    next
 }

@@ -1,6 +1,9 @@
 -- `banks::count_row` counts the cells of the enabled threads, one after the other. Assumes nothing.
 use Prim.Native.Nat.{◌<◌}
 use native.Mathlib.Omega.{arith}
+use native.Mathlib.Nat.{lt_of_lt_of_le}
+use lib.Pow.{pow_mono}
+use Rattle.std.proofs.lemmas.Nat.{leading_length}
 use Rattle.banks.proofs.Costing.{tracking_fit, going_start, going_in, going_far, going_out, going_small, going_whole}
 use Rattle.banks.proofs.count_row.Goals as goal
 use Rattle.banks.proofs.count_row.Goals.{then-mask-t-eq1+then-i-lt1024, then-mask-t-eq1+else-i-lt1024, else-mask-t-eq1}
@@ -29,4 +32,7 @@ pub overflow_add-result : goal.overflow_add-result
 overflow_add-result c = omega (arith, going_small _ _ _ _ _ _ _ _ c.loop-t.invariant, c.saturating_sub.ensures)
 
 pub returns : goal.returns
-returns c = going_whole _ _ _ _ _ _ _ _ c.loop-t.invariant (omega arith) (omega arith) _ (omega (arith, c.saturating_sub.ensures))
+returns c =
+    let top = leading_length 32 c.args.mask (omega arith) in
+    let none_left = lt_of_lt_of_le top.2 (pow_mono {i = top.0} {j = c.loop-t.t} (omega (arith, top.1, c.loop-t-test.false))) in
+    going_whole _ _ _ _ _ _ _ _ c.loop-t.invariant none_left _ (omega (arith, c.saturating_sub.ensures))

@@ -1,4 +1,4 @@
--- `globals::access_row` does the turns of the enabled threads, one after the other. Assumes nothing.
+-- `globals::accesses` does the turns of the enabled threads, one after the other. Assumes nothing.
 use mathlib.Core.Path.{◌≡◌}
 use Prim.Native.Nat.{◌-◌, ◌^◌, ◌<◌}
 use lib.ListN.{length}
@@ -6,7 +6,7 @@ use Rattle.layout.specs.Ops.{number}
 use Rattle.layout.specs.Memory.{KeptBut}
 use Rattle.layout.specs.Logging.{SameAbove}
 use Rattle.globals.proofs.GlobalRows.{Turns}
-use Rattle.globals.proofs.access_row.Given as goal
+use Rattle.globals.proofs.accesses.Given as goal
 
 -- `left` is what is left of the mask when the lower threads are gone.
 abbrev pub invariant-loop-thread : goal.invariant-loop-thread

@@ -1,4 +1,4 @@
--- `globals::access_row` does the turns of the enabled threads, one after the other. Assumes nothing.
+-- `globals::accesses` does the turns of the enabled threads, one after the other. Assumes nothing.
 use mathlib.Core.Path.{◌≡◌, refl, ap, ◌∙◌, subst}
 use Prim.Native.Nat.{ℕ, ◌-◌, ◌^◌, ◌<◌}
 use native.Mathlib.Omega.{arith}
@@ -8,7 +8,7 @@ use Rattle.layout.proofs.Reach.{same_more}
 use Rattle.masks.proofs.Bits.{one_bit, next_bit, left_half}
 use Rattle.access.proofs.Accesses.{asks_still, keeps_on}
 use Rattle.globals.proofs.GlobalRows.{turns_start, turns_whole, turns_on, turns_stop}
-use Rattle.globals.proofs.access_row.Goals as goal
+use Rattle.globals.proofs.accesses.Goals as goal
 
 pub loop-thread-init : goal.loop-thread-init
 loop-thread-init c =
