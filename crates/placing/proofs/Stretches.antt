@@ -1,10 +1,11 @@
--- A stretch put into lists that are joined. Assumes nothing.
+-- A stretch put into lists that are joined, or word by word. Assumes nothing.
 use mathlib.Core.Path.{◌≡◌, sym, ◌∙◌, ap, ap₂}
 use mathlib.Core.List.{List, ◌++◌, append_assoc}
-use Prim.Native.Nat.{ℕ, ◌+◌, ◌-◌, ◌≤◌}
+use Prim.Native.Nat.{ℕ, ◌+◌, ◌-◌, ◌≤◌, ◌<◌}
+use native.Mathlib.Numerals.{add-one}
 use native.Mathlib.Omega.{arith}
-use lib.ListN.{length, take, drop, replicate, length-append, length-replicate, replicate-append-replicate}
-use lib.Seq.{take-append-le, drop-append-le, take-append-add, drop-append-add, drop_at}
+use lib.ListN.{length, get_or, set, take, drop, replicate, length-append, length-replicate, replicate-append-replicate}
+use lib.Seq.{take-append-le, drop-append-le, take-append-add, drop-append-add, drop_at, paste, paste-suc}
 use Rattle.layout.specs.Views.{put_part}
 
 module _ {A : Type 0} where
@@ -28,6 +29,10 @@ module _ {A : Type 0} where
   pub put_front : (ys xs zs : List A) → length ys ≡ length xs → put_part 0 ys (xs ++ zs) ≡ ys ++ zs
   unfolding put_part
   put_front ys xs zs e = ap (λ r. ys ++ r) (drop_at xs zs (0 + length ys) (omega arith))
+
+-- One word more of ys.
+pub put_more : (xs ys l : List ℕ) (at k : ℕ) → l ≡ paste xs at ys k → at + k < length xs → k < length ys → set l (at + k) (get_or ys k 0) ≡ paste xs at ys (k + 1)
+put_more xs ys l at k e h m = rw e (paste-suc xs at ys k 0 h m) ∙ ap (paste xs at ys) (sym (add-one k))
 
 -- Counts put behind others, in a buffer of n words that is 0 from there on.
 pub counts_put : (n : ℕ) (us vs steps : List ℕ) → steps ≡ us ++ replicate (n - length us) 0 → length us + length vs ≤ n

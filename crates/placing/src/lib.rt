@@ -13,13 +13,17 @@ pub fn place_first(words: &[u32], n: usize, at: usize, to: &mut [u32])
     place(&words[..n], at, to);
 }
 
-// All of them.
-#[tactic(auto, unfolding(layout::specs::Views::put_part))]
+// All of them. Not inlined: within the run's function the loops change how the compiler lays out those over rows.
+#[inline(never)]
+#[tactic(auto, unfolding(layout::specs::Views::put_part), using(crate::proofs::Stretches::put_more))]
 pub fn place(words: &[u32], at: usize, to: &mut [u32])
     requires { at + length words.now ≤ length to.old }
     ensures { to.new ≡ put_part at words.now to.old }
 {
-    to[at..at + words.len()].copy_from_slice(words);
+    // No copy_from_slice: the archive for C would need memmove from outside.
+    for (k, word) in words.iter().enumerate() {
+        to[at + k] = *word;
+    }
 }
 
 // The k words of kind j.

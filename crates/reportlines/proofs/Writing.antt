@@ -1,11 +1,13 @@
 -- Writing from the start of the part of a buffer that begins where the last writing ended. Assumes nothing.
 use mathlib.Core.Path.{◌≡◌, refl, sym, ap, ap₂, ◌∙◌}
 use mathlib.Core.List.{List, [], ◌++◌, append_assoc, append-nil}
-use Prim.Native.Nat.{ℕ, ◌+◌, ◌-◌, ◌≤◌}
+use Prim.Native.Nat.{ℕ, ◌+◌, ◌-◌, ◌≤◌, ◌<◌}
+use native.Mathlib.Numerals.{add-one}
 use native.Mathlib.Omega.{arith}
-use lib.ListN.{length, take, drop, length-append, length-drop, drop_of_length-le, take-append-drop}
-use lib.Seq.{take_all, take_at, drop_at, drop-drop, length-take-le}
+use lib.ListN.{length, get_or, set, take, drop, length-append, length-drop, drop_of_length-le, take-append-drop}
+use lib.Seq.{take_all, take_at, drop_at, drop-drop, length-take-le, paste, paste-suc}
 use borrow.Rule.Slice.PartMut.{mid_of, put_mid}
+use Rattle.std.proofs.lemmas.List.Edits.{paste_all}
 use Rattle.spec.specs.Entries.{over}
 use Rattle.reportlines.specs.Places.{over_from}
 
@@ -94,3 +96,12 @@ unfolding over_from
 put_part xs w ys at e h =
     let size : at + length w - at ≡ length w = omega arith in
     rw (e, size, drop-drop (length w) at xs) (joined (take at xs) w xs at (sym (length-take-le at xs (omega arith))))
+
+-- One byte more of w copied, and all of them.
+pub copy_more : (xs w l : List ℕ) (k : ℕ) → l ≡ paste xs 0 w k → k < length xs → k < length w → set l k (get_or w k 0) ≡ paste xs 0 w (k + 1)
+copy_more xs w l k e h m =
+    let here : 0 + k ≡ k = omega arith in
+    rw e (ap (λ (i : ℕ). set (paste xs 0 w k) i (get_or w k 0)) (sym here) ∙ paste-suc xs 0 w k 0 (omega arith) m ∙ ap (paste xs 0 w) (sym (add-one k)))
+
+pub copy_all : (xs w : List ℕ) (n : ℕ) → n ≡ length w → length xs ≡ length w → paste xs 0 w n ≡ w
+copy_all xs w n e h = paste_all xs 0 w n e ∙ ap (λ (r : List ℕ). w ++ r) (drop_of_length-le xs {i = 0 + n} (omega arith)) ∙ append-nil w
