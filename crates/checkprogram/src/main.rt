@@ -5,6 +5,8 @@ use std::io;
 use std::io::Input;
 
 // One byte over the limit is enough to know that a file is too long.
+// Not inlined: the usage needs none of these buffers.
+#[inline(never)]
 fn report_input(rt: &(impl Input + Print)) -> io::Result<()> {
     let mut input = [0u8; 32769];
     let mut output = [0u8; 24576];

@@ -31,7 +31,8 @@ fn fault(line: usize) -> Refusal
     Refusal::CommonFile(line as u32)
 }
 
-// The common cells that a file gives, or the first refusal of its lines.
+// The common cells that a file gives, or the first refusal of its lines. Not inlined: what it copies would take stack below both runs.
+#[inline(never)]
 pub fn read_common(file: &[u8]) -> Result<CommonFile, Refusal>
     ensures { CommonRead file.now result }
 {

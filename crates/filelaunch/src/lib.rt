@@ -49,7 +49,11 @@ impl Found {
 pub fn file_launch(file: &[u8]) -> Result<Found, Refusal>
     ensures { FoundIs file.now result }
 {
-    let launch = launchfile::read_launch(file)?;
-    let ends = reader::read_table(launch.table_bytes())?;
-    Ok(Found { launch, ends })
+    // Built around the launch, whose bytes are then copied once less.
+    let mut found = Found {
+        launch: launchfile::read_launch(file)?,
+        ends: [0; 256],
+    };
+    found.ends = reader::read_table(found.launch.table_bytes())?;
+    Ok(found)
 }

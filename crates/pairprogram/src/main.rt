@@ -7,6 +7,8 @@ use std::io;
 
 // Of a kernel's file one byte over its limit is enough to know that it is too long, and 4,119 bytes of a common file decide every report. A file that can't
 // be opened counts as empty.
+// Not inlined: the usage needs none of these buffers.
+#[inline(never)]
 fn report_files(rt: &(impl Env + Files + Print)) -> io::Result<()> {
     let mut filter = [0u8; 32769];
     let mut trigger = [0u8; 32769];
